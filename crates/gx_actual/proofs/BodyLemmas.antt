@@ -14,8 +14,8 @@ use Rattle.gx_values.specs.declared.values.Value.{Value}
 use Rattle.gx_values.specs.declared.values.Value.TheVariants as value
 use Rattle.gx_values.specs.Values.{Fits, AreFit, is_printable}
 use Rattle.gx_values.specs.Written.{IsAtFront}
-use Rattle.gx_values.proofs.IntLemmas.{first_bytes}
 use Rattle.gx_actual.specs.Bodies.{field_bytes, IsShort, AreShort, HasLength}
+use Rattle.gx_order.proofs.OrderLemmas.{first_bytes}
 
 -- ---- lengths
 

@@ -9,10 +9,13 @@ use Rattle.std.specs.declared.cmp.Ordering.TheVariants.{Less}
 use Rattle.std.specs.FinMap as fin
 use Rattle.std.proofs.Math.Nat.{mul-le-mul_right}
 use Rattle.std.proofs.lemmas.Bool.{true≢false, false_from_ne_true}
+use Rattle.std.proofs.lemmas.Option.{same_Some}
+use Rattle.gx_laws.proofs.BoolLemmas.{first_of_both, second_of_both}
 use Rattle.gx_values.specs.declared.values.Op.{Op}
 use Rattle.gx_values.specs.declared.values.Op.TheVariants as op
 use Rattle.gx_values.specs.declared.values.Value.{Value}
 use Rattle.gx_values.specs.Values.{value_cmp, Fits, is_met}
+use Rattle.gx_values.proofs.OrderLemmas.{same_value, value_itself, other_value, value_cases}
 use Rattle.gx_schema.specs.declared.schema.FileDef.{FileDef}
 use Rattle.gx_schema.specs.declared.schema.Schema.{Schema}
 use Rattle.gx_schema.specs.Lookups.{file_at, link_at, field_at, key_kind}
@@ -23,10 +26,11 @@ use Rattle.gx_commands.specs.declared.command.Find.{Find}
 use Rattle.gx_commands.specs.declared.command.Command.TheVariants as command
 use Rattle.gx_commands.specs.Commands.{IsCondOf}
 use Rattle.gx_ports.specs.LeafMaps.{LeafMap}
-use Rattle.gx_ports.proofs.KeyedLemmas.{first_of_both, second_of_both}
 use Rattle.gx_mapping.specs.Rule.{In}
+use Rattle.gx_mapping.proofs.RuleLemmas.{all_in}
 use Rattle.gx_stack.specs.Tree.{Tree, entries_of}
-use Rattle.gx_gather.proofs.Lists.{all_at, some_same, none_some}
+use Rattle.gx_gather.proofs.Lists.{none_some}
+use Rattle.gx_gather.proofs.Entries.{below_in}
 use Rattle.gx_types.specs.declared.any.AnyMapping.{AnyMapping}
 use Rattle.gx_types.specs.declared.built.Built.{Built}
 use Rattle.gx_types.specs.Any.{any_rule}
@@ -42,7 +46,6 @@ use Rattle.gx_scan.specs.Files.{rec_of}
 use Rattle.gx_scan.specs.Records.{list_of_one}
 use Rattle.gx_scan.specs.Within.{row_of}
 use Rattle.gx_scan.specs.Steps.{HaveAtMost}
-use Rattle.gx_scan.proofs.FileLemmas.{below_in, same_value, value_itself, value_cases, other_value}
 use Rattle.gx_scan.proofs.ListingLemmas.{same_filter, fewer_pass, filter_twice}
 use Rattle.gx_pairs.specs.declared.stored.StoredLink.{StoredLink}
 use Rattle.gx_pairs.specs.Stored.{node_tree, OwnersHaveAtMost}
@@ -132,7 +135,7 @@ pub gives_key : (q : Find) (indexed : List Bool) (number : ℕ) (c : Cond)
 gives_key q indexed number c has there =
     let on = on_key q indexed 1 number c has there (inl refl) in
     let rank : rank_of indexed c ≡ 1 =
-    some_same (rank_of indexed c) 1 (sym (ap (option_map (rank_of indexed)) there) ∙ has) in
+    same_Some (rank_of indexed c) 1 (sym (ap (option_map (rank_of indexed)) there) ∙ has) in
     let by : rank_by 1 4 c.op ≡ 1 =
     subst (λ (n : ℕ). cond (n == 0) (rank_by 1 4 c.op)
     (cond (is_indexed indexed n) (rank_by 3 5 c.op) 6) ≡ 1)
@@ -144,7 +147,7 @@ pub key_bound_fits : (file : FileDef) (conds : List Cond) (c : Cond)
     → In c conds → c.field ≡ 0 → Fits (key_kind file) c.bound
 key_bound_fits file conds c fit there key =
     subst (λ (n : ℕ). Fits (field_at file n).kind c.bound) key
-    (all_at (IsCondOf file) conds c fit there).fits
+    (all_in (IsCondOf file) conds c fit there).fits
 
 key_met : (c : Cond) (r : Row) → GivesKey c → meets_cond r c ≡ true → r.0 ≡ c.bound
 key_met c r gives met =
@@ -215,7 +218,7 @@ by_link_steps members link owner q plan most leaves before after is steps =
     most leaves) (sym is) steps
 
 pub key_is : (plan : Plan) (n : ℕ) → key_number plan ≡ Some n → plan ≡ Key n
-key_is (Key m) n e = ap Key (some_same m n e)
+key_is (Key m) n e = ap Key (same_Some m n e)
 key_is ByLink n e = absurd (none_some n e)
 key_is (Index m) n e = absurd (none_some n e)
 key_is (KeyRange m) n e = absurd (none_some n e)

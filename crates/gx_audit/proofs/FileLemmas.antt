@@ -1,12 +1,13 @@
 -- The file that records of its form make.
 use Rattle.std.proofs.Common.{◌≡◌, ◌<◌, List, [], ◌∷◌, length, map, get_or, Some, None, inl, inr, refl, sym, ap, subst, ◌∙◌}
-use Rattle.std.specs.Prelude.{T, ◌&&◌, true, false, Bool, pos}
+use Rattle.std.specs.Prelude.{T, pos}
 use Rattle.std.specs.List.{AllByRecursion}
 use Rattle.std.specs.Ordering.{is_lt}
-use Rattle.std.specs.declared.cmp.Ordering.{Ordering}
 use Rattle.std.specs.declared.cmp.Ordering.TheVariants.{Less}
 use Rattle.std.specs.FinMap as fin
 use Rattle.std.specs.FinMap.Entries.{below_all}
+use Rattle.gx_laws.proofs.BoolLemmas.{both_true}
+use Rattle.gx_laws.proofs.OrderingLemmas.{less_is}
 use Rattle.gx_values.specs.declared.values.Value.{Value}
 use Rattle.gx_values.specs.declared.values.Value.TheVariants as value
 use Rattle.gx_values.specs.declared.records.Rec.{Rec}
@@ -33,13 +34,6 @@ use Rattle.gx_audit.specs.Audits.{AreKeys}
 
 abbrev none : Value
 none = value.Int (pos 0)
-
-both_true : (a b : Bool) → T a → T b → T (a && b)
-both_true true b p q = q
-both_true false b p q = p
-
-less_is : (r : Ordering) → r ≡ Less → T (is_lt r)
-less_is r e = subst (λ x. T (is_lt x)) (sym e) tt
 
 -- the key of a record, as a row has it
 abbrev pub key_at : Rec → Value

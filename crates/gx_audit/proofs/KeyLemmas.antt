@@ -1,13 +1,13 @@
 -- The keys of a file.
-use Rattle.std.proofs.Common.{◌≡◌, ◌<◌, List, [], ◌∷◌, length, map, true, refl, sym, ap, subst, ◌∙◌}
-use Rattle.std.specs.Prelude.{T, ◌&&◌, Bool, false, is_some, IsTrue}
+use Rattle.std.proofs.Common.{◌≡◌, ◌<◌, List, [], ◌∷◌, length, map, sym, ap, subst, ◌∙◌}
+use Rattle.std.specs.Prelude.{T, is_some, IsTrue}
 use Rattle.std.specs.List.{AllByRecursion}
 use Rattle.std.specs.List.Sorted.{IsStrictlySortedBy}
 use Rattle.std.specs.FinMap as fin
 use Rattle.std.specs.FinMap.Entries.{below_all}
-use Rattle.std.specs.Ordering.{is_lt}
-use Rattle.std.specs.declared.cmp.Ordering.{Ordering}
-use Rattle.std.specs.declared.cmp.Ordering.TheVariants.{Less, Equal, Greater}
+use Rattle.std.specs.declared.cmp.Ordering.TheVariants.{Less}
+use Rattle.gx_laws.proofs.BoolLemmas.{first_of_both, second_of_both}
+use Rattle.gx_laws.proofs.OrderingLemmas.{is_less}
 use Rattle.gx_values.specs.declared.values.Value.{Value}
 use Rattle.gx_values.specs.declared.records.Rec.{Rec}
 use Rattle.gx_values.specs.Values.{value_cmp}
@@ -17,6 +17,7 @@ use Rattle.gx_ports.specs.LeafMaps.{LeafMap}
 use Rattle.gx_mapping.specs.Rule.{In}
 use Rattle.gx_gather.proofs.Lists.{in_map, from_map}
 use Rattle.gx_gather.proofs.Orders.{Ascends, sorted, ascends_unique}
+use Rattle.gx_gather.proofs.Entries.{find_in, in_find}
 use Rattle.gx_stack.specs.Tree.{Tree, tree_form, IsValid}
 use Rattle.gx_stack.specs.Internal.{IsSet}
 use Rattle.gx_stack.proofs.Told.{internal_told}
@@ -25,7 +26,7 @@ use Rattle.gx_types.specs.Any.{any_rule, any_laws}
 use Rattle.gx_typing.specs.Dues.{file_form}
 use Rattle.gx_model.specs.States.{File, Row}
 use Rattle.gx_scan.specs.Files.{rec_of, records_of, IsInternal}
-use Rattle.gx_scan.proofs.FileLemmas.{find_in, in_find, one_key, set_of}
+use Rattle.gx_scan.proofs.FileLemmas.{one_key, set_of}
 use Rattle.gx_states.proofs.LinkLemmas.{some_there}
 use Rattle.gx_audit.specs.Audits.{keys_of}
 
@@ -44,19 +45,6 @@ in_keys f k h =
     let found = some_there (fin.get f k) h in
     in_map (λ (row : Row). row.0) (k, found.0) (fin.entries f)
     (find_in value_cmp_same k found.0 (fin.entries f) (sym (fin.get-entries f k) ∙ found.1))
-
-first_of_both : (a b : Bool) → T (a && b) → T a
-first_of_both true b p = tt
-first_of_both false b p = absurd p
-
-second_of_both : (a b : Bool) → T (a && b) → T b
-second_of_both true b p = p
-second_of_both false b p = absurd p
-
-is_less : (r : Ordering) → T (is_lt r) → r ≡ Less
-is_less Less e = refl
-is_less Equal e = absurd e
-is_less Greater e = absurd e
 
 keys_ascend : (rows : List Row) → T (fin.is_sorted value_cmp rows) → Ascends value_cmp (map (λ (row : Row). row.0) rows)
 keys_ascend [] h = tt

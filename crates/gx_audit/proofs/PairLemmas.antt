@@ -11,7 +11,8 @@ use Rattle.gx_schema.specs.declared.schema.Schema.{Schema}
 use Rattle.gx_schema.specs.Lookups.{file_at, link_at}
 use Rattle.gx_ports.specs.LeafMaps.{LeafMap}
 use Rattle.gx_mapping.specs.Rule.{In}
-use Rattle.gx_gather.proofs.Lists.{all_at, all_of}
+use Rattle.gx_mapping.proofs.RuleLemmas.{all_in}
+use Rattle.gx_gather.proofs.Lists.{all_of}
 use Rattle.gx_types.specs.declared.built.Built.{Built}
 use Rattle.gx_links.specs.Links.{IsLink}
 use Rattle.gx_links.specs.Pairs.{ArePairs}
@@ -99,9 +100,9 @@ module _ (schema : Schema) (built : Built) (leaves : ℕ) (for : AreFor schema b
       (subst (IsStrictlySortedBy value_cmp) (sym owners_are) (keys_sorted owner_file)) (λ p h.
       let there_in = subst (In p) entries h in (
         subst (In p.0) (sym members_are)
-            (in_keys member_file p.0 (all_at (λ (q : Value × Value). IsTrue (is_some (fin.get member_file q.0)))
+            (in_keys member_file p.0 (all_in (λ (q : Value × Value). IsTrue (is_some (fin.get member_file q.0)))
             (fin.entries link) p is.valid.members there_in)),
         subst (In p.1) (sym owners_are)
-            (in_keys owner_file p.1 (all_at (λ (q : Value × Value). IsTrue (is_some (fin.get owner_file q.1)))
+            (in_keys owner_file p.1 (all_in (λ (q : Value × Value). IsTrue (is_some (fin.get owner_file q.1)))
             (fin.entries link) p is.valid.owners there_in)),
       ))

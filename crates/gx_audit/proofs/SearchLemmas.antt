@@ -8,7 +8,8 @@ use Rattle.gx_values.specs.declared.values.Value.{Value}
 use Rattle.gx_values.specs.Values.{value_cmp}
 use Rattle.gx_values.proofs.OrderLemmas.{value_cmp_total, value_cmp_same}
 use Rattle.gx_mapping.specs.Rule.{In}
-use Rattle.gx_gather.proofs.Lists.{in_left, in_right, in_cases, all_at}
+use Rattle.gx_mapping.proofs.RuleLemmas.{all_in}
+use Rattle.gx_gather.proofs.Lists.{in_left, in_right, in_cases}
 use Rattle.gx_gather.proofs.Orders.{Ascends, ascends, sorted, ascends_middle, not_before_itself, not_both_before}
 
 pub none_there : (keys : List Value) (key : Value) → length keys ≡ 0 → ¬ In key keys
@@ -20,11 +21,11 @@ front_before : (front back : List Value) (m x : Value) → Ascends value_cmp (fr
 front_before [] back m x up h = absurd h
 front_before (y ∷ front) back m x up (inl e) =
     subst (λ z. value_cmp z m ≡ Less) (sym e)
-    (all_at (λ z. value_cmp y z ≡ Less) (front ++ m ∷ back) m up.0 (in_right m front (m ∷ back) (inl refl)))
+    (all_in (λ z. value_cmp y z ≡ Less) (front ++ m ∷ back) m up.0 (in_right m front (m ∷ back) (inl refl)))
 front_before (y ∷ front) back m x up (inr h) = front_before front back m x up.1 h
 
 back_after : (front back : List Value) (m x : Value) → Ascends value_cmp (front ++ m ∷ back) → In x back → value_cmp m x ≡ Less
-back_after [] back m x up h = all_at (λ z. value_cmp m z ≡ Less) back x up.0 h
+back_after [] back m x up h = all_in (λ z. value_cmp m z ≡ Less) back x up.0 h
 back_after (y ∷ front) back m x up h = back_after front back m x up.1 h
 
 back_ascends : (front back : List Value) (m : Value) → Ascends value_cmp (front ++ m ∷ back) → Ascends value_cmp back

@@ -2,6 +2,7 @@
 use Rattle.std.proofs.Common.{◌≡◌, ◌<◌, ◌+◌, ℕ, List, [], ◌∷◌, ◌++◌, length, map, get_or, Some, None, inl, inr, refl, sym, subst, ◌∙◌, arith, length-append}
 use Rattle.std.specs.FinMap as fin
 use Rattle.std.proofs.lemmas.List.{get_or_push, get_or_append_left, get_or-map, length-map, ext_get_or}
+use Rattle.gx_laws.proofs.NumberLemmas.{nat_cases}
 use Rattle.gx_values.specs.declared.values.Value.{Value}
 use Rattle.gx_schema.specs.declared.schema.FileDef.{FileDef}
 use Rattle.gx_schema.specs.declared.schema.Schema.{Schema}
@@ -16,7 +17,6 @@ use Rattle.gx_model.specs.States.{File, Link, State}
 use Rattle.gx_scan.specs.Files.{IsInternal}
 use Rattle.gx_states.specs.Internal.{AreInternal, AreFor, HaveState}
 use Rattle.gx_states.proofs.LinkLemmas.{file_is}
-use Rattle.gx_gather.proofs.Lists.{nat_cases}
 use Rattle.gx_audit.proofs.KeyLemmas.{keys_told}
 use Rattle.gx_audit.specs.Audits.{keys_of, AreFirstFiles, AreFiles, AreAllKeys, IsLinkAt, AreFirstLinks, AreLinks, ArePairCounts, IsFound}
 

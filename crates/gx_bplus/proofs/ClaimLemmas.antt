@@ -5,9 +5,9 @@ use Rattle.std.specs.FinMap as fin
 use Rattle.gx_ports.specs.declared.pages.Place.{Place}
 use Rattle.gx_ports.specs.Files.{page_count}
 use Rattle.gx_ports.specs.LeafMaps.{LeafMap}
-use Rattle.gx_ports.specs.Sheets.{Sheets, Ground}
+use Rattle.gx_ports.specs.Sheets.{Sheets, Ground, bytes_at}
 use Rattle.gx_ports.proofs.CountLemmas.{count_listed}
-use Rattle.gx_btree.specs.Bplus.{IsBplus, IsOwned, bytes_at}
+use Rattle.gx_btree.specs.Bplus.{IsBplus, IsOwned}
 use Rattle.gx_btree.specs.Tree.{pages}
 use Rattle.gx_btree.proofs.SheetLemmas.{claimed_owned}
 use Rattle.gx_btree.proofs.PageCountLemmas.{tree_few, contains_of, map_many}

@@ -1,5 +1,5 @@
 -- The file of a tree, and a search in it.
-use Rattle.std.proofs.Common.{◌≡◌, ◌≢◌, inl, inr, ℕ, ◌+◌, ◌<◌, ◌≤◌, Bool, true, false, cond, List, [], length, Some, None, refl, sym, ap, ◌∙◌, subst, arith}
+use Rattle.std.proofs.Common.{◌≡◌, ◌≢◌, inl, inr, ℕ, ◌+◌, ◌<◌, ◌≤◌, cond, List, [], length, Some, None, refl, sym, ap, ◌∙◌, subst, arith}
 use Rattle.std.specs.Prelude.{IsTrue, slice_get, Result, Err, IsErrOf, OnOk, Ok}
 use Rattle.std.specs.FinMap.{get, remove, empty, get-remove, get-empty}
 use Rattle.std.specs.Ordering.{nat_cmp, eq_by_cmp}
@@ -13,19 +13,19 @@ use Rattle.gx_ports.specs.Files.{IsPlace, IsVacant, ClaimsRoots, Holds, IsWhole,
 use Rattle.gx_ports.specs.LeafMaps.{LeafMap}
 use Rattle.gx_ports.specs.PageCalls.{ReadsPages}
 use Rattle.gx_ports.specs.Roots.{roots_of, roots_of_kind}
-use Rattle.gx_ports.specs.Sheets.{Sheets, Ground, IsPast, IsClaimed, IsHome}
-use Rattle.gx_ports.proofs.KeyLemmas.{same_key, tied}
+use Rattle.gx_ports.specs.Sheets.{Sheets, Ground, IsPast, IsClaimed, IsHome, bytes_at}
+use Rattle.gx_ports.proofs.KeyLemmas.{tied, other_key, key_cases}
+use Rattle.gx_ports.proofs.PageLemmas.{others_joined, read_pages_joined}
 use Rattle.gx_slots.specs.Entries.{Entry}
 use Rattle.gx_bnode.specs.Page.{IsInnerPage}
 use Rattle.gx_bnode.specs.Page as bnode
-use Rattle.gx_btree.specs.Bplus.{IsBplus, IsTreePage, IsOwned, IsWritten, bytes_at, ArePast}
+use Rattle.gx_btree.specs.Bplus.{IsBplus, IsTreePage, IsOwned, IsWritten, ArePast}
 use Rattle.gx_btree.specs.Hole.{IsAtHand}
 use Rattle.gx_btree.specs.Tree as trees
 use Rattle.gx_btree.specs.Tree.{In, Tree, leaf, entries, ShowsInner, ShowsEntries, child_for}
 use Rattle.gx_btree.proofs.EntryLemmas.{shows_inner}
-use Rattle.gx_btree.proofs.OrderLemmas.{same_or_not}
-use Rattle.gx_btree.proofs.CallLemmas.{ends_weaker, ends_after, pages_read_joined}
-use Rattle.gx_btree.proofs.SheetLemmas.{written_here, written_owned, claimed_owned, claimed_others, written_others, others_joined, written_owners, get_set_other}
+use Rattle.gx_btree.proofs.CallLemmas.{ends_weaker, ends_after}
+use Rattle.gx_btree.proofs.SheetLemmas.{written_here, written_owned, claimed_owned, claimed_others, written_others, written_owners, get_set_other}
 use Rattle.gx_btree.proofs.ShapeLemmas.{hand_page}
 use Rattle.gx_btree.proofs.StepLemmas.{at_root, descend}
 use Rattle.gx_btree.proofs.FileLemmas.{past_of, descent_ends}
@@ -44,12 +44,6 @@ root_page ground place sheets map b =
     hand_page ground place.owner sheets place.root place.root [] b.tree
     (root_hand ground place sheets map [] b) (past_of ground place sheets map b)
 
-pub other_key : (q key : List ℕ) → q ≢ key → eq_by_cmp (slice_cmp nat_cmp) q key ≡ false
-other_key q key d = go (eq_by_cmp (slice_cmp nat_cmp) q key) refl where
-  go : (b : Bool) → eq_by_cmp (slice_cmp nat_cmp) q key ≡ b → b ≡ false
-  go true e = absurd (d (same_key q key e))
-  go false e = refl
-
 abbrev entry : List ℕ → List ℕ → Entry
 entry key body = record { key = key; body = body }
 
@@ -59,7 +53,7 @@ removed_get : (map : LeafMap) (key : List ℕ) (es fs : List Entry)
     × (In (entry k b) es → get map k ≡ Some b)) → IsTakenFrom key es fs
     → (k b : List ℕ) → (get (remove map key) k ≡ Some b → In (entry k b) fs)
     × (In (entry k b) fs → get (remove map key) k ≡ Some b)
-removed_get map key es fs is taken k b = elim (same_or_not k key) [
+removed_get map key es fs is taken k b = elim (key_cases k key) [
   | inl e ↦
       (let none : get (remove map key) k ≡ None = get-remove nat_list_cmp_total map key k
       ∙ ap (λ c. cond c None (get map k))
@@ -237,7 +231,7 @@ module _ {S : Type 0} (g : Ghosts S) (place : Place) (key : List ℕ) (start : S
         → (IsTrue g.tells → bytes_at (g.working now) next ≡ below)
         → IsDescent g place key start b next below (steps + 1)
     descent_goes b below reads faults past inner told = record {
-      reads = pages_read_joined g d.reads reads;
+      reads = read_pages_joined g d.reads reads;
       faults = faults ∙ d.faults;
       past = subst (λ x. IsPast x next) d.reads.keeps.ground past;
       inner = inner;
@@ -252,7 +246,7 @@ module _ {S : Type 0} (g : Ghosts S) (place : Place) (key : List ℕ) (start : S
         → IsReached (g.ground b) place.owner
         (g.working b) place.root at next key holds.file.tree steps page below
     reached_of b below reads told least map holds =
-        let all = pages_read_joined g d.reads reads in
+        let all = read_pages_joined g d.reads reads in
         let there : IsReached (g.ground start) place.owner
         (g.working start) place.root at next key holds.file.tree steps page below = record {
           search = record {
@@ -276,7 +270,7 @@ module _ {S : Type 0} (g : Ghosts S) (place : Place) (key : List ℕ) (start : S
         → EndsFile g (IsTrue g.tells × HasReached (g.ground b) (g.working b) at next key page below)
         b c r → EndsFile g Whole start c r
     reached_ends b c below r reads faults told least e =
-        let all = pages_read_joined g d.reads reads in
+        let all = read_pages_joined g d.reads reads in
         ends_after g Whole _ start b c r (faults ∙ d.faults) all.keeps.ground (λ w. (
           w.1.told,
           record {
@@ -294,7 +288,7 @@ module _ {S : Type 0} (g : Ghosts S) (place : Place) (key : List ℕ) (start : S
         → HasRemoved (g.ground start) place.owner place.root key (g.working start)
         (g.working c) tree
     removed_of b c reads tree h =
-        let all = pages_read_joined g d.reads reads in
+        let all = read_pages_joined g d.reads reads in
         subst (λ x. HasRemoved x place.owner place.root key (g.working start) (g.working c) tree)
         all.keeps.ground
         (subst (λ s. HasRemoved (g.ground b) place.owner place.root key s (g.working c) tree)

@@ -5,20 +5,21 @@ use Rattle.std.proofs.lemmas.Bool.{cases_eq}
 use Rattle.std.proofs.lemmas.List.{map-append}
 use Rattle.std.proofs.lemmas.Option.{slice_get-get_or}
 use Rattle.gx_ports.specs.Files.{OthersStay}
-use Rattle.gx_ports.specs.Sheets.{Sheets, Ground, IsPast, IsClaimed}
+use Rattle.gx_ports.specs.Sheets.{Sheets, Ground, IsPast, IsClaimed, bytes_at}
+use Rattle.gx_ports.proofs.PageLemmas.{others_itself, others_joined}
 use Rattle.gx_slots.specs.Entries.{Entry}
 use Rattle.gx_slots.specs.Page.{entries_of}
 use Rattle.gx_bnode.specs.Branches.{Branch}
 use Rattle.gx_bnode.specs.Page.{IsInnerPage, first_of, branches_of, separators_of, children_of}
 use Rattle.gx_btree.specs.declared.reading.Shape.TheVariants as shapes
-use Rattle.gx_btree.specs.Bplus.{Shows, bytes_at, IsWritten, IsOwned, ArePast}
+use Rattle.gx_btree.specs.Bplus.{Shows, IsWritten, IsOwned, ArePast}
 use Rattle.gx_btree.specs.Hole.{IsAtHand}
 use Rattle.gx_btree.specs.Order.{is_below}
 use Rattle.gx_btree.specs.Tree.{In, Tree, pages, ShowsEntries, ShowsInner, child_for, with_branch}
 use Rattle.gx_btree.proofs.BranchLemmas.{same_branches, tops, way_with}
 use Rattle.gx_btree.proofs.EntryLemmas.{shows_entries, shows_inner, entries_up}
 use Rattle.gx_btree.proofs.KidLemmas.{branch}
-use Rattle.gx_btree.proofs.SheetLemmas.{get_below, get_set_same, get_set_other, others_itself, others_joined, written_owned, written_other, written_here, written_others, anew_bytes, claimed_owned, claimed_free, claimed_others}
+use Rattle.gx_btree.proofs.SheetLemmas.{get_below, get_set_same, get_set_other, written_owned, written_other, written_here, written_others, anew_bytes, claimed_owned, claimed_free, claimed_others}
 use Rattle.gx_btree.proofs.StepLemmas.{at_root, descend, top_in}
 use Rattle.gx_bplus.specs.Changes.{IsPutIn, IsTakenFrom, IsSpread, MayStand}
 use Rattle.gx_bplus.specs.Search.{IsHeld, IsReached, HasCome, HasPut}

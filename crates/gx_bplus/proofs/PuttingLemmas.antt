@@ -13,29 +13,29 @@ use Rattle.gx_ports.specs.Roots.{roots_of, roots_of_kind}
 use Rattle.gx_ports.specs.Files.{Holds, IsWhole, IsFull, OthersStay, EndsFile, page_count}
 use Rattle.gx_ports.specs.LeafMaps.{LeafMap}
 use Rattle.gx_ports.specs.PageCalls.{KeepsPages, ReadsPages}
-use Rattle.gx_ports.specs.Sheets.{Sheets, Ground, IsPast, HasNone, IsHome}
-use Rattle.gx_ports.proofs.KeyLemmas.{tied}
+use Rattle.gx_ports.specs.Sheets.{Sheets, Ground, IsPast, HasNone, IsHome, bytes_at}
+use Rattle.gx_ports.proofs.KeyLemmas.{tied, other_key, key_cases}
+use Rattle.gx_ports.proofs.PageLemmas.{others_itself, others_joined, kept_pages_joined}
 use Rattle.gx_slots.specs.Entries.{Entry}
 use Rattle.gx_bnode.specs.Branches.{Branch}
 use Rattle.gx_bnode.specs.Page.{IsInnerPage, HasRoom, separators_of}
 use Rattle.gx_bnode.specs.Page as bnode
-use Rattle.gx_btree.specs.Bplus.{IsBplus, IsTreePage, IsOwned, bytes_at, ArePast}
+use Rattle.gx_btree.specs.Bplus.{IsBplus, IsTreePage, IsOwned, ArePast}
 use Rattle.gx_btree.specs.Hole.{IsAtHand}
 use Rattle.gx_btree.specs.Tree as trees
 use Rattle.gx_btree.specs.Tree.{In, Tree, entries, Owns, ShowsInner, child_for}
-use Rattle.gx_btree.proofs.CallLemmas.{ends_after, pages_keep_joined}
+use Rattle.gx_btree.proofs.CallLemmas.{ends_after}
 use Rattle.gx_btree.proofs.EntryLemmas.{shows_inner}
 use Rattle.gx_btree.proofs.FileLemmas.{past_of, descent_ends}
 use Rattle.gx_btree.proofs.KidLemmas.{some_key}
-use Rattle.gx_btree.proofs.OrderLemmas.{same_or_not}
-use Rattle.gx_btree.proofs.SheetLemmas.{others_itself, others_joined, claimed_others}
+use Rattle.gx_btree.proofs.SheetLemmas.{claimed_others}
 use Rattle.gx_btree.proofs.ShapeLemmas.{hand_page}
 use Rattle.gx_btree.proofs.StepLemmas.{at_node}
 use Rattle.gx_bplus.specs.Changes.{IsPutIn}
 use Rattle.gx_bplus.specs.Search.{IsHeld, IsSearch, IsReached, HasReached, HasCome, HasPut}
 use Rattle.gx_bplus.specs.Splits.{MayHaveClaimed}
 use Rattle.gx_bplus.proofs.ClaimLemmas.{listed_few}
-use Rattle.gx_bplus.proofs.FileLemmas.{other_key, next_hand}
+use Rattle.gx_bplus.proofs.FileLemmas.{next_hand}
 
 abbrev entry : List ℕ → List ℕ → Entry
 entry key body = record { key = key; body = body }
@@ -46,7 +46,7 @@ put_get : (map : LeafMap) (key body : List ℕ) (es fs : List Entry)
     × (In (entry k b) es → get map k ≡ Some b)) → IsPutIn (entry key body) es fs
     → (k b : List ℕ) → (get (insert map key body) k ≡ Some b → In (entry k b) fs)
     × (In (entry k b) fs → get (insert map key body) k ≡ Some b)
-put_get map key body es fs is put k b = elim (same_or_not k key) [
+put_get map key body es fs is put k b = elim (key_cases k key) [
   | inl e ↦
       (let new : get (insert map key body) k ≡ Some body =
       get-insert nat_list_cmp_total map key body k ∙ ap (λ c. cond c (Some body) (get map k))
@@ -229,7 +229,7 @@ module _ {S : Type 0} (g : Ghosts S) (place : Place) (key : List ℕ) (start : S
       → HasCome (g.ground b) place.owner place.root key (g.working b)
       (g.working c) holds.file.tree 0 at page) → IsGrowing g place key start c at page 0
   growing_starts b c at page reads faults keeps faults' past inner room come = record {
-    keeps = pages_keep_joined g reads.keeps keeps;
+    keeps = kept_pages_joined g reads.keeps keeps;
     faults = faults' ∙ faults;
     past = subst (λ x. IsPast x at) reads.keeps.ground past;
     inner = inner;
@@ -383,7 +383,7 @@ module _ {S : Type 0} (g : Ghosts S) (place : Place) (key : List ℕ) (start : S
           (steps + 1) at' page')
           → IsGrowing g place key start c at' page' (least + 1)
       growing_goes c at' page' faults keeps faults' past inner room come = record {
-        keeps = pages_keep_joined g d.keeps (pages_keep_joined g reads.keeps keeps);
+        keeps = kept_pages_joined g d.keeps (kept_pages_joined g reads.keeps keeps);
         faults = faults' ∙ faults ∙ d.faults;
         past = subst (λ x. IsPast x at') growing_ground past;
         inner = inner;

@@ -4,14 +4,15 @@ use Rattle.std.specs.Prelude.{Result, Ok, Err, OnOk}
 use Rattle.std.specs.List.{remove}
 use Rattle.std.proofs.lemmas.Bool.{cond-true, cond-false}
 use Rattle.gx_ports.specs.Files.{OthersStay}
-use Rattle.gx_ports.specs.Sheets.{Sheets, Ground, IsPast, IsOwnedAnew}
+use Rattle.gx_ports.specs.Sheets.{Sheets, Ground, IsPast, IsOwnedAnew, bytes_at}
+use Rattle.gx_ports.proofs.PageLemmas.{others_joined}
 use Rattle.gx_slots.specs.Entries.{Entry}
 use Rattle.gx_slots.specs.Page.{entries_of}
 use Rattle.gx_bnode.specs.Branches.{Branch}
 use Rattle.gx_bnode.specs.Page.{IsInnerPage, first_of, branches_of, separators_of, children_of}
 use Rattle.gx_bnode.proofs.PageLemmas.{page_of as inner_page_of}
 use Rattle.gx_btree.specs.declared.reading.Shape.TheVariants as shapes
-use Rattle.gx_btree.specs.Bplus.{Shows, IsTreePage, bytes_at, IsWritten, IsOwned, ArePast}
+use Rattle.gx_btree.specs.Bplus.{Shows, IsTreePage, IsWritten, IsOwned, ArePast}
 use Rattle.gx_btree.specs.Tree.{IsSome, In, Tree, page_of, entries, pages, kids_pages, ShowsEntries, ShowsInner, IsFilled, IsWhole, Owns, child_for, without_branch, first_without}
 use Rattle.gx_btree.specs.Hole.{IsAtHand}
 use Rattle.gx_btree.specs.Tree as trees
@@ -19,7 +20,7 @@ use Rattle.gx_btree.specs.Order.{is_below}
 use Rattle.gx_btree.proofs.BranchLemmas.{IsPlaceFor, first_behind, first_before, without_is}
 use Rattle.gx_btree.proofs.EntryLemmas.{shows_entries, shows_inner, entries_up}
 use Rattle.gx_btree.proofs.ShapeLemmas.{first_in, kids_shape}
-use Rattle.gx_btree.proofs.SheetLemmas.{others_joined, written_owned, written_other, written_here, written_others, anew_bytes, freed_others, freed_owned}
+use Rattle.gx_btree.proofs.SheetLemmas.{written_owned, written_other, written_here, written_others, anew_bytes, freed_others, freed_owned}
 use Rattle.gx_btree.proofs.StepLemmas.{IsAtNode, at_node, leaf_is, top_in, descend}
 use Rattle.gx_bplus.specs.Changes.{IsTakenFrom, IsRemoved}
 use Rattle.gx_bplus.specs.Search.{IsReached, HasRemoved}

@@ -6,11 +6,12 @@ use Rattle.gx_bnode.specs.Branches.{Branch}
 use Rattle.gx_btree.specs.Order.{IsUpTo, IsUnder, is_below}
 use Rattle.gx_btree.specs.Tree.{In, Tree, Kids, leaf, node, last, more, page_of, first_of, branches_of, entries, kids_entries, pages, kids_pages, Stands, AllStand, ShowsEntries, ShowsInner, Ascending, Ordered, AreOrdered, IsFilled, Apart, AreApart, IsWhole, Owns, child_for, without_branch, first_without, IsSome}
 use Rattle.gx_btree.specs.Hole.{IsFitting, Same, AreMany, IsAtHand}
-use Rattle.gx_btree.proofs.OrderLemmas.{same_or_not, not_both, not_under_over}
+use Rattle.gx_btree.proofs.OrderLemmas.{not_both, not_under_over}
 use Rattle.gx_btree.proofs.KidLemmas.{all_stand_same, some_key}
 use Rattle.gx_btree.proofs.StepLemmas.{at_node, leaf_is, top_in}
 use Rattle.gx_bplus.specs.Changes.{IsTakenFrom, IsRemoved}
 use Rattle.gx_bplus.proofs.PutLemmas.{beside}
+use Rattle.gx_ports.proofs.KeyLemmas.{key_cases}
 
 -- the tree that takes the place of the subtree at hand has its entries but one, and pages among its own
 pub filled_in : {steps : ℕ} (at new : ℕ → List ℕ) (owned now : ℕ → Type 0) (root p : ℕ) (key : List ℕ) (old : Tree)
@@ -91,7 +92,7 @@ many_of (more t s kids) b bs e = tt
 
 -- what is left of a list without this key is empty, so each of it has the key
 all_taken : (key : List ℕ) (es : List Entry) → IsTakenFrom key es [] → (x : Entry) → In x es → x.key ≡ key
-all_taken key es taken x i = elim (same_or_not x.key key) [ inl e ↦ e | inr d ↦ absurd ((taken x).1 (i, d)) ]
+all_taken key es taken x i = elim (key_cases x.key key) [ inl e ↦ e | inr d ↦ absurd ((taken x).1 (i, d)) ]
 
 -- a child that has this key alone is freed
 pub dropped : {steps : ℕ} (at new : ℕ → List ℕ) (owned now : ℕ → Type 0) (root p : ℕ) (key : List ℕ) (old : Tree) (first : ℕ) (b : Branch)

@@ -2,10 +2,10 @@
 use Rattle.std.specs.Prelude.{◌≡◌, ◌≤◌, ℕ, List}
 use Rattle.gx_slots.specs.Entries.{Entry}
 use Rattle.gx_ports.specs.Files.{OthersStay}
-use Rattle.gx_ports.specs.Sheets.{Sheets, Ground}
+use Rattle.gx_ports.specs.Sheets.{Sheets, Ground, bytes_at}
 use Rattle.gx_btree.specs.Tree.{Tree, IsWhole, Owns}
 use Rattle.gx_btree.specs.Hole.{IsAtHand}
-use Rattle.gx_btree.specs.Bplus.{bytes_at, IsOwned, ArePast}
+use Rattle.gx_btree.specs.Bplus.{IsOwned, ArePast}
 use Rattle.gx_bplus.specs.Changes.{IsPut, IsRemoved}
 
 -- The search for a key has come to this page, in a tree that the pages hold.

@@ -3,11 +3,11 @@ ghost use Rattle.std.specs.Prelude.{◌≡◌, ◌≤◌, ℕ, List, [], length,
 ghost use Rattle.std.specs.Bool.{OnFalse};
 ghost use Rattle.gx_ports.specs.Files.{EndsFile};
 ghost use Rattle.gx_ports.specs.PageCalls.{KeepsPages, CountsPageFaults};
-ghost use Rattle.gx_ports.specs.Sheets.{IsPast};
+ghost use Rattle.gx_ports.specs.Sheets.{IsPast, bytes_at};
 ghost use Rattle.gx_slots.specs.Page.{entries_of};
 ghost use Rattle.gx_bnode.specs.Page.{IsInnerPage, first_of, branches_of};
 ghost use Rattle.gx_btree.specs.declared.reading.Shape.TheVariants as shapes;
-ghost use Rattle.gx_btree.specs.Bplus.{Shows, IsTreePage, IsOwned, bytes_at, ArePast};
+ghost use Rattle.gx_btree.specs.Bplus.{Shows, IsTreePage, IsOwned, ArePast};
 ghost use Rattle.gx_btree.specs.Tree.{Tree, IsWhole, Owns, child_for, first_without};
 ghost use Rattle.gx_bplus.specs.Changes.{IsTakenFrom};
 ghost use Rattle.gx_bplus.specs.Search.{IsReached, HasReached, HasRemoved};

@@ -1,6 +1,7 @@
 -- A search ends: it comes through no page twice.
 use Rattle.std.proofs.Common.{◌≢◌, inl, inr, ◌<◌, ◌≤◌, ◌+◌, ◌∷◌, ℕ, zero, suc, List, [], length, refl, sym, ◌∙◌, subst, arith}
 use Rattle.std.proofs.lemmas.Bool.{cases_eq}
+use Rattle.gx_laws.proofs.NumberLemmas.{below_last}
 use Rattle.gx_btree.specs.Tree.{In, Tree, pages}
 use Rattle.gx_btree.specs.Hole.{AreUnique, IsAtHand}
 use Rattle.gx_btree.proofs.StepLemmas.{top_in}
@@ -31,16 +32,13 @@ take_out x (z ∷ xs) u = elim (cases_eq z x) [
   })
 ]
 
-less_of : (x n : ℕ) → x < suc n → x ≢ n → x < n
-less_of x n b d = omega (arith, b, d)
-
 pub few : (n : ℕ) (xs : List ℕ) → AreUnique xs → ((x : ℕ) → In x xs → x < n) → length xs ≤ n
 few zero [] u below = omega arith
 few zero (x ∷ xs) u below = let h = below x (inl refl) in omega (arith, h)
 few (suc n) xs u below =
     let w = take_out n xs u in
     let h = few n w.rest w.unique
-    (λ x i. let m = w.members x i in let b = below x m.0 in let d = m.1 in less_of x n b d) in
+    (λ x i. let m = w.members x i in let b = below x m.0 in let d = m.1 in below_last x n b d) in
     let s = w.shorter in
     omega (arith, h, s)
 

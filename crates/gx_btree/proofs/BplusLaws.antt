@@ -6,29 +6,30 @@ use Rattle.std.specs.Ordering.{eq_by_cmp}
 use Rattle.std.specs.Cmp.Lexicographic.{nat_list_cmp_total}
 use Rattle.std.specs.FinMap as fin
 use Rattle.std.proofs.lemmas.Bool.{cases_eq, eqb-true, and_from}
-use Rattle.std.proofs.lemmas.Bool.Decides.{nat_tests}
 use Rattle.std.proofs.lemmas.Option.{unwrap_or-slice_get}
 use Rattle.std.specs.Cmp.{first_so, second_so}
+use Rattle.gx_laws.proofs.NumberLemmas.{number_itself}
 use Rattle.gx_bytes.specs.declared.page.TheConstants.{NONE}
 use Rattle.gx_ports.specs.declared.kinds.LeafKind.TheVariants as kinds
 use Rattle.gx_ports.specs.declared.pages.Place.{Place}
 use Rattle.gx_ports.specs.Files.{IsPlace, SameFor, AreFileLaws}
 use Rattle.gx_ports.specs.LeafMaps.{LeafMap}
 use Rattle.gx_ports.specs.Roots.{roots_of, roots_of_kind}
-use Rattle.gx_ports.specs.Sheets.{Sheets, Ground}
+use Rattle.gx_ports.specs.Sheets.{Sheets, Ground, bytes_at}
 use Rattle.gx_ports.proofs.KeyLemmas.{only_equal, tied}
+use Rattle.gx_ports.proofs.PageLemmas.{bytes_same}
 use Rattle.gx_slots.specs.Entries.{Entry}
 use Rattle.gx_slots.specs.Page.{entries_of}
 use Rattle.gx_slots.proofs.PageLemmas.{entries_of-page}
 use Rattle.gx_bnode.specs.Branches.{Branch}
-use Rattle.gx_btree.specs.Bplus.{IsBplus, IsOwned, bytes_at}
+use Rattle.gx_btree.specs.Bplus.{IsBplus, IsOwned}
 use Rattle.gx_btree.specs.Map.{has_entries, entries_if_owned, owned_entries, bplus_map}
 use Rattle.gx_btree.specs.Tree.{In, Tree, Kids, leaf, node, last, more, first_of, branches_of, entries, kids_entries, pages, kids_pages, Stands, AllStand, ShowsEntries, ShowsInner}
 use Rattle.gx_btree.proofs.KidLemmas.{stands_same}
 use Rattle.gx_btree.proofs.MemberLemmas.{in_left, in_right, in_cases}
 use Rattle.gx_btree.proofs.PageCountLemmas.{file_few}
 use Rattle.gx_btree.proofs.SelectLemmas.{key_cmp, pair, at, found_in, same_option}
-use Rattle.gx_btree.proofs.SheetLemmas.{bytes_same, get_below}
+use Rattle.gx_btree.proofs.SheetLemmas.{get_below}
 
 -- ---- it depends on its own pages alone
 
@@ -101,9 +102,6 @@ mutual
     | inl a ↦ (let f = on_page p t x stand.0 a in (f.0, in_left f.0 (pages t) (kids_pages kids) f.1, f.2))
     | inr b ↦ (let f = on_kids p kids x stand.1 b in (f.0, in_right f.0 (pages t) (kids_pages kids) f.1, f.2))
   ]
-
-itself : (n : ℕ) → (n == n) ≡ true
-itself n = grind (arith, nat_tests)
 
 -- where there is an entry, one is found
 found_some : (es : List Entry) (k b : List ℕ) → In (at k b) es
@@ -186,11 +184,11 @@ module _ (ground : Ground) (place : Place) (s : Sheets) (m : LeafMap) (some : 1 
       let first : (slice_index_or s.owners o.0 0 == place.owner) ≡ true =
       ap (λ n. n == place.owner)
       (sym (unwrap_or-slice_get s.owners o.0 0) ∙ ap (λ x. unwrap_or x 0) mine)
-      ∙ itself place.owner in
+      ∙ number_itself place.owner in
       let kind : slice_index_or (bytes_at s o.0) 0 0 ≡ 68 =
       ap (λ (xs : List ℕ). get_or xs 0 0) o.2.1.page.is in
       let second : (slice_index_or (bytes_at s o.0) 0 0 == 68) ≡ true =
-      ap (λ n. n == 68) kind ∙ itself 68 in
+      ap (λ n. n == 68) kind ∙ number_itself 68 in
       owned_to place.owner s (length s.owners) o.0 e (get_below s.owners o.0 place.owner mine)
       (and_from (slice_index_or s.owners o.0 0 == place.owner)
       (slice_index_or (bytes_at s o.0) 0 0 == 68) first second)

@@ -1,5 +1,5 @@
 -- Calls of pages, one after the other.
-use Rattle.std.proofs.Common.{◌≡◌, ℕ, ◌≤◌, ◌∙◌, refl, sym, ap, subst, arith}
+use Rattle.std.proofs.Common.{◌≡◌, ℕ, ◌≤◌, ◌∙◌, sym, ap, subst, arith}
 use Rattle.std.specs.Prelude.{Result, Ok, Err, IsErrOf, IsErrAnd}
 use Rattle.gx_ports.specs.declared.page_view.PageView.{Ghosts}
 use Rattle.gx_ports.specs.declared.stop.Stop.{Stop}
@@ -7,7 +7,6 @@ use Rattle.gx_ports.specs.declared.stop.Stop.TheVariants.{Fault, Damaged}
 use Rattle.gx_device.specs.Faults.{Rose}
 use Rattle.gx_ports.specs.Sheets.{IsHome}
 use Rattle.gx_ports.specs.Files.{EndsFile}
-use Rattle.gx_ports.specs.PageCalls.{KeepsPages, ReadsPages}
 
 same_or_more : (n : ℕ) → n ≤ n
 same_or_more n = omega arith
@@ -21,43 +20,6 @@ module _ {S : Type 0} (g : Ghosts S) where
         record
         { later = e.cause.later; fault = e.cause.fault; counted = e.cause.counted; damaged = λ n is h. e.cause.damaged n is (f h) };
     home = e.home;
-  }
-
-  pub pages_keep_itself : (a : S) → KeepsPages g a a
-  pages_keep_itself a =
-      record {
-        ground = refl;
-        kept = refl;
-        steady =
-            (λ h. h, λ h. h);
-        calm = λ s h. h;
-        silent = record { said = refl; shelf = refl; script = refl; aside = refl };
-      }
-
-  pub pages_keep_joined : {a b c : S} → KeepsPages g a b → KeepsPages g b c → KeepsPages g a c
-  pages_keep_joined x y = record {
-    ground = y.ground ∙ x.ground;
-    kept = y.kept ∙ x.kept;
-    steady = (λ h. y.steady.0 (x.steady.0 h), λ h. x.steady.1 (y.steady.1 h));
-    calm = λ s h. y.calm s (x.calm s h);
-    silent =
-        record {
-          said = y.silent.said ∙ x.silent.said;
-          shelf = y.silent.shelf
-              ∙ x.silent.shelf;
-          script = y.silent.script ∙ x.silent.script;
-          aside = y.silent.aside ∙ x.silent.aside;
-        };
-  }
-
-  pub pages_read_itself : (a : S) → ReadsPages g a a
-  pages_read_itself a = record { working = refl; unchanged = λ h. h; keeps = pages_keep_itself a }
-
-  pub pages_read_joined : {a b c : S} → ReadsPages g a b → ReadsPages g b c → ReadsPages g a c
-  pages_read_joined x y = record {
-    working = y.working ∙ x.working;
-    unchanged = λ h. y.unchanged (x.unchanged h);
-    keeps = pages_keep_joined x.keeps y.keeps;
   }
 
   -- a call whose count of faults begins where an earlier one ended

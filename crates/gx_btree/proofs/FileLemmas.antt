@@ -5,8 +5,8 @@ use Rattle.gx_ports.specs.declared.pages.Place.{Place}
 use Rattle.gx_ports.specs.Files.{IsPlace}
 use Rattle.gx_ports.specs.LeafMaps.{LeafMap}
 use Rattle.gx_ports.specs.Roots.{roots_of, roots_of_kind}
-use Rattle.gx_ports.specs.Sheets.{Sheets, Ground, IsPast}
-use Rattle.gx_btree.specs.Bplus.{IsBplus, IsOwned, bytes_at, ArePast}
+use Rattle.gx_ports.specs.Sheets.{Sheets, Ground, IsPast, bytes_at}
+use Rattle.gx_btree.specs.Bplus.{IsBplus, IsOwned, ArePast}
 use Rattle.gx_btree.specs.Hole.{IsAtHand}
 use Rattle.gx_btree.specs.Tree.{Tree}
 use Rattle.gx_btree.proofs.BoundLemmas.{ends}

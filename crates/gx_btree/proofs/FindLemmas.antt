@@ -8,20 +8,21 @@ use Rattle.gx_ports.specs.declared.stop.Stop.TheVariants.{Damaged}
 use Rattle.gx_ports.specs.Files.{Holds, IsWhole, EndsFile}
 use Rattle.gx_ports.specs.LeafMaps.{LeafMap}
 use Rattle.gx_ports.specs.PageCalls.{ReadsPages}
-use Rattle.gx_ports.specs.Sheets.{Sheets, IsPast, IsHome}
+use Rattle.gx_ports.specs.Sheets.{Sheets, IsPast, IsHome, bytes_at}
+use Rattle.gx_ports.proofs.PageLemmas.{pages_read_themselves, read_pages_joined}
 use Rattle.gx_slots.specs.Page.{entries_of}
 use Rattle.gx_bnode.specs.Branches.{Branch}
 use Rattle.gx_bnode.specs.Page.{IsInnerPage, separators_in, first_of, branches_of}
 use Rattle.gx_btree.specs.declared.reading.Shape.{Shape}
 use Rattle.gx_btree.specs.declared.reading.Shape.TheVariants as shapes
-use Rattle.gx_btree.specs.Bplus.{IsBplus, IsTreePage, IsOwned, Shows, Seems, bytes_at}
+use Rattle.gx_btree.specs.Bplus.{IsBplus, IsTreePage, IsOwned, Shows, Seems}
 use Rattle.gx_btree.specs.Hole.{IsAtHand}
 use Rattle.gx_btree.specs.Order.{IsUnder}
 use Rattle.gx_btree.specs.Search.{IsFound}
 use Rattle.gx_btree.specs.Tree as trees
 use Rattle.gx_btree.specs.Tree.{In, Tree, Kids, leaf, node, last, more, entries, pages, kids_pages, separators, kids_separators, Stands, AllStand, ShowsInner, ShowsEntries, child_for, bound_for}
 use Rattle.gx_btree.proofs.BranchLemmas.{bound_in}
-use Rattle.gx_btree.proofs.CallLemmas.{ends_after, ends_shown, pages_read_itself, pages_read_joined}
+use Rattle.gx_btree.proofs.CallLemmas.{ends_after, ends_shown}
 use Rattle.gx_btree.proofs.EntryLemmas.{shows_entries, shows_inner}
 use Rattle.gx_btree.proofs.FileLemmas.{past_of, descent_ends}
 use Rattle.gx_btree.proofs.MemberLemmas.{in_left, in_right, in_cases}
@@ -87,7 +88,7 @@ module _ {S : Type 0} (g : Ghosts S) (place : Place) (key : List ℕ) (start : S
   pub finding_starts : place.root < (g.ground start).size
       → IsFinding g place key start start place.root place.root None 0
   finding_starts below = record {
-    reads = pages_read_itself g start;
+    reads = pages_read_themselves g start;
     faults = refl;
     from_below = below;
     way = λ map holds. record {
@@ -139,7 +140,7 @@ module _ {S : Type 0} (g : Ghosts S) (place : Place) (key : List ℕ) (start : S
         × (further ≡ bound_for (branches_of page) key bound)) → IsFinding g place key start b at next further (steps +
         1)
     finding_goes b page next further reads faults past seems told leads = record {
-      reads = pages_read_joined g f.reads reads;
+      reads = read_pages_joined g f.reads reads;
       faults = faults ∙ f.faults;
       from_below = (let p = past.below in let e = ap (λ x. x.size) f.reads.keeps.ground in omega (arith, p, e));
       way = λ map holds.

@@ -6,6 +6,7 @@ use Rattle.std.specs.Ordering.{nat_cmp, is_le, is_gt}
 use Rattle.std.specs.declared.cmp.Ordering.{Ordering}
 use Rattle.std.specs.declared.cmp.Ordering.TheVariants.{Less, Equal, Greater}
 use Rattle.std.proofs.lemmas.List.{drop_all, drop_more, length-drop}
+use Rattle.gx_laws.proofs.OrderingLemmas.{not_gt_le, gt_not_le}
 use Rattle.gx_bytes.specs.Page.{count_of}
 use Rattle.gx_bytes.specs.Records.{HoldsRecords}
 use Rattle.gx_bytes.proofs.RecordLemmas.{Passed, passed_none, passed_more, first_same, holds_first}
@@ -46,16 +47,6 @@ last_false false b c is = refl
 all_true : (a b c : Bool) → a ≡ true → b ≡ true → c ≡ true → (a && (b && c)) ≡ true
 all_true a b c x y z = ap (λ n. n && (b && c)) x ∙ ap (λ n. n && c) y ∙ z
 
-le_of : (o : Ordering) → is_gt o ≡ false → is_le o ≡ true
-le_of Less h = refl
-le_of Equal h = refl
-le_of Greater h = let never : ⊥ = cc in absurd never
-
-gt_of : (o : Ordering) → is_gt o ≡ true → is_le o ≡ false
-gt_of Less h = let never : ⊥ = cc in absurd never
-gt_of Equal h = let never : ⊥ = cc in absurd never
-gt_of Greater h = refl
-
 -- one below the key isn't given
 pub given_not : (from lo hi : List ℕ) (e : Entry) → is_le (slice_cmp nat_cmp from e.key) ≡ false
     → given_from from lo hi (e ∷ []) ≡ []
@@ -74,7 +65,7 @@ given_low from lo hi e is =
 past_not : (from lo hi : List ℕ) (e : Entry) → IsPastSpan hi e.key → is_given from lo hi e ≡ false
 past_not from lo hi e past =
     last_false (is_le (slice_cmp nat_cmp from e.key)) (is_le (slice_cmp nat_cmp lo e.key)) _
-    (gt_of (slice_cmp nat_cmp (take (length hi) e.key) hi) past)
+    (gt_not_le (slice_cmp nat_cmp (take (length hi) e.key) hi) past)
 
 pub given_high : (from lo hi : List ℕ) (e : Entry) → IsPastSpan hi e.key
     → given_from from lo hi (e ∷ []) ≡ []
@@ -86,7 +77,7 @@ pub given_it : (from lo hi : List ℕ) (e : Entry) → is_le (slice_cmp nat_cmp 
     → given_from from lo hi (e ∷ []) ≡ given_entry e ∷ []
 given_it from lo hi e up low within =
     ap (λ b. map given_entry (cond b (e ∷ []) []))
-    (all_true _ _ _ up low (le_of (slice_cmp nat_cmp (take (length hi) e.key) hi) within))
+    (all_true _ _ _ up low (not_gt_le (slice_cmp nat_cmp (take (length hi) e.key) hi) within))
 
 -- ---- entries, from the first on
 

@@ -60,12 +60,6 @@ up_to_up_to a b c h k = elim (up_to_cases b c k) [ inl l ↦ below_is_up_to a c 
 pub differ : (a b : List ℕ) → IsBelow a b → a ≢ b
 differ a b h e = not_itself b (subst (λ x. IsBelow x b) e h)
 
-pub same_or_not : (a b : List ℕ) → (a ≡ b) ⊎ (a ≢ b)
-same_or_not a b = elim (below_or_not a b) [
-  | inl h ↦ inr (differ a b h)
-  | inr h ↦ elim (up_to_cases b a h) [ inl l ↦ inr (λ e. differ b a l (sym e)) | inr e ↦ inl (sym e) ]
-]
-
 -- a test of the order
 pub below_of : (a b : List ℕ) → is_below a b ≡ true → IsBelow a b
 below_of a b h = go (cmp a b) refl h where

@@ -6,10 +6,10 @@ use Rattle.std.proofs.lemmas.List.{length-append, length-map}
 use Rattle.gx_ports.specs.declared.pages.Place.{Place}
 use Rattle.gx_ports.specs.Files.{page_count}
 use Rattle.gx_ports.specs.LeafMaps.{LeafMap}
-use Rattle.gx_ports.specs.Sheets.{Sheets, Ground}
+use Rattle.gx_ports.specs.Sheets.{Sheets, Ground, bytes_at}
 use Rattle.gx_ports.proofs.CountLemmas.{count_listed}
 use Rattle.gx_slots.specs.Entries.{Entry}
-use Rattle.gx_btree.specs.Bplus.{IsBplus, bytes_at}
+use Rattle.gx_btree.specs.Bplus.{IsBplus}
 use Rattle.gx_btree.specs.Tree.{In, Tree, Kids, leaf, node, last, more, entries, kids_entries, pages, kids_pages, Stands, AllStand, Ordered, AreOrdered, IsFilled}
 use Rattle.gx_btree.proofs.EntryLemmas.{place_in}
 use Rattle.gx_btree.proofs.KidLemmas.{some_key}

@@ -6,7 +6,7 @@ use Rattle.std.specs.Cmp.Lexicographic.{nat_list_cmp_total}
 use Rattle.std.proofs.lemmas.Bool.{cases_eq}
 use Rattle.gx_ports.specs.declared.pages.Place.{Place}
 use Rattle.gx_ports.specs.LeafMaps.{LeafMap}
-use Rattle.gx_ports.specs.Sheets.{Sheets, Ground, IsPast}
+use Rattle.gx_ports.specs.Sheets.{Sheets, Ground, IsPast, bytes_at}
 use Rattle.gx_slots.specs.Entries.{Entry}
 use Rattle.gx_slots.specs.Page.{entries_of}
 use Rattle.gx_bnode.specs.Branches.{Branch}
@@ -14,7 +14,7 @@ use Rattle.gx_bnode.specs.Page as bnode
 use Rattle.gx_btree.specs.declared.checking.Part.{Part}
 use Rattle.gx_btree.specs.declared.reading.Shape.{Shape}
 use Rattle.gx_btree.specs.declared.reading.Shape.TheVariants as shapes
-use Rattle.gx_btree.specs.Bplus.{IsBplus, IsOwned, Shows, bytes_at}
+use Rattle.gx_btree.specs.Bplus.{IsBplus, IsOwned, Shows}
 use Rattle.gx_btree.specs.Checking.{root_part, child_parts, low_of, IsAtPart, AreAtParts, pages_of, AreLeft, HasRest, IsInside, parts_behind, high_behind}
 use Rattle.gx_btree.specs.Hole.{AreUnique}
 use Rattle.gx_btree.specs.Order.{IsUpTo, IsUnder}

@@ -1,5 +1,5 @@
 -- What a selection has given, and what it gives of the next page.
-use Rattle.std.proofs.Common.{◌≡◌, ◌≢◌, inl, inr, ℕ, Bool, true, false, cond, List, [], ◌∷◌, ◌++◌, map, Option, Some, None, refl, sym, ap, ap₂, ◌∙◌, subst}
+use Rattle.std.proofs.Common.{◌≡◌, inl, inr, ℕ, Bool, true, false, cond, List, [], ◌∷◌, ◌++◌, map, Option, Some, None, refl, sym, ap, ap₂, ◌∙◌, subst}
 use Rattle.std.specs.Prelude.{filter, ◌&&◌, T}
 use Rattle.std.specs.Cmp.Lexicographic.{slice_cmp, nat_list_cmp_total}
 use Rattle.std.specs.FinMap as fin
@@ -9,11 +9,12 @@ use Rattle.std.specs.Ordering.{nat_cmp, is_le, is_lt, eq_by_cmp}
 use Rattle.std.specs.declared.cmp.Ordering.{Ordering}
 use Rattle.std.proofs.lemmas.Bool.{and_from}
 use Rattle.std.specs.Cmp.{first_so, second_so}
+use Rattle.gx_laws.proofs.BoolLemmas.{both_true}
 use Rattle.gx_values.specs.Keys.{is_inside}
 use Rattle.gx_ports.specs.LeafMaps.{LeafMap, selected, entry_of}
 use Rattle.gx_ports.specs.declared.leaves.Entry.{Entry as LeafEntry}
-use Rattle.gx_ports.proofs.KeyLemmas.{only_equal, same_key, tied}
-use Rattle.gx_ports.proofs.KeyedLemmas.{both_of, entries_of_sorted}
+use Rattle.gx_ports.proofs.KeyLemmas.{only_equal, same_key, tied, other_key}
+use Rattle.gx_ports.proofs.KeyedLemmas.{entries_of_sorted}
 use Rattle.gx_slots.specs.Entries.{Entry}
 use Rattle.gx_btree.specs.Order.{IsBelow, IsUnder, is_below}
 use Rattle.gx_btree.specs.Search.{IsFound}
@@ -109,12 +110,12 @@ below_pairs : (k : List ℕ) (es : List Entry) → ((y : Entry) → In y es → 
     → T (below_all key_cmp k (map pair es))
 below_pairs k [] h = tt
 below_pairs k (e ∷ es) h =
-    both_of _ _ (subst (λ r. T (is_lt r)) (sym (h e (inl refl))) tt)
+    both_true _ _ (subst (λ r. T (is_lt r)) (sym (h e (inl refl))) tt)
     (below_pairs k es (λ y i. h y (inr i)))
 
 sorted_pairs : (es : List Entry) → Ascending es → T (fin.is_sorted key_cmp (map pair es))
 sorted_pairs [] up = tt
-sorted_pairs (e ∷ es) up = both_of _ _ (below_pairs e.key es up.0) (sorted_pairs es up.1)
+sorted_pairs (e ∷ es) up = both_true _ _ (below_pairs e.key es up.0) (sorted_pairs es up.1)
 
 found_cases : (es : List Entry) (e : Entry) (q : List ℕ) (v : List ℕ) (b : Bool)
     → eq_by_cmp key_cmp q e.key ≡ b
@@ -131,12 +132,6 @@ pub found_in : (es : List Entry) (q v : List ℕ) → fin.find key_cmp q (map pa
 found_in [] q v h = let never : ⊥ = cc in absurd never
 found_in (e ∷ es) q v h = found_cases es e q v (eq_by_cmp key_cmp q e.key) refl (found_in es q v) h
 
-pub unequal : (q k : List ℕ) → q ≢ k → eq_by_cmp key_cmp q k ≡ false
-unequal q k d = go (eq_by_cmp key_cmp q k) refl where
-  go : (b : Bool) → eq_by_cmp key_cmp q k ≡ b → b ≡ false
-  go true e = absurd (d (same_key q k e))
-  go false e = refl
-
 pub in_found : (es : List Entry) (q v : List ℕ) → Ascending es → In (at q v) es
     → fin.find key_cmp q (map pair es) ≡ Some v
 in_found [] q v up i = absurd i
@@ -147,7 +142,7 @@ in_found (e ∷ es) q v up (inl s) =
     ∙ ap Some (sym (ap (λ (w : Entry). w.body) s))
 in_found (e ∷ es) q v up (inr i) =
     ap (λ b. cond b (Some e.body) (fin.find key_cmp q (map pair es)))
-    (unequal q e.key (λ s. differ e.key q (up.0 (at q v) i) (sym s))) ∙ in_found es q v up.1 i
+    (other_key q e.key (λ s. differ e.key q (up.0 (at q v) i) (sym s))) ∙ in_found es q v up.1 i
 
 pub same_option : (a b : Option (List ℕ)) → ((v : List ℕ) → a ≡ Some v → b ≡ Some v)
     → ((v : List ℕ) → b ≡ Some v → a ≡ Some v) → a ≡ b

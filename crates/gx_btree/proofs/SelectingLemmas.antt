@@ -13,10 +13,11 @@ use Rattle.gx_ports.specs.declared.stop.Stop.TheVariants.{Damaged}
 use Rattle.gx_ports.specs.Files.{Holds, IsWhole, EndsFile}
 use Rattle.gx_ports.specs.LeafMaps.{LeafMap, Extends, selected}
 use Rattle.gx_ports.specs.PageCalls.{ReadsPages}
-use Rattle.gx_ports.specs.Sheets.{Sheets, Ground, IsPast, IsHome}
+use Rattle.gx_ports.specs.Sheets.{Sheets, Ground, IsPast, IsHome, bytes_at}
 use Rattle.gx_ports.proofs.KeyLemmas.{front_le, le_trans}
+use Rattle.gx_ports.proofs.PageLemmas.{pages_read_themselves, read_pages_joined}
 use Rattle.gx_slots.specs.Entries.{Entry}
-use Rattle.gx_btree.specs.Bplus.{IsBplus, IsOwned, bytes_at}
+use Rattle.gx_btree.specs.Bplus.{IsBplus, IsOwned}
 use Rattle.gx_btree.specs.Hole.{AreUnique}
 use Rattle.gx_btree.specs.Order.{IsUpTo, is_below}
 use Rattle.gx_btree.specs.Search.{IsFound}
@@ -24,7 +25,7 @@ use Rattle.gx_btree.specs.Selection.{given_entry, given_from}
 use Rattle.gx_btree.specs.Tree as trees
 use Rattle.gx_btree.specs.Tree.{In, Tree, Kids, leaf, node, last, more, entries, pages, kids_pages, separators, kids_separators, Apart, AreApart, Ascending}
 use Rattle.gx_btree.proofs.BoundLemmas.{few}
-use Rattle.gx_btree.proofs.CallLemmas.{ends_after, ends_shown, pages_read_itself, pages_read_joined}
+use Rattle.gx_btree.proofs.CallLemmas.{ends_after, ends_shown}
 use Rattle.gx_btree.proofs.MemberLemmas.{in_cases}
 use Rattle.gx_btree.proofs.OrderLemmas.{below_or_not, not_both, up_to_itself, up_to_cases, up_to_up_to, below_is_up_to, is_below_of, not_below_of}
 use Rattle.gx_btree.proofs.SelectLemmas.{given_under, given_next, given_all}
@@ -206,7 +207,7 @@ module _ {S : Type 0} (g : Ghosts S) (place : Place) (lo hi : List ℕ) (start :
   pub selecting_starts : (key : List ℕ) → key ≡ lo
       → IsSelecting g place lo hi start start before before key 0
   selecting_starts key is = record {
-    reads = pages_read_itself g start;
+    reads = pages_read_themselves g start;
     faults = refl;
     front = ([], sym (append-nil before));
     given =
@@ -256,7 +257,7 @@ module _ {S : Type 0} (g : Ghosts S) (place : Place) (lo hi : List ℕ) (start :
         × IsFound holds.file.tree key (Some next) es)
         → IsSelecting g place lo hi start b before new next (steps + 1)
     selecting_goes b es next new reads faults longer found = record {
-      reads = pages_read_joined g s.reads reads;
+      reads = read_pages_joined g s.reads reads;
       faults = faults ∙ s.faults;
       front = (
         s.front.0 ++ longer.0,

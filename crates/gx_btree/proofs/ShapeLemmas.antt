@@ -3,10 +3,10 @@ use Rattle.std.proofs.Common.{inl, inr, ℕ, List, sym, subst}
 use Rattle.gx_bytes.specs.declared.page.TheConstants.{NONE}
 use Rattle.gx_slots.specs.Entries.{Entry, AreAscending}
 use Rattle.gx_slots.proofs.PageLemmas.{entries_of-page, next_of-page}
-use Rattle.gx_ports.specs.Sheets.{Sheets, Ground}
+use Rattle.gx_ports.specs.Sheets.{Sheets, Ground, bytes_at}
 use Rattle.gx_btree.specs.declared.reading.Shape.{Shape}
 use Rattle.gx_btree.specs.declared.reading.Shape.TheVariants as shapes
-use Rattle.gx_btree.specs.Bplus.{Shows, IsTreePage, bytes_at, IsOwned, ArePast}
+use Rattle.gx_btree.specs.Bplus.{Shows, IsTreePage, IsOwned, ArePast}
 use Rattle.gx_btree.specs.Hole.{IsAtHand}
 use Rattle.gx_btree.specs.Tree.{In, Tree, Kids, leaf, node, last, more, page_of, first_of, branches_of, pages, kids_pages, Stands, AllStand, Ordered, AreOrdered, ShowsEntries, Ascending}
 use Rattle.gx_btree.proofs.EntryLemmas.{ascending_from}

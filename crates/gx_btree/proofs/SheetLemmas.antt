@@ -4,8 +4,9 @@ use Rattle.std.specs.Prelude.{slice_get}
 use Rattle.std.proofs.lemmas.Bool.{cases_eq}
 use Rattle.std.proofs.lemmas.Option.{get_or_from_slice_get}
 use Rattle.gx_ports.specs.Files.{OthersStay}
-use Rattle.gx_ports.specs.Sheets.{Sheets, Ground, IsOwnedAnew, IsClaimed}
-use Rattle.gx_btree.specs.Bplus.{bytes_at, IsWritten, IsOwned}
+use Rattle.gx_ports.specs.Sheets.{Sheets, Ground, IsOwnedAnew, IsClaimed, bytes_at}
+use Rattle.gx_ports.proofs.PageLemmas.{bytes_same}
+use Rattle.gx_btree.specs.Bplus.{IsWritten, IsOwned}
 
 pub get_set_other : {X : Type 0} (xs : List X) (i j : ℕ) (x : X) → j ≢ i
     → slice_get (slice_set xs i x) j ≡ slice_get xs j
@@ -38,25 +39,7 @@ same_or (x ∷ xs) [] (suc i) e = same_or xs [] i e
 same_or (x ∷ xs) (y ∷ ys) zero e = cc
 same_or (x ∷ xs) (y ∷ ys) (suc i) e = same_or xs ys i e
 
-pub bytes_same : (old new : Sheets) (q : ℕ) → slice_get new.bytes q ≡ slice_get old.bytes q
-    → bytes_at new q ≡ bytes_at old q
-bytes_same old new q e = same_or new.bytes old.bytes q e
-
 -- ---- all that other owners have stays
-
-pub others_itself : (ground : Ground) (owner : ℕ) (sheets : Sheets)
-    → OthersStay ground owner sheets sheets
-others_itself ground owner sheets other d n = record { owned = λ q. (λ h. h, λ h. h); bytes = λ q past is. refl }
-
-pub others_joined : (ground : Ground) (owner : ℕ) (a b c : Sheets) → OthersStay ground owner a b
-    → OthersStay ground owner b c → OthersStay ground owner a c
-others_joined ground owner a b c h k other d n =
-    let x = h other d n in
-    let y = k other d n in
-    record {
-      owned = λ q. (λ i. (y.owned q).0 ((x.owned q).0 i), λ i. (x.owned q).1 ((y.owned q).1 i));
-      bytes = λ q past is. y.bytes q past ((x.owned q).0 is) ∙ x.bytes q past is;
-    }
 
 -- no page has two owners
 one_owner : (sheets : Sheets) (q a b : ℕ) → IsOwned a sheets q → IsOwned b sheets q → a ≡ b

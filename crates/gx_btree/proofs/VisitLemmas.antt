@@ -1,38 +1,33 @@
 -- Visits of the pages of a tree that is checked.
-use Rattle.std.proofs.Common.{◌≡◌, ◌≢◌, ◌↔◌, inl, inr, ℕ, zero, suc, ◌+◌, ◌<◌, ◌≤◌, Bool, true, false, List, [], ◌∷◌, ◌++◌, map, length, replicate, slice_set, Option, Some, None, Err, refl, sym, ap, ◌∙◌, subst, arith}
+use Rattle.std.proofs.Common.{◌≡◌, ◌≢◌, ◌↔◌, inl, inr, ℕ, ◌+◌, ◌<◌, ◌≤◌, Bool, true, false, List, [], ◌∷◌, ◌++◌, map, length, replicate, slice_set, Option, Some, None, Err, refl, sym, ap, ◌∙◌, subst, arith}
 use Rattle.std.specs.Prelude.{slice_get, IsTrue, Result}
+use Rattle.gx_laws.proofs.ListLemmas.{unmarked}
 use Rattle.gx_ports.specs.declared.page_view.PageView.{Ghosts}
 use Rattle.gx_ports.specs.declared.pages.Place.{Place}
 use Rattle.gx_ports.specs.declared.stop.Stop.{Stop}
 use Rattle.gx_ports.specs.declared.stop.Stop.TheVariants.{Damaged}
 use Rattle.gx_ports.specs.Files.{EndsFile, IsWhole}
 use Rattle.gx_ports.specs.PageCalls.{ReadsPages}
-use Rattle.gx_ports.specs.Sheets.{Sheets, Ground, IsPast, IsHome}
-use Rattle.std.proofs.lemmas.Bool.{false≢true}
+use Rattle.gx_ports.specs.Sheets.{Sheets, Ground, IsPast, IsHome, bytes_at}
+use Rattle.gx_ports.proofs.PageLemmas.{pages_read_themselves, read_pages_joined}
 use Rattle.std.proofs.lemmas.List.{length-replicate}
-use Rattle.std.proofs.lemmas.Option.{same_Some, none-some}
 use Rattle.gx_bnode.specs.Branches.{Branch}
 use Rattle.gx_bnode.specs.Page.{first_of, branches_of}
 use Rattle.gx_btree.specs.declared.checking.Part.{Part}
 use Rattle.gx_btree.specs.declared.checking.Visits.{Visits}
 use Rattle.gx_btree.specs.declared.reading.Shape.{Shape}
 use Rattle.gx_btree.specs.declared.reading.Shape.TheVariants as shapes
-use Rattle.gx_btree.specs.Bplus.{IsBplus, IsTreePage, Shows, bytes_at}
+use Rattle.gx_btree.specs.Bplus.{IsBplus, IsTreePage, Shows}
 use Rattle.gx_btree.specs.Checking.{root_part, child_parts, HasRest, IsInside, IsPassed, IsVisited, AreBelow, HasNext, pages_of, AreAtParts}
 use Rattle.gx_seen.specs.Seen.{IsUnseen, AreAllSeen}
 use Rattle.gx_btree.specs.Tree.{In, Tree, pages}
-use Rattle.gx_btree.proofs.CallLemmas.{pages_read_itself, pages_read_joined, ends_after, ends_shown}
+use Rattle.gx_btree.proofs.CallLemmas.{ends_after, ends_shown}
 use Rattle.gx_btree.proofs.MemberLemmas.{in_left, in_right, in_cases}
 use Rattle.gx_btree.proofs.RestLemmas.{to_behind, from_behind, whole_rest, rest_whole, rest_seen, seen_rest, AreSeen, seen_more, seen_few}
 use Rattle.gx_btree.proofs.ShapeLemmas.{tree_shape}
 use Rattle.gx_btree.proofs.StepLemmas.{top_in}
 
 -- ---- marks of pages
-
-pub unmarked : (n q : ℕ) → slice_get (replicate n false) q ≢ Some true
-unmarked zero q is = none-some true is
-unmarked (suc n) zero is = false≢true (same_Some false true is)
-unmarked (suc n) (suc q) is = unmarked n q is
 
 -- ---- one part
 
@@ -157,7 +152,7 @@ module _ {S : Type 0} (g : Ghosts S) (place : Place) (start : S) where
       let none = λ (q : ℕ) (is : slice_get visits.seen.items q ≡ Some true). unmarked ground.size q
       (sym (ap (λ (s : List Bool). slice_get s q) seen) ∙ is) in
       record {
-        reads = pages_read_itself g start;
+        reads = pages_read_themselves g start;
         faults = refl;
         marks = ap length seen ∙ length-replicate ground.size false;
         below = λ part i. elim (subst (In part) parts i)
@@ -224,7 +219,7 @@ module _ {S : Type 0} (g : Ghosts S) (place : Place) (start : S) where
             (subst (λ (s : Sheets). IsVisited (g.ground now) place.owner s part old new) v.reads.working (visited told)) in
             let size = ap (λ (x : Ground). x.size) ground in
             record {
-              reads = pages_read_joined g v.reads reads;
+              reads = read_pages_joined g v.reads reads;
               faults = faults ∙ v.faults;
               marks = marks ∙ size;
               below = λ w i. let k = below w i in omega (arith, k, size);

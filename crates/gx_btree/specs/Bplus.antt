@@ -1,19 +1,15 @@
 -- What the pages of a B+ tree hold.
-use Rattle.std.specs.Prelude.{◌≡◌, ◌↔◌, ℕ, List, [], slice_get, slice_index_or, slice_set, Some}
+use Rattle.std.specs.Prelude.{◌≡◌, ◌↔◌, ℕ, List, slice_get, slice_set, Some}
 use Rattle.std.specs.FinMap.{get}
 use Rattle.gx_ports.specs.declared.pages.Place.{Place}
 use Rattle.gx_ports.specs.LeafMaps.{LeafMap}
-use Rattle.gx_ports.specs.Sheets.{Sheets, Ground, IsPast}
+use Rattle.gx_ports.specs.Sheets.{Sheets, Ground, IsPast, bytes_at}
 use Rattle.gx_bytes.specs.declared.page.TheConstants.{NONE}
 use Rattle.gx_slots.specs.Page.{IsAscendingPage, next_of}
 use Rattle.gx_bnode.specs.Page.{IsInnerPage}
 use Rattle.gx_btree.specs.declared.reading.Shape.{Shape}
 use Rattle.gx_btree.specs.declared.reading.Shape.TheVariants as shape
 use Rattle.gx_btree.specs.Tree.{In, Tree, entries, pages, IsWhole}
-
--- the bytes of a page
-abbrev pub bytes_at : Sheets → ℕ → List ℕ
-bytes_at sheets page = slice_index_or sheets.bytes page []
 
 -- a page is written
 abbrev pub IsWritten : ℕ → List ℕ → Sheets → Sheets → Type 0

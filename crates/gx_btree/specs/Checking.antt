@@ -1,7 +1,7 @@
 -- What is yet to be visited of a tree that is checked.
 use Rattle.std.specs.Prelude.{◌≡◌, ◌≢◌, ◌⊎◌, ◌↔◌, ◌++◌, ℕ, ◌<◌, Bool, true, List, [], ◌∷◌, map, slice_get, slice_set, Option, Some, IsTrue, ⊤}
 use Rattle.gx_ports.specs.declared.page_view.PageView.{Ghosts}
-use Rattle.gx_ports.specs.Sheets.{Sheets, Ground, IsPast}
+use Rattle.gx_ports.specs.Sheets.{Sheets, Ground, IsPast, bytes_at}
 use Rattle.gx_slots.specs.Entries.{Entry}
 use Rattle.gx_slots.specs.Page.{entries_of}
 use Rattle.gx_bnode.specs.Branches.{Branch}
@@ -10,7 +10,7 @@ use Rattle.gx_btree.specs.declared.checking.Part.{Part}
 use Rattle.gx_btree.specs.declared.checking.Visits.{Visits}
 use Rattle.gx_btree.specs.declared.reading.Shape.{Shape}
 use Rattle.gx_btree.specs.declared.reading.Shape.TheVariants as shape
-use Rattle.gx_btree.specs.Bplus.{bytes_at, IsOwned}
+use Rattle.gx_btree.specs.Bplus.{IsOwned}
 use Rattle.gx_btree.specs.Tree.{IsSome, In, Tree, page_of, entries, pages, Stands, Ordered, IsFilled}
 use Rattle.gx_btree.specs.Hole.{AreUnique}
 use Rattle.gx_btree.specs.Order.{IsUpTo, IsUnder}

@@ -3,10 +3,9 @@ use Rattle.std.specs.Prelude.{◌==◌, ◌&&◌, ℕ, zero, suc, Bool, List, []
 use Rattle.std.specs.FinMap.{from_entries}
 use Rattle.gx_ports.specs.declared.pages.Place.{Place}
 use Rattle.gx_ports.specs.LeafMaps.{LeafMap}
-use Rattle.gx_ports.specs.Sheets.{Sheets, Ground}
+use Rattle.gx_ports.specs.Sheets.{Sheets, Ground, bytes_at}
 use Rattle.gx_slots.specs.Entries.{Entry}
 use Rattle.gx_slots.specs.Page.{entries_of}
-use Rattle.gx_btree.specs.Bplus.{bytes_at}
 
 -- the owner has the page, and it begins as an entry page
 abbrev pub has_entries : ℕ → Sheets → ℕ → Bool

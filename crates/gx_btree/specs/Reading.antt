@@ -6,9 +6,9 @@ use Rattle.gx_ports.specs.declared.stop.Stop.{Stop}
 use Rattle.gx_ports.specs.declared.stop.Stop.TheVariants.{Full, NoMemory}
 use Rattle.gx_ports.specs.Files.{EndsFile}
 use Rattle.gx_ports.specs.PageCalls.{ReadsPages}
-use Rattle.gx_ports.specs.Sheets.{IsPast}
+use Rattle.gx_ports.specs.Sheets.{IsPast, bytes_at}
 use Rattle.gx_btree.specs.declared.reading.Shape.{Shape}
-use Rattle.gx_btree.specs.Bplus.{IsTreePage, bytes_at}
+use Rattle.gx_btree.specs.Bplus.{IsTreePage}
 
 -- The bytes of a page past the table are read, with its shape: `HasShape` says how far they are
 -- tested.

@@ -5,11 +5,12 @@ use Rattle.std.specs.FinMap as fin
 use Rattle.std.proofs.lemmas.Bool.{cases_eq}
 use Rattle.std.proofs.lemmas.Option.{same_Some}
 use Rattle.gx_ports.specs.LeafMaps.{LeafMap}
-use Rattle.gx_ports.specs.Sheets.{Sheets, Ground}
-use Rattle.gx_chain.specs.Chain.{bytes_at, entries_at, IsChain, IsOn}
+use Rattle.gx_ports.specs.Sheets.{Sheets, Ground, bytes_at}
+use Rattle.gx_ports.proofs.PageLemmas.{bytes_same}
+use Rattle.gx_chain.specs.Chain.{entries_at, IsChain, IsOn}
 use Rattle.gx_chain.specs.Chains.{IsOnChain}
 use Rattle.gx_chain.specs.Changes.{StaysBeside}
-use Rattle.gx_chain.proofs.ChainLemmas.{at_other, same_on, same_on_back, same_chain}
+use Rattle.gx_chain.proofs.ChainLemmas.{same_on, same_on_back, same_chain}
 use Rattle.gx_chain.proofs.ChainsLemmas.{changed, changed_here, changed_other}
 use Rattle.gx_chain.proofs.CountLemmas.{first_of as entry_of}
 
@@ -67,7 +68,7 @@ module _ (ground : Ground) (owner : ℕ) (s t : Sheets) (first_of first_now : �
 
   pub bytes_stay : (i q : ℕ) → i < count → i ≢ j → Contains (pages i) q
       → bytes_at t q ≡ bytes_at s q
-  bytes_stay i q in_i d at = at_other s t q
+  bytes_stay i q in_i d at = bytes_same s t q
       (c.beside.bytes q ((c.chains i in_i).past q at).past (c.off i q in_i d at)
       (off_after i q in_i d at))
 

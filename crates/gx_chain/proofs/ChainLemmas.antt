@@ -2,22 +2,15 @@
 use Rattle.std.proofs.Common.{◌≡◌, ◌≢◌, ◌⊎◌, ◌↔◌, inl, inr, ℕ, List, [], ◌∷◌, ◌++◌, Some, sym, ap, subst, ◌∙◌}
 use Rattle.std.specs.Prelude.{slice_get}
 use Rattle.std.specs.List.{Contains}
-use Rattle.std.specs.Option.{unwrap_or}
 use Rattle.std.proofs.lemmas.Bool.{cases_eq}
-use Rattle.std.proofs.lemmas.Option.{unwrap_or-slice_get}
 use Rattle.gx_bytes.specs.declared.page.TheConstants.{NONE}
-use Rattle.gx_ports.specs.Sheets.{Sheets, Ground}
+use Rattle.gx_ports.specs.Sheets.{Sheets, Ground, bytes_at}
+use Rattle.gx_ports.proofs.PageLemmas.{bytes_same}
 use Rattle.gx_slots.specs.Entries.{Entry}
 use Rattle.gx_slots.specs.Page.{IsEntryPage, entries_of, next_of}
-use Rattle.gx_chain.specs.Chain.{bytes_at, entries_at, next_at, AreLinked, IsOn, IsChain}
+use Rattle.gx_chain.specs.Chain.{entries_at, next_at, AreLinked, IsOn, IsChain}
 use Rattle.gx_chain.specs.Changes.{IsRewritten, StaysBeside}
 use Rattle.gx_chain.proofs.ListLemmas.{contains_here, contains_later, contains_cases, contains_none}
-
-pub at_other : (old new : Sheets) (q : ℕ) → slice_get new.bytes q ≡ slice_get old.bytes q
-    → bytes_at new q ≡ bytes_at old q
-at_other old new q e =
-    sym (unwrap_or-slice_get new.bytes q []) ∙ ap (λ o. unwrap_or o []) e
-    ∙ unwrap_or-slice_get old.bytes q []
 
 -- links stay where each page has the same page behind it
 pub relink : (s t : Sheets) (first : ℕ) (pages : List ℕ)
@@ -96,7 +89,7 @@ module _ (ground : Ground) (owner : ℕ) (s t : Sheets) (first : ℕ) (pages : L
     (es : List Entry) (chain : IsChain ground owner s first pages) (among : Contains pages p)
     (w : IsRewritten p (next_at s p) es s t) where
   same_at : (q : ℕ) → q ≢ p → bytes_at t q ≡ bytes_at s q
-  same_at q d = at_other s t q (w.others q d)
+  same_at q d = bytes_same s t q (w.others q d)
 
   linked_anew : (q : ℕ) → IsEntryPage (bytes_at s q)
       → IsEntryPage (bytes_at t q) × (next_at t q ≡ next_at s q)

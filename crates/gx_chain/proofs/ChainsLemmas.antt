@@ -5,12 +5,12 @@ use Rattle.std.specs.List.{AllPairs, Contains}
 use Rattle.std.specs.FinMap as fin
 use Rattle.std.proofs.lemmas.Bool.{cases_Bool, cases_eq, eqb-true}
 use Rattle.std.proofs.lemmas.List.Elements.{Contains-append_cases, Contains-append_left, Contains-append_right}
+use Rattle.gx_laws.proofs.NumberLemmas.{number_itself}
 use Rattle.gx_ports.specs.LeafMaps.{LeafMap}
 use Rattle.gx_ports.specs.Sheets.{Sheets}
 use Rattle.gx_chain.specs.Chain.{IsOn}
 use Rattle.gx_chain.specs.Chains.{IsOfChain, IsOnChain, pages_below}
 use Rattle.gx_chain.proofs.ListLemmas.{contains_later, contains_none, pairs_head, pairs_tail, pairs_cons}
-use Rattle.gx_chain.proofs.MapLemmas.{equal_itself}
 
 -- ---- a chain by its number
 
@@ -21,7 +21,7 @@ changed pages j now i = cond (i == j) now (pages i)
 pub changed_here : (pages : ℕ → List ℕ) (j : ℕ) (now : List ℕ) (i : ℕ) → i ≡ j
     → changed pages j now i ≡ now
 changed_here pages j now i e =
-    ap (λ (b : Bool). cond b now (pages i)) (ap (λ n. n == j) e ∙ equal_itself j)
+    ap (λ (b : Bool). cond b now (pages i)) (ap (λ n. n == j) e ∙ number_itself j)
 
 pub changed_other : (pages : ℕ → List ℕ) (j : ℕ) (now : List ℕ) (i : ℕ) → i ≢ j
     → changed pages j now i ≡ pages i

@@ -18,7 +18,7 @@ use Rattle.gx_values.specs.Keys.{is_inside}
 use Rattle.gx_ports.specs.declared.leaves.Entry.{Entry as LeafEntry}
 use Rattle.gx_ports.specs.Sheets.{Sheets, Ground}
 use Rattle.gx_ports.specs.Keyed.{key_cmp}
-use Rattle.gx_ports.proofs.KeyLemmas.{same_key}
+use Rattle.gx_ports.proofs.KeyLemmas.{other_key}
 use Rattle.gx_slots.specs.Entries.{Entry, AreDistinct}
 use Rattle.gx_chain.specs.Chain.{entries_at, IsChain, IsOn}
 use Rattle.gx_chain.specs.Collect.{leaf_entry, inside_of, inside_on, entry_cmp, ArePagesApart, AreCollected}
@@ -112,12 +112,6 @@ module _ (lo hi : List ℕ) where
 abbrev Apart : List (List ℕ) → Type 0
 Apart = IsDistinct (eq_by_cmp key_cmp)
 
-different : (k q : List ℕ) → k ≢ q → eq_by_cmp key_cmp k q ≡ false
-different k q d = elim (eq_by_cmp key_cmp k q) as (λ t. eq_by_cmp key_cmp k q ≡ t → t ≡ false) [
-  | true ↦ λ e. absurd (d (same_key k q e))
-  | false ↦ λ _. refl
-] refl
-
 keys_apart : (es : List Entry) → AllPairs (λ a b. a.key ≢ b.key) es
     → Apart (map key_of (map leaf_entry es))
 unfolding IsDistinct
@@ -126,7 +120,7 @@ keys_apart (e ∷ es) once = (
   recursion_from_All (λ k. eq_by_cmp key_cmp e.key k ≡ false) (map key_of (map leaf_entry es))
       (All-map (λ k. eq_by_cmp key_cmp e.key k ≡ false) key_of (map leaf_entry es)
       (All-map (λ (x : LeafEntry). eq_by_cmp key_cmp e.key x.key ≡ false) leaf_entry es
-      (λ i d below. different e.key (get_or es i d).key (once 0 (suc i) d (omega arith) (omega (arith, below)))))),
+      (λ i d below. other_key e.key (get_or es i d).key (once 0 (suc i) d (omega arith) (omega (arith, below)))))),
   keys_apart es
       (λ i j d less below. once (suc i) (suc j) d (omega (arith, less)) (omega (arith, below))),
 )
@@ -139,7 +133,7 @@ apart_joined (k ∷ ks) qs a b off = (
   recursion_from_All (λ q. eq_by_cmp key_cmp k q ≡ false) (ks ++ qs)
       (All-append (λ q. eq_by_cmp key_cmp k q ≡ false) ks qs
       (All-from_recursion (λ q. eq_by_cmp key_cmp k q ≡ false) ks a.0)
-      (λ i d below. different k (get_or qs i d)
+      (λ i d below. other_key k (get_or qs i d)
       (λ same. off k (contains_here k ks) (subst (Contains qs) (sym same) (Contains-get_or qs i d below))))),
   apart_joined ks qs a.1 b (λ q in_ks in_qs. off q (contains_later k q ks in_ks) in_qs),
 )

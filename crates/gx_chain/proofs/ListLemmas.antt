@@ -4,6 +4,7 @@ use Rattle.std.specs.List.{AllPairs, Contains}
 use Rattle.std.proofs.lemmas.Bool.{cases_eq}
 use Rattle.std.proofs.lemmas.List.{get_or_default}
 use Rattle.std.proofs.lemmas.List.Elements.{Contains-append_cases, Contains-append_left, Contains-append_right}
+use Rattle.gx_laws.proofs.NumberLemmas.{below_last}
 
 pub contains_here : {X : Type 0} (x : X) (xs : List X) → Contains (x ∷ xs) x
 contains_here x xs = (0, omega arith, refl)
@@ -149,19 +150,12 @@ take_out x (z ∷ xs) u = elim (cases_eq z x) [
   })
 ]
 
-less_of : (x n : ℕ) → x < suc n → x ≢ n → x < n
-less_of x n b d = omega (arith, b, d)
-
 pub few : (n : ℕ) (xs : List ℕ) → AllPairs (λ a b. a ≢ b) xs → ((x : ℕ) → Contains xs x → x < n)
     → length xs ≤ n
 few zero [] u below = omega arith
 few zero (x ∷ xs) u below = let h = below x (contains_here x xs) in omega (arith, h)
 few (suc n) xs u below =
     let w = take_out n xs u in
-    let h = few n w.rest w.once (λ x i. (let m = w.members x i in less_of x n (below x m.0) m.1)) in
+    let h = few n w.rest w.once (λ x i. (let m = w.members x i in below_last x n (below x m.0) m.1)) in
     let s = w.shorter in
     omega (arith, h, s)
-
-pub no_length : {X : Type 0} (xs : List X) → length xs ≡ 0 → xs ≡ []
-no_length [] e = refl
-no_length (x ∷ xs) e = absurd (omega arith)

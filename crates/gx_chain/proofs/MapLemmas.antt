@@ -6,9 +6,9 @@ use Rattle.std.specs.Option.{unwrap_or}
 use Rattle.std.specs.Cmp.Lexicographic.{nat_list_cmp_total}
 use Rattle.std.specs.FinMap as fin
 use Rattle.std.proofs.lemmas.Bool.{cases_eq, cases_order, eqb-true}
-use Rattle.std.proofs.lemmas.Bool.Decides.{nat_tests}
 use Rattle.std.proofs.lemmas.List.{get_or_default}
 use Rattle.std.proofs.lemmas.Option.{none-some, unwrap_or-slice_get, slice_get_within}
+use Rattle.gx_laws.proofs.NumberLemmas.{number_itself}
 use Rattle.gx_ports.specs.LeafMaps.{LeafMap}
 use Rattle.gx_ports.specs.Sheets.{Sheets}
 use Rattle.gx_ports.specs.Keyed.{key_cmp}
@@ -20,9 +20,6 @@ use Rattle.gx_chain.specs.Map.{has_owner, entries_if_owned, owned_entries, owned
 use Rattle.gx_chain.proofs.FoundLemmas as found
 use Rattle.gx_chain.proofs.ListLemmas.{contains_here, contains_later, contains_cases, contains_none}
 use Rattle.gx_chain.proofs.PutLemmas.{page_distinct}
-
-pub equal_itself : (n : ℕ) → (n == n) ≡ true
-equal_itself n = grind (arith, nat_tests)
 
 -- ---- entries behind others
 
@@ -138,7 +135,7 @@ module _ (owner : ℕ) (s : Sheets) (pages : List ℕ) (some : 1 ≤ owner) (h :
   has_at : (p : ℕ) → slice_get s.owners p ≡ Some owner → has_owner owner s p ≡ true
   has_at p is =
       ap (λ n. n == owner) (sym (unwrap_or-slice_get s.owners p 0) ∙ ap (λ o. unwrap_or o 0) is)
-      ∙ equal_itself owner
+      ∙ number_itself owner
 
   -- what is read stands on the chain
   read_on : (k b : List ℕ) → fin.get (owned_map owner s) k ≡ Some b → IsOn s pages k b

@@ -4,6 +4,7 @@ use Rattle.std.specs.Prelude.{◌==◌, slice_get, Some, IsTrue}
 use Rattle.std.specs.List.{Contains, list_all}
 use Rattle.std.proofs.lemmas.Bool.{cases_eq}
 use Rattle.std.proofs.lemmas.List.{length-replicate}
+use Rattle.gx_laws.proofs.ListLemmas.{unmarked}
 use Rattle.gx_ports.specs.declared.page_view.PageView.{Ghosts}
 use Rattle.gx_ports.specs.PageCalls.{ReadsPages}
 use Rattle.gx_ports.specs.Sheets.{Sheets, Ground}
@@ -15,7 +16,6 @@ use Rattle.gx_chain.specs.Check.{IsVisitedChain, HasUnseenChain, AreUnseen}
 use Rattle.gx_chain.specs.Placed.{HaveBucket, IsPlacedChain, HasPlacedChain, ArePlacedChains}
 use Rattle.gx_chain.proofs.ChainsLemmas.{changed, changed_here, changed_other}
 use Rattle.gx_chain.proofs.PlacedLemmas.{all_placed, placed_all}
-use Rattle.gx_chain.proofs.VisitLemmas.{unmarked}
 
 -- ---- the first chains
 

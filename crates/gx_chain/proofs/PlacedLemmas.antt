@@ -7,11 +7,11 @@ use Rattle.std.specs.Ordering.{eq_by_cmp}
 use Rattle.std.proofs.lemmas.Bool.{cases_Bool, eqb-true, false≢true, or_right}
 use Rattle.std.proofs.lemmas.List.Elements.{All-contains_itself}
 use Rattle.std.proofs.lemmas.List.Sums.{AllPass-from_list_all, list_all-from_AllPass}
+use Rattle.gx_laws.proofs.NumberLemmas.{number_itself}
 use Rattle.gx_ports.specs.Keyed.{key_cmp}
 use Rattle.gx_ports.proofs.KeyLemmas.{same_key, tied}
 use Rattle.gx_chain.specs.Check.{has_key}
 use Rattle.gx_chain.proofs.ListLemmas.{contains_here, contains_later, contains_cases, contains_none}
-use Rattle.gx_chain.proofs.MapLemmas.{equal_itself}
 
 has_from : (keys : List (Vec ℕ)) (key : List ℕ) → has_key keys key ≡ true
     → (v : Vec ℕ) × Contains keys v × (key ≡ v.items)
@@ -45,4 +45,4 @@ module _ (bucket_of : List ℕ → ℕ) (number : ℕ) where
   placed_all keys placed =
       list_all-from_AllPass has_bucket keys
       (λ i d less. let v = get_or keys i d in ap (λ n. n == number) (placed v.items (has_to keys v (All-contains_itself keys i d less)))
-      ∙ equal_itself number)
+      ∙ number_itself number)

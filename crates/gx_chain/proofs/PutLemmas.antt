@@ -8,16 +8,17 @@ use Rattle.std.proofs.lemmas.List.Edits.{length-insert, length-remove}
 use Rattle.std.proofs.lemmas.List.Elements.{Contains-push_cases, Contains-append_left, Contains-push, Contains-get_or}
 use Rattle.std.proofs.lemmas.List.Quantifiers.{all_pairs_push}
 use Rattle.gx_bytes.specs.declared.page.TheConstants.{NONE}
-use Rattle.gx_ports.specs.Sheets.{Sheets, Ground, IsPast, IsClaimed}
+use Rattle.gx_ports.specs.Sheets.{Sheets, Ground, IsPast, IsClaimed, bytes_at}
+use Rattle.gx_ports.proofs.PageLemmas.{bytes_same}
 use Rattle.gx_slots.specs.Entries.{Entry, AreDistinct}
 use Rattle.gx_slots.specs.Page.{IsEntryPage, entries_of, next_of}
 use Rattle.gx_slots.proofs.PageLemmas.{page_of}
-use Rattle.gx_chain.specs.Chain.{bytes_at, entries_at, next_at, AreLinked, IsOn, IsChain}
+use Rattle.gx_chain.specs.Chain.{entries_at, next_at, AreLinked, IsOn, IsChain}
 use Rattle.gx_chain.specs.Changes.{HasKey, IsRewritten, IsTaken, IsAdded, IsAppended, IsPutIn, HasRoomFor, HasRoom}
 use Rattle.gx_chain.specs.Walk.{IsDropped, IsCrowded, IsExchanged, LackKey, HasOld, AreNoted}
 use Rattle.gx_chain.proofs.ListLemmas.{contains_none, contains_cases, pairs_last}
 use Rattle.gx_chain.proofs.EntryLemmas.{less_to, less_from, more_to, more_from, no_entry, entry_there}
-use Rattle.gx_chain.proofs.ChainLemmas.{at_other, linked_page, linked_push, same_on, same_on_back, same_chain, rewritten_chain, rewritten_on}
+use Rattle.gx_chain.proofs.ChainLemmas.{linked_page, linked_push, same_on, same_on_back, same_chain, rewritten_chain, rewritten_on}
 use Rattle.gx_chain.proofs.WriteLemmas.{slice_get_set, slice_get_set_same}
 
 -- the entries of a page of a chain have different keys
@@ -75,7 +76,7 @@ module _ (ground : Ground) (owner first : ℕ) (key : List ℕ) (s t : Sheets) (
             (λ k b c. inl (b, (less_to es taken.place key distinct taken.within taken.there (record { key = k; body = b }) c).1));
         entries = λ k b. (λ o. elim ((on k b).0 o) [ inl never ↦ absurd never | inr r ↦ r ], λ o. (on k b).1 (inr o));
         owners = w.owners;
-        same = λ q lack. at_other s t q
+        same = λ q lack. bytes_same s t q
             (w.others q (λ e. no_entry (entries_at s p) key held.0 (subst (λ n. All (λ (x : Entry). x.key ≢ key) (entries_at s n)) e lack)
             held.1));
         beside = λ q off. w.others q (λ e. off (subst (Contains pages) (sym e) among));
@@ -233,7 +234,7 @@ module _ (ground : Ground) (owner first : ℕ) (s u : Sheets) (pages : List ℕ)
   fresh_off c = let same : owner ≡ 0 = same_Some owner 0 (sym (chain.owned fresh c) ∙ claimed.was_free) in omega (arith, same, some)
 
   pub claimed_same : (q : ℕ) → Contains pages q → bytes_at u q ≡ bytes_at s q
-  claimed_same q c = at_other s u q (claimed.owned.bytes q (chain.past q c).past)
+  claimed_same q c = bytes_same s u q (claimed.owned.bytes q (chain.past q c).past)
 
   pub claimed_chain : IsChain ground owner u first pages
   claimed_chain = same_chain ground owner first s u pages claimed_same
@@ -266,17 +267,17 @@ module _ (ground : Ground) (owner first : ℕ) (s u : Sheets) (pages : List ℕ)
     at_page : (q : ℕ) → Contains pages q → entries_at t q ≡ entries_at v q
     at_page q c = elim (cases_eq q last) [
       | inl e ↦ ap (entries_at t) e ∙ a.hung.entries_are ∙ ap (entries_at v) (sym e)
-      | inr d ↦ ap entries_of (at_other v t q (bytes_stay q d (λ e. fresh_off (subst (Contains pages) e c))))
+      | inr d ↦ ap entries_of (bytes_same v t q (bytes_stay q d (λ e. fresh_off (subst (Contains pages) e c))))
     ]
 
     at_fresh : entries_at t fresh ≡ record { key = key; body = body } ∷ []
     at_fresh =
-        ap entries_of (at_other a.between t fresh (a.hung.others fresh (λ e. last_apart (sym e))))
+        ap entries_of (bytes_same a.between t fresh (a.hung.others fresh (λ e. last_apart (sym e))))
         ∙ a.begun.entries_are
 
     fresh_page : IsEntryPage (bytes_at t fresh) × (next_at t fresh ≡ NONE)
     fresh_page =
-        let same = at_other a.between t fresh (a.hung.others fresh (λ e. last_apart (sym e))) in
+        let same = bytes_same a.between t fresh (a.hung.others fresh (λ e. last_apart (sym e))) in
         (subst IsEntryPage (sym same) a.begun.is_page, ap next_of same ∙ a.begun.next_is)
 
     to_old : (q : ℕ) (e : Entry) → Contains pages q → Contains (entries_at t q) e
@@ -308,7 +309,7 @@ module _ (ground : Ground) (owner first : ℕ) (s u : Sheets) (pages : List ℕ)
           (subst (AllPairs (λ a b. a ≢ b)) ended chain.once) (subst (Contains front) e c) in
           let new : q ≢ fresh = λ e. fresh_off
           (subst (Contains pages) e (subst (λ (x : List ℕ). Contains x q) (sym ended) (Contains-append_left front (last ∷ []) q c))) in
-          let same = at_other v t q (bytes_stay q off new) in
+          let same = bytes_same v t q (bytes_stay q off new) in
           (subst IsEntryPage (sym same) page, ap next_of same)))
           a.hung.is_page a.hung.next_is fresh_page.0 fresh_page.1
           (subst (AreLinked v first) ended d.chain.linked));

@@ -4,15 +4,16 @@ use Rattle.std.specs.Prelude.{slice_get}
 use Rattle.std.specs.List.{AllPairs, Contains, HoldsAt, remove}
 use Rattle.std.proofs.lemmas.Bool.{cases_eq}
 use Rattle.std.proofs.lemmas.List.Elements.{Contains-push, Contains-append_left, Contains-append_right}
-use Rattle.gx_ports.specs.Sheets.{Sheets, Ground}
+use Rattle.gx_ports.specs.Sheets.{Sheets, Ground, bytes_at}
+use Rattle.gx_ports.proofs.PageLemmas.{bytes_same}
 use Rattle.gx_slots.specs.Entries.{Entry}
 use Rattle.gx_slots.specs.Page.{IsEntryPage, entries_of, next_of}
-use Rattle.gx_chain.specs.Chain.{bytes_at, entries_at, next_at, AreLinked, IsChain}
+use Rattle.gx_chain.specs.Chain.{entries_at, next_at, AreLinked, IsChain}
 use Rattle.gx_chain.specs.Changes.{IsUnlinked, IsRemovedFrom}
 use Rattle.gx_chain.specs.Walk.{IsDropped}
 use Rattle.gx_chain.proofs.ListLemmas.{contains_here, contains_later, contains_none, contains_middle, pairs_last, pairs_front, pairs_across, without_to, without_from, without_once, without_off}
 use Rattle.gx_chain.proofs.EntryLemmas.{less_from, entry_there}
-use Rattle.gx_chain.proofs.ChainLemmas.{at_other, relink, linked_page}
+use Rattle.gx_chain.proofs.ChainLemmas.{relink, linked_page}
 use Rattle.gx_chain.proofs.PutLemmas.{page_distinct}
 use Rattle.gx_chain.proofs.WriteLemmas.{slice_get_set, slice_get_set_same}
 
@@ -87,10 +88,10 @@ module _ (ground : Ground) (owner first : ℕ) (key : List ℕ) (s t : Sheets)
 
   same_page : (r : ℕ) → Contains ((others ++ q ∷ []) ++ rest) r → r ≢ q
       → bytes_at t r ≡ bytes_at s r
-  same_page r c d = at_other s t r (bytes_stay r (chain.past r (old_in r c)).past d)
+  same_page r c d = bytes_same s t r (bytes_stay r (chain.past r (old_in r c)).past d)
 
   hung_page : bytes_at t q ≡ bytes_at u.between q
-  hung_page = at_other u.between t q (u.freed.bytes q (chain.past q (old_in q q_in)).past)
+  hung_page = bytes_same u.between t q (u.freed.bytes q (chain.past q (old_in q q_in)).past)
 
   at_page : (r : ℕ) → Contains ((others ++ q ∷ []) ++ rest) r → entries_at t r ≡ entries_at s r
   at_page r c = elim (cases_eq r q) [

@@ -9,13 +9,13 @@ use Rattle.std.specs.Cmp.Lexicographic.{nat_list_cmp_total}
 use Rattle.std.specs.FinMap as fin
 use Rattle.std.specs.FinMap.Entries.{below_all, where_key, find-where_key, is_sorted-where_key, same_entries}
 use Rattle.std.proofs.lemmas.Option.{none-some}
+use Rattle.gx_laws.proofs.BoolLemmas.{both_true}
 use Rattle.gx_values.specs.Keys.{is_inside}
 use Rattle.gx_ports.specs.declared.leaves.Entry.{Entry as LeafEntry}
 use Rattle.gx_ports.specs.LeafMaps.{LeafMap, entry_of, selected}
 use Rattle.gx_ports.specs.Sheets.{Sheets}
 use Rattle.gx_ports.specs.Keyed.{key_cmp}
 use Rattle.gx_ports.proofs.KeyLemmas.{only_equal}
-use Rattle.gx_ports.proofs.KeyedLemmas.{both_of}
 use Rattle.gx_chain.specs.Chain.{IsOn}
 use Rattle.gx_chain.specs.Collect.{AreCollected}
 use Rattle.gx_chain.proofs.FoundLemmas as found
@@ -34,14 +34,14 @@ below_pairs : (k : List ℕ) (es : List LeafEntry)
     → T (below_all key_cmp k (pairs es))
 below_pairs k [] all = tt
 below_pairs k (e ∷ es) all =
-    both_of _ _ (subst (λ r. T (is_lt r)) (sym all.0) tt) (below_pairs k es all.1)
+    both_true _ _ (subst (λ r. T (is_lt r)) (sym all.0) tt) (below_pairs k es all.1)
 
 sorted_pairs : (es : List LeafEntry)
     → IsStrictlySortedBy key_cmp (map (λ (e : LeafEntry). e.key) es)
     → T (fin.is_sorted key_cmp (pairs es))
 unfolding IsStrictlySortedBy
 sorted_pairs [] up = tt
-sorted_pairs (e ∷ es) up = both_of _ _ (below_pairs e.key es up.0) (sorted_pairs es up.1)
+sorted_pairs (e ∷ es) up = both_true _ _ (below_pairs e.key es up.0) (sorted_pairs es up.1)
 
 -- what is found is an entry
 found_from : (es : List LeafEntry) (k b : List ℕ) → fin.find key_cmp k (pairs es) ≡ Some b

@@ -1,5 +1,5 @@
 -- The pages of a chain that is checked, visited one after the other.
-use Rattle.std.proofs.Common.{◌≡◌, ◌≢◌, inl, inr, ℕ, zero, suc, ◌+◌, ◌<◌, ◌≤◌, Bool, true, false, List, [], ◌∷◌, ◌++◌, length, get_or, replicate, set, Some, refl, sym, ap, subst, ◌∙◌, arith, length-append}
+use Rattle.std.proofs.Common.{◌≡◌, ◌≢◌, inl, inr, ℕ, ◌+◌, ◌<◌, ◌≤◌, Bool, true, false, List, [], ◌∷◌, ◌++◌, length, get_or, replicate, set, Some, refl, sym, ap, subst, ◌∙◌, arith, length-append}
 use Rattle.std.specs.Prelude.{slice_get, IsTrue}
 use Rattle.std.specs.Global.{Vec}
 use Rattle.std.specs.List.{AllPairs, Contains}
@@ -7,14 +7,15 @@ use Rattle.std.proofs.lemmas.Bool.{cases_eq, false≢true}
 use Rattle.std.proofs.lemmas.List.{get_or_default}
 use Rattle.std.proofs.lemmas.List.Elements.{Contains-push_cases, Contains-append_left, Contains-push}
 use Rattle.std.proofs.lemmas.List.Quantifiers.{all_pairs_push}
-use Rattle.std.proofs.lemmas.Option.{none-some, same_Some, slice_get-get_or}
+use Rattle.std.proofs.lemmas.Option.{slice_get-get_or}
+use Rattle.gx_laws.proofs.ListLemmas.{unmarked}
 use Rattle.gx_bytes.specs.declared.page.TheConstants.{NONE}
 use Rattle.gx_ports.specs.declared.page_view.PageView.{Ghosts}
 use Rattle.gx_ports.specs.PageCalls.{ReadsPages}
-use Rattle.gx_ports.specs.Sheets.{Sheets, Ground, IsPast}
+use Rattle.gx_ports.specs.Sheets.{Sheets, Ground, IsPast, bytes_at}
 use Rattle.gx_slots.specs.Page.{IsEntryPage, next_of}
 use Rattle.gx_chain.specs.declared.check.Visits.{Visits}
-use Rattle.gx_chain.specs.Chain.{bytes_at, entries_at, next_at, AreLinked, IsChain}
+use Rattle.gx_chain.specs.Chain.{entries_at, next_at, AreLinked, IsChain}
 use Rattle.gx_chain.specs.Check.{IsWholeChain, HasWholeChain, has_key, HasAddedKeys, SharesKey, AreVisited, IsNext, IsVisitedChain, HasUnseenChain}
 use Rattle.gx_seen.specs.Seen.{IsUnseen, AreAllSeen}
 use Rattle.gx_chain.proofs.ChainLemmas.{linked_page}
@@ -23,11 +24,6 @@ use Rattle.gx_chain.proofs.WalkLemmas.{IsAtHand, is_some_page}
 use Rattle.gx_chain.proofs.WriteLemmas.{slice_get_set, slice_get_set_same}
 
 -- ---- a page more
-
-pub unmarked : (n q : ℕ) → slice_get (replicate n false) q ≢ Some true
-unmarked zero q is = none-some true is
-unmarked (suc n) zero is = false≢true (same_Some false true is)
-unmarked (suc n) (suc q) is = unmarked n q is
 
 pub visited_none : (ground : Ground) (owner : ℕ) (sheets : Sheets) (first : ℕ) (before : List Bool)
     (visits : Visits) → visits.seen.items ≡ before → visits.keys.keys ≡ []

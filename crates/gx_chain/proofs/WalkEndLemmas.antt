@@ -1,16 +1,16 @@
 -- How calls end that walk along a chain, where they don't come to its end.
-use Rattle.std.proofs.Common.{◌≡◌, ℕ, ◌<◌, ◌≤◌, List, Result, Err, sym, subst, ◌∙◌, arith}
+use Rattle.std.proofs.Common.{◌≡◌, ℕ, ◌≤◌, List, Result, Err, sym, subst, ◌∙◌, arith}
 use Rattle.std.specs.Prelude.{IsTrue}
 use Rattle.std.specs.Result.{IsErrAnd}
 use Rattle.gx_ports.specs.declared.page_view.PageView.{Ghosts}
 use Rattle.gx_ports.specs.declared.stop.Stop.{Stop}
 use Rattle.gx_ports.specs.declared.stop.Stop.TheVariants as stop
-use Rattle.gx_ports.specs.Sheets.{IsHome}
+use Rattle.gx_ports.specs.Sheets.{IsHome, bytes_at}
 use Rattle.gx_ports.specs.Files.{EndsFile}
 use Rattle.gx_ports.specs.PageCalls.{ReadsPages}
 use Rattle.gx_ports.proofs.PageLemmas.{read_pages_joined, ends_handed_on}
 use Rattle.gx_slots.specs.Page.{IsEntryPage}
-use Rattle.gx_chain.specs.Chain.{bytes_at, next_at, IsChain, HasChain, IsEntryAt, LeadsOn}
+use Rattle.gx_chain.specs.Chain.{next_at, IsChain, HasChain, IsEntryAt, LeadsOn}
 use Rattle.gx_chain.proofs.WalkLemmas.{IsAtHand, hand_ends, hand_leads}
 
 -- a walk reads pages alone, and the next one is at hand on each chain that begins there

@@ -6,13 +6,13 @@ use Rattle.std.proofs.lemmas.List.Elements.{Contains-push_cases, Contains-append
 use Rattle.gx_bytes.specs.declared.page.TheConstants.{NONE}
 use Rattle.gx_ports.specs.declared.page_view.PageView.{Ghosts}
 use Rattle.gx_ports.specs.PageCalls.{ReadsPages}
-use Rattle.gx_ports.specs.Sheets.{Sheets, Ground, IsPast}
+use Rattle.gx_ports.specs.Sheets.{Sheets, Ground, IsPast, bytes_at}
 use Rattle.gx_slots.specs.Entries.{Entry}
 use Rattle.gx_slots.specs.Page.{IsEntryPage}
 use Rattle.gx_chain.specs.declared.walk.Trial.{Trial}
 use Rattle.gx_chain.specs.declared.walk.Trial.TheVariants.{Replaced, Crowded, Room, Other}
 use Rattle.gx_chain.specs.declared.walk.Away.{Away}
-use Rattle.gx_chain.specs.Chain.{bytes_at, entries_at, next_at, AreLinked, IsChain, LeadsOn}
+use Rattle.gx_chain.specs.Chain.{entries_at, next_at, AreLinked, IsChain, LeadsOn}
 use Rattle.gx_chain.specs.Changes.{HasRoomFor}
 use Rattle.gx_chain.specs.Seek.{IsPrevious}
 use Rattle.gx_chain.specs.Walk.{IsTrial, IsCrowded, IsAwayPast, AreNoted, LackKey, noted}

@@ -2,10 +2,9 @@
 use Rattle.std.proofs.Common.{◌≡◌, ◌≢◌, ℕ, zero, suc, ◌<◌, List, [], ◌∷◌, length, set, Some, refl, sym, ap, subst, ◌∙◌}
 use Rattle.std.specs.Prelude.{slice_get}
 use Rattle.std.proofs.lemmas.List.{get_or-set_same}
-use Rattle.gx_ports.specs.Sheets.{Sheets}
+use Rattle.gx_ports.specs.Sheets.{Sheets, bytes_at}
 use Rattle.gx_slots.specs.Entries.{Entry}
 use Rattle.gx_slots.specs.Page.{IsEntryPage, entries_of, next_of}
-use Rattle.gx_chain.specs.Chain.{bytes_at}
 use Rattle.gx_chain.specs.Changes.{IsRewritten}
 
 pub slice_get_set : {A : Type 0} (xs : List A) (i j : ℕ) (x : A) → j ≢ i

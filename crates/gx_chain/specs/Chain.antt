@@ -1,15 +1,11 @@
 -- Chains of entry pages.
-use Rattle.std.specs.Prelude.{◌≡◌, ◌≢◌, ◌⊎◌, ℕ, List, [], ◌∷◌, slice_get, slice_index_or, Option, Some, MatchOption, IsTrue}
+use Rattle.std.specs.Prelude.{◌≡◌, ◌≢◌, ◌⊎◌, ℕ, List, [], ◌∷◌, slice_get, Option, Some, MatchOption, IsTrue}
 use Rattle.std.specs.List.{AllPairs, Contains}
 use Rattle.gx_ports.specs.declared.page_view.PageView.{Ghosts}
-use Rattle.gx_ports.specs.Sheets.{Sheets, Ground, IsPast}
+use Rattle.gx_ports.specs.Sheets.{Sheets, Ground, IsPast, bytes_at}
 use Rattle.gx_bytes.specs.declared.page.TheConstants.{NONE}
 use Rattle.gx_slots.specs.Entries.{Entry}
 use Rattle.gx_slots.specs.Page.{IsEntryPage, entries_of, next_of}
-
--- the bytes of a page
-abbrev pub bytes_at : Sheets → ℕ → List ℕ
-bytes_at sheets page = slice_index_or sheets.bytes page []
 
 -- the entries of an entry page
 abbrev pub entries_at : Sheets → ℕ → List Entry

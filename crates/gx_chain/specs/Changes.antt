@@ -4,10 +4,10 @@ use Rattle.std.specs.List.{All, Contains, HoldsAt, insert, remove}
 use Rattle.gx_bytes.specs.declared.page.TheConstants.{NONE}
 use Rattle.gx_ports.specs.declared.pages.TheConstants.{PAGE_LEN}
 use Rattle.gx_ports.specs.declared.page_view.PageView.{Ghosts}
-use Rattle.gx_ports.specs.Sheets.{Sheets, Ground, IsClaimed, IsOwnedAnew}
+use Rattle.gx_ports.specs.Sheets.{Sheets, Ground, IsClaimed, IsOwnedAnew, bytes_at}
 use Rattle.gx_slots.specs.Entries.{Entry}
 use Rattle.gx_slots.specs.Page.{IsEntryPage, used_by}
-use Rattle.gx_chain.specs.Chain.{bytes_at, entries_at, next_at, IsChain, IsOn}
+use Rattle.gx_chain.specs.Chain.{entries_at, next_at, IsChain, IsOn}
 
 -- a page was written anew, as an entry page with these entries and this next page
 pub record IsRewritten (page next : ℕ) (entries : List Entry) (old new : Sheets) : Type 0 where

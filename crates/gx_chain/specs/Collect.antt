@@ -6,11 +6,11 @@ use Rattle.std.specs.Ordering.{is_lt}
 use Rattle.std.specs.declared.cmp.Ordering.{Ordering}
 use Rattle.gx_values.specs.Keys.{is_inside}
 use Rattle.gx_ports.specs.declared.leaves.Entry.{Entry as LeafEntry}
-use Rattle.gx_ports.specs.Sheets.{Sheets}
+use Rattle.gx_ports.specs.Sheets.{Sheets, bytes_at}
 use Rattle.gx_ports.specs.Keyed.{key_cmp}
 use Rattle.gx_slots.specs.Entries.{Entry}
 use Rattle.gx_slots.specs.Page.{IsEntryPage}
-use Rattle.gx_chain.specs.Chain.{bytes_at, entries_at, IsOn}
+use Rattle.gx_chain.specs.Chain.{entries_at, IsOn}
 
 -- an entry of a page, as one of a leaf
 abbrev pub leaf_entry : Entry → LeafEntry

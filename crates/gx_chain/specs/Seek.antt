@@ -1,10 +1,10 @@
 -- Where an entry stands on a chain.
 use Rattle.std.specs.Prelude.{◌≡◌, ℕ, ◌<◌, List, [], ◌∷◌, ◌++◌, length, Option, MatchOption}
 use Rattle.std.specs.List.{HoldsAt}
-use Rattle.gx_ports.specs.Sheets.{Sheets, Ground, IsPast}
+use Rattle.gx_ports.specs.Sheets.{Sheets, Ground, IsPast, bytes_at}
 use Rattle.gx_slots.specs.Page.{IsEntryPage, entries_of}
 use Rattle.gx_chain.specs.declared.seek.Found.{Found}
-use Rattle.gx_chain.specs.Chain.{bytes_at, entries_at}
+use Rattle.gx_chain.specs.Chain.{entries_at}
 use Rattle.gx_chain.specs.Walk.{LackKey}
 
 -- the last of the pages before one, if there are any

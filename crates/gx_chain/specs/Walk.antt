@@ -2,7 +2,7 @@
 use Rattle.std.specs.Prelude.{◌≡◌, ◌≢◌, ◌↔◌, ℕ, ◌<◌, List, [], ◌∷◌, ◌++◌, length, slice_get, Option, Some, is_some, if◌then◌else◌, IsTrue, MatchOption}
 use Rattle.std.specs.List.{All, Contains, HoldsAt, insert, remove}
 use Rattle.gx_ports.specs.declared.page_view.PageView.{Ghosts}
-use Rattle.gx_ports.specs.Sheets.{Sheets, Ground, IsPast}
+use Rattle.gx_ports.specs.Sheets.{Sheets, Ground, IsPast, bytes_at}
 use Rattle.gx_slots.specs.Entries.{Entry}
 use Rattle.gx_slots.specs.Page.{IsEntryPage, entries_of, next_of}
 use Rattle.gx_chain.specs.declared.walk.Trial.{Trial}
@@ -10,7 +10,7 @@ use Rattle.gx_chain.specs.declared.walk.Trial.TheVariants.{Replaced, Crowded, Ro
 use Rattle.gx_chain.specs.declared.walk.Away.{Away}
 use Rattle.gx_chain.specs.declared.walk.Spot.{Spot}
 use Rattle.gx_chain.specs.declared.walk.Spot.TheVariants as spot
-use Rattle.gx_chain.specs.Chain.{bytes_at, entries_at, next_at, IsChain, IsOn}
+use Rattle.gx_chain.specs.Chain.{entries_at, next_at, IsChain, IsOn}
 use Rattle.gx_chain.specs.Changes.{HasRoomFor}
 
 -- the entry with the key has another body

@@ -4,9 +4,8 @@ ghost use Rattle.std.specs.Bool.{OnTrue, OnFalse};
 ghost use Rattle.gx_ports.specs.declared.pages.TheConstants.{PAGE_LEN};
 ghost use Rattle.gx_ports.specs.Files.{EndsFile};
 ghost use Rattle.gx_ports.specs.PageCalls.{ReadsPages};
-ghost use Rattle.gx_ports.specs.Sheets.{IsPast};
+ghost use Rattle.gx_ports.specs.Sheets.{IsPast, bytes_at};
 ghost use Rattle.gx_slots.specs.Page.{IsEntryPage, entries_of};
-ghost use Rattle.gx_chain.specs.Chain.{bytes_at};
 ghost use Rattle.gx_chain.specs.Check.{IsWholeChain, HasWholeChain, HasAddedKeys, SharesKey, AreVisited, IsNext, IsVisitedChain, HasUnseenChain};
 
 use crate::read::{behind, read_entries};

@@ -3,9 +3,9 @@ ghost use Rattle.std.specs.Prelude.{◌≡◌, length, IsTrue, OnOk, IfOk, IsErr
 ghost use Rattle.gx_ports.specs.declared.pages.TheConstants.{PAGE_LEN};
 ghost use Rattle.gx_ports.specs.Files.{EndsFile};
 ghost use Rattle.gx_ports.specs.PageCalls.{ReadsPages};
-ghost use Rattle.gx_ports.specs.Sheets.{IsPast};
+ghost use Rattle.gx_ports.specs.Sheets.{IsPast, bytes_at};
 ghost use Rattle.gx_slots.specs.Page.{IsEntryPage, next_of};
-ghost use Rattle.gx_chain.specs.Chain.{bytes_at, IsEntryAt, IsBehind, LeadsOn};
+ghost use Rattle.gx_chain.specs.Chain.{IsEntryAt, IsBehind, LeadsOn};
 
 use gx_bytes::{has_kind, page_number};
 use gx_ports::{PAGE_LEN, Pages, Stop};

@@ -1,4 +1,5 @@
-pub mod WordLaws
-pub mod CuttingLaws
-pub mod LineLaws
 pub mod BareLaws
+pub mod CuttingLaws
+pub mod LineCounts
+pub mod LineLaws
+pub mod WordLaws

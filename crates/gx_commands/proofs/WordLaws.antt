@@ -3,20 +3,18 @@ use Rattle.std.proofs.Common.{◌≡◌, ℕ, suc, ◌+◌, ◌<◌, Bool, true,
 use Rattle.std.specs.List.{prefix_len, AllByRecursion}
 use Rattle.std.proofs.lemmas.Bool.{cond_both, eqb-true, eqb-false, ne_eqb}
 use Rattle.std.proofs.lemmas.List.{take_at, drop_at, take-append-drop, length-append}
+use Rattle.std.proofs.lemmas.Option.{same_Some}
 use Rattle.gx_tokens.specs.declared.fault.Fault.{Fault}
-use Rattle.gx_tokens.specs.Lexemes.{Lexeme, split_quoted, token_or, token_here}
+use Rattle.gx_tokens.specs.Lexemes.{Lexeme, split_quoted, token_or}
 use Rattle.gx_tokens.specs.Lexemes as lexemes
-use Rattle.gx_tokens.specs.Spelling.{IsQuoted, NoQuote, Begins}
-use Rattle.gx_tokens.proofs.TokenFound.{ok_is, found_here}
-use Rattle.gx_tokens.proofs.TokenAgain.{here_again}
+use Rattle.gx_tokens.specs.Spelling.{NoQuote, Begins}
+use Rattle.gx_tokens.proofs.TokenFound.{found_here, done_is}
+use Rattle.gx_tokens.proofs.TokenAgain.{quoted_again}
 use Rattle.gx_commands.specs.Words.{Word, Bare, Quoted, is_blank, after_blanks, spelling, IsWord, EndsWord, FirstWord}
 use Rattle.gx_commands.specs.Cutting.{ends_word, quoted_word, split_word, first_word}
 
 abbrev pub is_inside : ℕ → Bool
 is_inside b = not (is_blank b)
-
-some_is : {A : Type 0} (x y : A) → Some x ≡ Some y → x ≡ y
-some_is x y e = cc
 
 -- ---- blanks
 
@@ -70,14 +68,11 @@ spelled o left = token_or lexemes.Quoted left o
 split_is : (o : Option (List ℕ × List ℕ)) (left : ℕ) (text rest : List ℕ) → spelled o left ≡ Ok (lexemes.Quoted text, rest) → o ≡ Some (text, rest)
 split_is None left text rest e = absurd cc
 split_is (Some x) left text rest e =
-    let p = ok_is (lexemes.Quoted x.0, x.1) (lexemes.Quoted text, rest) e in
+    let p = done_is (lexemes.Quoted x.0, x.1) (lexemes.Quoted text, rest) e in
     let q : lexemes.Quoted x.0 ≡ lexemes.Quoted text = ap (λ (z : Lexeme × List ℕ). z.0) p in
     let front : x.0 ≡ text = cc in
     let back : x.1 ≡ rest = ap (λ (z : Lexeme × List ℕ). z.1) p in
     ap (λ (t : List ℕ). Some (t, x.1)) front ∙ ap (λ (t : List ℕ). Some (text, t)) back
-
-pub quoted_again : (text rest : List ℕ) → IsQuoted false text → NoQuote rest → split_quoted ((text ++ 34 ∷ []) ++ rest) ≡ Some (text, rest)
-quoted_again text rest q free = split_is (split_quoted ((text ++ 34 ∷ []) ++ rest)) (length (34 ∷ ((text ++ 34 ∷ []) ++ rest))) text rest (here_again (lexemes.Quoted text) rest q free)
 
 pub quoted_found : (bs text rest : List ℕ) → split_quoted bs ≡ Some (text, rest) → Begins (34 ∷ bs) (lexemes.Quoted text) rest
 quoted_found bs text rest e = found_here (34 ∷ bs) (lexemes.Quoted text, rest) (ap (λ (o : Option (List ℕ × List ℕ)). spelled o (length (34 ∷ bs))) e)
@@ -144,7 +139,7 @@ quoted_split b bs (Some y) x is e h =
     cond_both (ends_word y.1) (Some (Quoted y.0, y.1)) None (λ (r : Option (Word × List ℕ)). r ≡ Some x → Splits (b ∷ bs) x)
     (λ ends k.
     let q = quoted_found bs y.0 y.1 e in
-    subst (Splits (b ∷ bs)) (some_is (Quoted y.0, y.1) x k) (record { parts = ap (λ (n : ℕ). n ∷ bs) is ∙ q.parts; is_word = q.is_token; ends = ends_is y.1 ends }))
+    subst (Splits (b ∷ bs)) (same_Some (Quoted y.0, y.1) x k) (record { parts = ap (λ (n : ℕ). n ∷ bs) is ∙ q.parts; is_word = q.is_token; ends = ends_is y.1 ends }))
     (λ _ k. absurd cc)
     h
 
@@ -154,7 +149,7 @@ split_found (b ∷ bs) x free e =
     let bare : Word × List ℕ = (Bare (take (prefix_len is_inside (b ∷ bs)) (b ∷ bs)), drop (prefix_len is_inside (b ∷ bs)) (b ∷ bs)) in
     cond_both (eqb b 34) (quoted_word (split_quoted bs)) (Some bare) (λ (r : Option (Word × List ℕ)). r ≡ Some x → Splits (b ∷ bs) x)
     (λ is h. quoted_split b bs (split_quoted bs) x (eqb-true b 34 is) refl h)
-    (λ other h. subst (Splits (b ∷ bs)) (some_is bare x h) (bare_split b bs other free))
+    (λ other h. subst (Splits (b ∷ bs)) (same_Some bare x h) (bare_split b bs other free))
     e
 
 pub first_found : (line : List ℕ) (x : Word × List ℕ) → first_word line ≡ Some x → FirstWord line x.0 x.1

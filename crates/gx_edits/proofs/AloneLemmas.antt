@@ -6,27 +6,31 @@ use Rattle.std.specs.FinMap as fin
 use Rattle.std.proofs.lemmas.Bool.{true≢false}
 use Rattle.std.specs.Ordering.{is_eq, eq_by_cmp}
 use Rattle.std.specs.Cmp.Lexicographic.{nat_list_cmp_total}
+use Rattle.std.proofs.lemmas.Option.{same_Some}
 use Rattle.gx_values.specs.declared.records.Rec.{Rec}
 use Rattle.gx_values.specs.declared.values.Value.{Value}
 use Rattle.gx_values.specs.Values.{value_cmp, Fits}
 use Rattle.gx_values.specs.Keys.{bytes_of, key_of, is_inside}
-use Rattle.gx_values.proofs.OrderLemmas.{inside_one, key_order, value_cmp_same}
+use Rattle.gx_values.proofs.OrderLemmas.{inside_one, key_order, value_cmp_same, same_value, value_itself}
 use Rattle.gx_schema.specs.declared.schema.FileDef.{FileDef}
 use Rattle.gx_schema.specs.Lookups.{key_kind}
 use Rattle.gx_ports.specs.declared.leaves.Entry.{Entry}
 use Rattle.gx_ports.specs.LeafMaps.{LeafMap, map_at, entry_of, selected, with_entry, without_entry}
+use Rattle.gx_ports.proofs.KeyLemmas.{key_cases}
 use Rattle.gx_mapping.specs.Rule.{In, IsOf}
+use Rattle.gx_mapping.proofs.RuleLemmas.{all_in}
 use Rattle.gx_stack.specs.declared.entries.LeafEntry.{LeafEntry}
 use Rattle.gx_stack.specs.Tree.{Tree, IsValid, leaves_of, tree_form, entries_of}
 use Rattle.gx_stack.specs.Internal.{IsSet, IsInternal, IsUnion, IsChange, IfThere, SomeAt, changed, without, with_one, at, entries_if, remove_entries, put_entries}
 use Rattle.gx_stack.proofs.Children.{union_from_internal, internal_from_union}
-use Rattle.gx_stack.proofs.Maps.{key_cases, place_cases, removed_elsewhere, removed_here, put_elsewhere, put_here, length_removed}
+use Rattle.gx_stack.proofs.Maps.{place_cases, removed_elsewhere, removed_here, put_elsewhere, put_here, length_removed}
 use Rattle.gx_stack.proofs.Unique.{entry_leaf, entries_apart, entries_once}
 use Rattle.gx_stack.proofs.Without.{from_without, to_without}
-use Rattle.gx_gather.proofs.Lists.{from_each, in_each, none_some, some_same, all_at, in_filter, filter_in}
+use Rattle.gx_gather.proofs.Lists.{from_each, in_each, none_some, in_filter, filter_in}
+use Rattle.gx_gather.proofs.Entries.{find_in, in_find}
 use Rattle.gx_model.specs.States.{File, IsRowOf}
 use Rattle.gx_scan.specs.Files.{rec_of, records_of, IsStorable, IsTreeFor, IsInternal as IsStored}
-use Rattle.gx_scan.proofs.FileLemmas.{same_value, value_itself, find_in, in_find, there_in, in_there}
+use Rattle.gx_scan.proofs.FileLemmas.{there_in, in_there}
 use Rattle.gx_types.specs.declared.any.AnyMapping.{AnyMapping}
 use Rattle.gx_types.specs.Any.{any_rule, any_laws}
 use Rattle.gx_entries.specs.Entries.{IsOnlyLeaf}
@@ -148,7 +152,7 @@ module _ (t : Tree AnyMapping) (n : ℕ) (own : HasOwn t n) (valid : IsValid any
             let e_is : x.0 ≡ e = λ i. record {
               leaf = x.2.0 i;
               key = x.2.1 i;
-              body = some_same
+              body = same_Some
                   x.0.body e.body same i;
             } in
             subst (λ (y : LeafEntry). In y come) e_is x.1)
@@ -292,7 +296,7 @@ module _ (file : FileDef) (t : Tree AnyMapping) (n k : ℕ) (maps : List LeafMap
 
   fits_of : (q : Value) (values : List Value) → fin.get f q ≡ Some values → Fits (key_kind file) q
   fits_of q values found =
-      (all_at (IsRowOf file) (fin.entries f) (q, values) is.fit
+      (all_in (IsRowOf file) (fin.entries f) (q, values) is.fit
       (find_in value_cmp_same q values (fin.entries f) (sym (fin.get-entries f q) ∙ found))).0
 
   within_is : (q : Value) → Fits (key_kind file) q

@@ -1,5 +1,5 @@
 -- What changes of one record do to the records of a file.
-use Rattle.std.proofs.Common.{[], ◌≡◌, List, ◌∷◌, ◌⊎◌, cond, true, false, Some, None, inl, inr, refl, sym, ap, subst, ◌∙◌}
+use Rattle.std.proofs.Common.{[], ◌≡◌, List, ◌∷◌, ◌⊎◌, cond, Some, None, inl, inr, refl, sym, ap, subst, ◌∙◌}
 use Rattle.std.specs.Prelude.{not, ◌≢◌}
 use Rattle.std.specs.List.{AllByRecursion}
 use Rattle.std.specs.Ordering.{eq_by_cmp}
@@ -7,24 +7,26 @@ use Rattle.std.specs.declared.cmp.Ordering.TheVariants.{Less, Equal, Greater}
 use Rattle.std.specs.FinMap as fin
 use Rattle.std.specs.FinMap.Entries.{by_order}
 use Rattle.std.proofs.lemmas.Bool.{true≢false, not-true, not_from_false}
+use Rattle.std.proofs.lemmas.Option.{same_Some}
 use Rattle.gx_values.specs.declared.values.Value.{Value}
 use Rattle.gx_values.specs.declared.records.Rec.{Rec}
 use Rattle.gx_values.specs.Values.{value_cmp, values_cmp, Fits, AreFit}
-use Rattle.gx_values.proofs.OrderLemmas.{value_cmp_total}
+use Rattle.gx_values.proofs.OrderLemmas.{value_cmp_total, value_itself, other_value, value_cases}
 use Rattle.gx_schema.specs.declared.schema.FileDef.{FileDef}
 use Rattle.gx_schema.specs.Lookups.{key_kind, data_fields}
 use Rattle.gx_ports.specs.LeafMaps.{LeafMap}
 use Rattle.gx_mapping.specs.Rule.{In}
+use Rattle.gx_mapping.proofs.RuleLemmas.{all_in}
 use Rattle.gx_stack.specs.Tree.{Tree, IsValid}
 use Rattle.gx_stack.specs.Internal.{IsChange, changed, has_key_of, IsInternal as IsHeld}
-use Rattle.gx_gather.proofs.Lists.{in_map, from_map, in_filter, filter_in, all_at, some_same, none_some}
+use Rattle.gx_gather.proofs.Lists.{in_map, from_map, in_filter, filter_in, none_some}
 use Rattle.gx_gather.proofs.Orders.{values_itself, values_other}
 use Rattle.gx_stack.proofs.Same.{internal_of_members}
 use Rattle.gx_types.specs.declared.any.AnyMapping.{AnyMapping}
 use Rattle.gx_types.specs.Any.{any_rule}
 use Rattle.gx_model.specs.States.{File, Row, IsRowOf, IsFileOf}
 use Rattle.gx_scan.specs.Files.{rec_of, records_of}
-use Rattle.gx_scan.proofs.FileLemmas.{value_itself, other_value, value_cases, one_key, in_there, there_in, IsThere}
+use Rattle.gx_scan.proofs.FileLemmas.{one_key, in_there, there_in, IsThere}
 
 -- ---- changes of one record
 
@@ -58,7 +60,7 @@ from_inserted f k vs q h = go (in_there (fin.insert f k vs) q h)
           (fin.get-insert value_cmp_total f k vs a.key
           ∙ ap (λ x. cond (eq_by_cmp value_cmp x k) (Some vs) (fin.get f x)) e
           ∙ ap (λ b. cond b (Some vs) (fin.get f k)) (value_itself k)) ∙ a.found in
-          inl (a.is ∙ (λ i. rec_of (e i, sym (some_same vs a.values got) i))))
+          inl (a.is ∙ (λ i. rec_of (e i, sym (same_Some vs a.values got) i))))
       | inr ne ↦ (
           let got : fin.get f a.key ≡ Some a.values = sym
           (fin.get-insert value_cmp_total f k vs a.key
@@ -188,7 +190,7 @@ rows_fit : (file : FileDef) (rs all : List Row) → ((r : Row) → In r rs → I
     → AllByRecursion (IsRowOf file) all → AllByRecursion (IsRowOf file) rs
 rows_fit file [] all to fit = tt
 rows_fit file (r ∷ rs) all to fit = (
-  all_at (IsRowOf file) all r fit (to r (inl refl)),
+  all_in (IsRowOf file) all r fit (to r (inl refl)),
   rows_fit file rs all (λ s h. to s (inr h))
       fit,
 )

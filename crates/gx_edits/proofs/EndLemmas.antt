@@ -4,16 +4,17 @@ use Rattle.std.specs.Prelude.{◌⊎◌, ◌≢◌, ◌&&◌, ◌||◌, ◌==◌
 use Rattle.std.specs.List.{list_any}
 use Rattle.std.specs.FinMap as fin
 use Rattle.std.proofs.lemmas.Bool.{cases_eq, or_parts, true≢false, eqb-true}
-use Rattle.std.proofs.lemmas.Bool.Decides.{nat_tests}
 use Rattle.std.proofs.lemmas.List.{get_or-set_same, get_or-set_other}
+use Rattle.gx_laws.proofs.BoolLemmas.{both_parts}
+use Rattle.gx_laws.proofs.NumberLemmas.{same_number}
 use Rattle.gx_values.specs.declared.values.Value.{Value}
-use Rattle.gx_values.proofs.OrderLemmas.{value_cmp_total}
+use Rattle.gx_values.proofs.OrderLemmas.{value_cmp_total, same_value, value_itself, other_value}
 use Rattle.gx_schema.specs.declared.schema.LinkDef.{LinkDef}
 use Rattle.gx_schema.specs.Lookups.{no_link}
 use Rattle.gx_mapping.specs.Rule.{In}
 use Rattle.gx_gather.proofs.Lists.{all_of}
 use Rattle.gx_links.specs.Links.{Link, is_same}
-use Rattle.gx_links.proofs.MemberLemmas.{pair_in, in_pair, same_value, value_itself, other_value}
+use Rattle.gx_links.proofs.MemberLemmas.{pair_in, in_pair}
 use Rattle.gx_model.specs.States.{File, State, file_in, IsLinkOf}
 use Rattle.gx_model.specs.Commands.{with_file, is_end_of, is_linked}
 use Rattle.gx_states.proofs.LinkLemmas.{some_there, member_there, owner_there}
@@ -97,9 +98,6 @@ no_end (def ∷ defs) (link ∷ links) zero file key lt lt' e = (or_parts _ _ e)
 no_end (def ∷ defs) (link ∷ links) (suc j) file key lt lt' e =
     no_end defs links j file key (omega arith) (omega arith) (or_parts _ _ e).1
 
-pub same_number : (n m : ℕ) → n ≡ m → (n == m) ≡ true
-same_number n m e = grind (arith, nat_tests)
-
 pub other_number : (n m : ℕ) → (n ≡ m → ⊥) → (n == m) ≡ false
 other_number n m ne = go (n == m) refl
   where
@@ -159,10 +157,6 @@ either : (a b : Bool) → (a || b) ≡ true → (a ≡ true) ⊎ (b ≡ true)
 either true b e = inl refl
 either false b e = inr e
 
-both : (a b : Bool) → (a && b) ≡ true → (a ≡ true) × (b ≡ true)
-both true b e = (refl, e)
-both false b e = absurd (true≢false (sym e))
-
 one_passes : {A : Type 0} (p : A → Bool) (xs : List A) → list_any p xs ≡ true → (x : A) × In x xs
     × (p x ≡ true)
 one_passes p [] e = absurd (true≢false (sym e))
@@ -175,12 +169,12 @@ end_there : (s : State) (def : LinkDef) (link : Link) (file : ℕ) (key : Value)
     → is_end_of def link file key ≡ true → is_some (fin.get (file_in s file) key) ≡ true
 end_there s def link file key is e = elim (either _ _ e) [
   | inl a ↦ (
-      let parts = both _ _ a in
+      let parts = both_parts _ _ a in
       let owned = some_there (fin.get link key) parts.1 in
       (subst (λ (n : ℕ). IsTrue (is_some (fin.get (file_in s n) key)))
       (eqb-true def.member file parts.0) (member_there s def link key owned.0 is owned.1)))
   | inr b ↦ (
-      let parts = both _ _ b in
+      let parts = both_parts _ _ b in
       let pair = one_passes (λ pair. is_same pair.1 key) (fin.entries link) parts.1 in
       let there = owner_there s def link pair.0.0 pair.0.1 is (in_pair link pair.0 pair.1) in
       (subst (λ (n : ℕ). IsTrue (is_some (fin.get (file_in s n) key)))

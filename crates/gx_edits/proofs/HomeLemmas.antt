@@ -1,6 +1,6 @@
 -- The node of a file that has all leaf entries of a key's record, and what an edit there does to
 -- the file.
-use Rattle.std.proofs.Common.{[], ◌≡◌, ℕ, List, ◌∷◌, ◌⊎◌, cond, length, ◌+◌, ◌-◌, Bool, true, false, Some, None, inl, inr, refl, sym, ap, subst, ◌∙◌}
+use Rattle.std.proofs.Common.{[], ◌≡◌, ℕ, List, ◌∷◌, cond, length, ◌+◌, ◌-◌, Bool, true, false, Some, None, inl, inr, refl, sym, ap, subst, ◌∙◌}
 use Rattle.std.specs.Prelude.{◌≢◌, is_some, not, Option, unwrap_or, slice_set}
 use Rattle.std.specs.List.{flat_map, AllByRecursion}
 use Rattle.std.specs.FinMap as fin
@@ -9,14 +9,15 @@ use Rattle.gx_values.specs.declared.records.Rec.{Rec}
 use Rattle.gx_values.specs.declared.keys.Span.{Span}
 use Rattle.gx_values.specs.Values.{Fits, AreFit}
 use Rattle.gx_values.specs.Keys.{bytes_of, key_of, is_inside}
-use Rattle.gx_values.proofs.OrderLemmas.{value_cmp_total}
+use Rattle.gx_values.proofs.OrderLemmas.{value_cmp_total, value_itself, other_value, value_cases}
 use Rattle.gx_schema.specs.declared.schema.FileDef.{FileDef}
 use Rattle.gx_schema.specs.Lookups.{key_kind, data_fields}
 use Rattle.gx_commands.specs.declared.command.Change.{Change}
 use Rattle.gx_commands.specs.Commands.{IsChangeOf}
 use Rattle.gx_ports.specs.LeafMaps.{LeafMap, Limits, map_at, entry_count, IsCrowdedBy}
 use Rattle.gx_mapping.specs.Rule.{In, IsOf}
-use Rattle.gx_gather.proofs.Lists.{in_each, from_each, all_of, nat_cases}
+use Rattle.gx_gather.proofs.Lists.{in_each, from_each, all_of, in_or_not}
+use Rattle.gx_gather.proofs.Entries.{in_find}
 use Rattle.gx_stack.specs.declared.entries.LeafEntry.{LeafEntry}
 use Rattle.gx_stack.specs.Tree.{Tree, leaves_of, tree_form, entries_of}
 use Rattle.gx_stack.specs.Internal.{at}
@@ -30,7 +31,7 @@ use Rattle.gx_model.specs.Commands.{Refusal, changed, updated, first_refusal, ke
 use Rattle.gx_pairs.specs.declared.refused.Refused.{Refused}
 use Rattle.gx_scan.specs.Files.{rec_of, records_of, IsInternal, IsStorable, IsTreeFor}
 use Rattle.gx_scan.specs.Searched.{HasInside}
-use Rattle.gx_scan.proofs.FileLemmas.{value_cases, value_itself, other_value, one_key, inside_key, row_fits, in_find, in_there, there_in}
+use Rattle.gx_scan.proofs.FileLemmas.{one_key, inside_key, row_fits, in_there, there_in}
 use Rattle.gx_states.proofs.LinkLemmas.{there_fits}
 use Rattle.gx_edits.specs.Home.{HoldsKey, IsHome}
 use Rattle.gx_edits.specs.Records.{IsEdited, IsEditedWhere}
@@ -58,16 +59,6 @@ home_of_span file key span t u storable fit lo hi form has =
     }
 
 -- ---- an edit at the home
-
-leaf_cases : (n : ℕ) (ns : List ℕ) → In n ns ⊎ (In n ns → ⊥)
-leaf_cases n [] = inr (λ h. h)
-leaf_cases n (x ∷ ns) = elim (nat_cases n x) [
-  | inl e ↦ inl (inl e)
-  | inr other ↦ elim (leaf_cases n ns) [
-    | inl h ↦ inl (inr h)
-    | inr out ↦ inr (λ h. elim h [ inl e ↦ other e | inr i ↦ out i ])
-  ]
-]
 
 -- the values of a record fit after changes of the file
 changed_fit : (file : FileDef) (cs : List Change) (vs : List Value)
@@ -168,7 +159,7 @@ module _ (file : FileDef) (key : Value) (t u : Tree AnyMapping) (home : IsHome f
           | inr other ↦ (
               let there : fin.get f a.key ≡ Some a.values = sym (f_but a.key other) ∙ a.found in
               let stood = above.holds e (entry_in t f e a.key a.values there a.its) in
-              elim (leaf_cases e.leaf (leaves_of u)) [
+              elim (in_or_not e.leaf (leaves_of u)) [
                 | inl inside ↦ (
                     let b = owner u p e (before.only e inside stood) in
                     let row_a = there_fits file f a.key a.values is.fit there in
@@ -190,7 +181,7 @@ module _ (file : FileDef) (key : Value) (t u : Tree AnyMapping) (home : IsHome f
         let above = union_from_internal any_rule t (records_of f) old is.held in
         let before = union_from_internal any_rule u (records_of p) old part.held in
         let after = union_from_internal any_rule u (records_of q) new done.held in
-        elim (leaf_cases e.leaf (leaves_of u)) [
+        elim (in_or_not e.leaf (leaves_of u)) [
           | inl inside ↦ (
               let b = owner u q e (after.only e inside found) in
               let row_b = there_fits file q b.key b.values done.fit b.found in

@@ -6,14 +6,14 @@ use Rattle.std.specs.FinMap as fin
 use Rattle.gx_values.specs.declared.values.Value.{Value}
 use Rattle.gx_values.specs.declared.records.Field.{Field}
 use Rattle.gx_values.specs.declared.records.Rec.{Rec}
-use Rattle.gx_values.specs.Values.{Fits, AreFit}
+use Rattle.gx_values.specs.Values.{Fits, AreFit, no_field}
 use Rattle.gx_schema.specs.declared.schema.FileDef.{FileDef}
-use Rattle.gx_schema.specs.Lookups.{no_field, key_kind, data_fields}
+use Rattle.gx_schema.specs.Lookups.{key_kind, data_fields}
 use Rattle.gx_commands.specs.declared.command.Change.{Change}
 use Rattle.gx_commands.specs.Commands.{IsChangeOf}
 use Rattle.gx_ports.specs.LeafMaps.{LeafMap, Limits, map_at, entry_count, IsCrowdedBy}
 use Rattle.gx_mapping.specs.Rule.{In}
-use Rattle.gx_gather.proofs.Made.{fit_length}
+use Rattle.gx_mapping.proofs.FieldLemmas.{values_count}
 use Rattle.gx_stack.specs.Tree.{Tree, leaves_of, entries_of, IsValid}
 use Rattle.gx_stack.specs.Internal.{changed as changed_records, IsInternal as IsHeld}
 use Rattle.gx_types.specs.declared.any.AnyMapping.{AnyMapping}
@@ -152,7 +152,7 @@ pub change_in : (file : FileDef) (c : Change) (vs : List Value) → IsChangeOf f
     → AreFit (data_fields file) vs → c.field - 1 < length vs
 change_in file c vs is are =
     let here = data_field file.fields c.field c.value is.past_key is.in_file is.fits in
-    omega (arith, here.0, fit_length (data_fields file) vs are)
+    omega (arith, here.0, values_count (data_fields file) vs are)
 
 -- ---- a new record
 

@@ -6,7 +6,9 @@ use Rattle.std.specs.FinMap as fin
 use Rattle.std.proofs.lemmas.Bool.{cases_eq, true≢false}
 use Rattle.std.proofs.lemmas.Bool.Decides.{nat_tests}
 use Rattle.std.proofs.lemmas.List.{get_or-set_same, get_or-set_other, length-set}
+use Rattle.gx_laws.proofs.ResultLemmas.{none_of}
 use Rattle.gx_values.specs.declared.values.Value.{Value}
+use Rattle.gx_values.proofs.OrderLemmas.{value_cases}
 use Rattle.gx_schema.specs.declared.schema.LinkDef.{LinkDef}
 use Rattle.gx_schema.specs.declared.schema.Schema.{Schema}
 use Rattle.gx_schema.specs.Lookups.{no_link, link_at}
@@ -23,11 +25,10 @@ use Rattle.gx_types.specs.Links.{link_kids_at}
 use Rattle.gx_types.specs.Nodes.{tree_at}
 use Rattle.gx_links.specs.Links.{members_of}
 use Rattle.gx_links.specs.Linksets.{LinkRule}
-use Rattle.gx_links.proofs.MemberLemmas.{in_pair, value_cases, from_insert, others_stay, members_with, with_length, members_gone, without_length, from_remove}
+use Rattle.gx_links.proofs.MemberLemmas.{in_pair, from_insert, others_stay, members_with, with_length, members_gone, without_length, from_remove}
 use Rattle.gx_linksets.specs.Stored.{IsHeldAt}
 use Rattle.gx_pairs.specs.declared.refused.Refused.{Refused}
 use Rattle.gx_pairs.specs.declared.stored.StoredLink.{StoredLink}
-use Rattle.gx_pairs.proofs.LinkedLemmas.{no_value}
 use Rattle.gx_pairs.specs.Changes.{refusal_for, connect_refusal, disconnect_refusal}
 use Rattle.gx_pairs.specs.Members.{has_member}
 use Rattle.gx_pairs.specs.Stored.{IsRelinked}
@@ -224,7 +225,7 @@ connected_link schema s i owner member valid lt e =
     let no = no_reason _ _ _ _ _ _ e in
     let there = both_there _ _ no.first in
     link_with s (link_at schema i) (link_in s i) (valid.links i lt) owner member
-    (no_value _ no.second) there.1 there.0
+    (none_of _ no.second) there.1 there.0
     (not_le most_members (length (pairs_of (link_in s i) owner)) no.third)
 
 -- ---- counts of entries

@@ -6,19 +6,21 @@ use Rattle.std.specs.Cmp.Lexicographic.{slice_cmp, nat_list_cmp_total}
 use Rattle.std.specs.Ordering.{eq_by_cmp, nat_cmp}
 use Rattle.std.proofs.lemmas.List.{set-get_or}
 use Rattle.std.proofs.lemmas.Bool.{true≢false}
+use Rattle.std.proofs.lemmas.Option.{same_Some}
 use Rattle.gx_values.specs.declared.records.Rec.{Rec}
 use Rattle.gx_values.specs.declared.values.Value.{Value}
 use Rattle.gx_values.specs.Keys.{key_of}
 use Rattle.gx_ports.specs.declared.stop.Stop.{Stop}
 use Rattle.gx_ports.specs.declared.view.View.{Ghosts}
 use Rattle.gx_ports.specs.LeafMaps.{LeafMap, map_at, with_entry, without_entry}
+use Rattle.gx_ports.proofs.KeyLemmas.{same_key}
 use Rattle.gx_mapping.specs.Rule.{In, IsOf}
 use Rattle.gx_stack.specs.declared.entries.LeafEntry.{LeafEntry}
 use Rattle.gx_stack.specs.Tree.{Tree, IsValid, leaves_of, tree_form, entries_of}
 use Rattle.gx_stack.specs.Internal.{IsSet, IsInternal, IsChange, changed, at, put_entries}
 use Rattle.gx_stack.proofs.Children.{union_from_internal}
-use Rattle.gx_stack.proofs.Maps.{key_eq-same, put_elsewhere}
-use Rattle.gx_gather.proofs.Lists.{in_each, some_same}
+use Rattle.gx_stack.proofs.Maps.{put_elsewhere}
+use Rattle.gx_gather.proofs.Lists.{in_each}
 use Rattle.gx_types.specs.declared.any.AnyMapping.{AnyMapping}
 use Rattle.gx_types.specs.Any.{any_rule}
 use Rattle.gx_entries.specs.Entries.{AreTwoLeaves, other_entry, others_in}
@@ -44,7 +46,7 @@ same_with maps i key body found =
   where
     by_test : (q : List ℕ) (b : Bool) → eq_by_cmp (slice_cmp nat_cmp) q key ≡ b
         → cond b (Some body) (fin.get (map_at maps i) q) ≡ fin.get (map_at maps i) q
-    by_test q true e = sym (ap (fin.get (map_at maps i)) (key_eq-same q key e) ∙ found)
+    by_test q true e = sym (ap (fin.get (map_at maps i)) (same_key q key e) ∙ found)
     by_test q false e = refl
 
 module _ (t : Tree AnyMapping) (n k : ℕ) (two : AreTwoLeaves t n k) (valid : IsValid any_rule t)
@@ -179,7 +181,7 @@ module _ (t : Tree AnyMapping) (n k : ℕ) (two : AreTwoLeaves t n k) (valid : I
           after (there, same) fits come
           (λ e none. absurd none)
           (λ o is_old e h key_is. (let among : In e (entries_of any_rule t old) =
-          subst (λ (q : Rec). In e (entries_of any_rule t q)) (sym (some_same old o is_old)) h in
+          subst (λ (q : Rec). In e (entries_of any_rule t q)) (sym (same_Some old o is_old)) h in
           inl (
             first,
             inl refl,

@@ -10,15 +10,16 @@ use Rattle.gx_values.specs.declared.values.Value.{Value}
 use Rattle.gx_values.specs.declared.values.Value.TheVariants as value
 use Rattle.gx_values.specs.declared.records.Field.{Field}
 use Rattle.gx_values.specs.declared.records.Form.{Form}
-use Rattle.gx_values.specs.Values.{Fits, AreFit}
+use Rattle.gx_values.specs.Values.{Fits, AreFit, no_field, no_value}
 use Rattle.gx_values.specs.Written.{IsRead}
 use Rattle.gx_mapping.specs.declared.parts.Part.{Part}
 use Rattle.gx_mapping.specs.Rule.{AreOfKey, IsGathered}
 use Rattle.gx_mapping.proofs.RuleLemmas.{whole_key}
+use Rattle.gx_mapping.proofs.FieldLemmas.{fit_length}
 use Rattle.gx_encode.specs.Runs.{runs_of, joined, AreShort, IsUnrle}
 use Rattle.gx_encode.specs.RunLaws.{runs_joined}
 use Rattle.gx_encode.specs.Codes.{code_of, IsCodeKind, coded_kind}
-use Rattle.gx_encode.specs.Forms.{no_field, no_value, changed, coded_field, IsEncode}
+use Rattle.gx_encode.specs.Forms.{changed, coded_field, IsEncode}
 use Rattle.gx_encode.specs.Rules.{coded, encode_rule, only_part, bytes_in}
 
 pub changed_set : {A : Type 0} (i : ℕ) (x : A) (xs : List A) → set xs i x ≡ changed i (λ y. x) xs
@@ -41,12 +42,6 @@ fits_at i [] vs fit lt = absurd (omega arith)
 fits_at i (g ∷ fs) [] fit lt = absurd fit
 fits_at zero (g ∷ fs) (w ∷ vs) fit lt = fit.0
 fits_at (suc i) (g ∷ fs) (w ∷ vs) fit lt = fits_at i fs vs fit.1 (omega arith)
-
-pub same_length : (fs : List Field) (vs : List Value) → AreFit fs vs → length fs ≡ length vs
-same_length [] [] fit = refl
-same_length [] (v ∷ vs) fit = absurd fit
-same_length (f ∷ fs) [] fit = absurd fit
-same_length (f ∷ fs) (v ∷ vs) fit = ap suc (same_length fs vs fit.1)
 
 pub length_changed : (i : ℕ) (c : Code) (fs : List Field) → length (changed i (coded_field c) fs) ≡ length fs
 length_changed i c [] = refl
@@ -94,7 +89,7 @@ module _ (form : Form) (i : ℕ) (c : Code) (sound : IsEncode form i c) (key : L
   part_fits = (req.each p (inl refl)).fits.fields
 
   pub part_length : length form.fields ≡ length p.rec.fields
-  part_length = sym (length_changed i c form.fields) ∙ same_length (changed i (coded_field c) form.fields) p.rec.fields part_fits
+  part_length = sym (length_changed i c form.fields) ∙ fit_length (changed i (coded_field c) form.fields) p.rec.fields part_fits
 
   pub part_under : p.rec.key ≡ key
   part_under = let of = req.each p (inl refl) in whole_key form.keys key p.rec.key req.key_fits of.fits.key of.under

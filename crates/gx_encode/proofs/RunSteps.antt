@@ -5,6 +5,7 @@ use Rattle.std.specs.List.{list_all}
 use Rattle.std.proofs.Math.ListN.{replicate}
 use Rattle.std.proofs.lemmas.List.{length-replicate}
 use Rattle.std.proofs.lemmas.Bool.Decides.{nat_tests}
+use Rattle.gx_laws.proofs.NumberLemmas.{at_most_from_nat_le, nat_le_from_at_most}
 use Rattle.gx_values.specs.Values.{is_printable}
 use Rattle.gx_encode.specs.Runs.{runs_of, pairs_of, rle, joined, AreShort, AreLongest, IsUnrle, is_same, is_next, last_from, repeats}
 use Rattle.gx_encode.specs.RunLaws.{runs_joined, runs_longest, BeginWith, pairs_cut, last_more, run_behind, pairs_behind, short_behind, longest_at, short_at, joined_at, printable_append, printable_run, first_run}
@@ -42,12 +43,6 @@ differ (Some a) b ne = unequal a b (λ e. ne (ap Some e))
     unequal : (a b : ℕ) → a ≢ b → nat_eq a b ≡ false
     unequal a b ne = grind (arith, nat_tests)
 
-at_most : (a b : ℕ) → nat_le a b ≡ true → a ≤ b
-at_most a b e = grind (arith, nat_tests)
-
-is_at_most : (a b : ℕ) → a ≤ b → nat_le a b ≡ true
-is_at_most a b e = grind (arith, nat_tests)
-
 five : (a b c d e : Bool) → (((not a && b) && c) && d) && e ≡ true → (a ≡ false) × (b ≡ true) × (c ≡ true) × (d ≡ true) × (e ≡ true)
 five false true true true true h = (refl, refl, refl, refl, refl)
 five true b c d e h = cc
@@ -59,14 +54,14 @@ five false true true true false h = cc
 next_is : (previous : Option ℕ) (count b room : ℕ) → is_next previous count b room ≡ true → IsNext previous count b room
 next_is previous count b room e =
     let t = five (is_same previous b) (nat_le 1 count) (nat_le count 200) (nat_le count room) (is_printable b) e in
-    record { apart = differs previous b t.0; some = at_most 1 count t.1; short = at_most count 200 t.2; few = at_most count room t.3; printable = t.4 }
+    record { apart = differs previous b t.0; some = at_most_from_nat_le 1 count t.1; short = at_most_from_nat_le count 200 t.2; few = at_most_from_nat_le count room t.3; printable = t.4 }
 
 is_next_by : (previous : Option ℕ) (count b room : ℕ) → IsNext previous count b room → is_next previous count b room ≡ true
 is_next_by previous count b room n =
     let a = differ previous b n.apart in
-    let s = is_at_most 1 count n.some in
-    let h = is_at_most count 200 n.short in
-    let f = is_at_most count room n.few in
+    let s = nat_le_from_at_most 1 count n.some in
+    let h = nat_le_from_at_most count 200 n.short in
+    let f = nat_le_from_at_most count room n.few in
     let p = n.printable in
     λ i. (((not (a i) && s i) && h i) && f i) && p i
 

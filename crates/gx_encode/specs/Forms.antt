@@ -1,20 +1,13 @@
 -- The forms of the layer.
-use Rattle.std.specs.Prelude.{ℕ, zero, suc, pos, ◌<◌, List, [], ◌∷◌, length, slice_index_or}
+use Rattle.std.specs.Prelude.{ℕ, zero, suc, ◌<◌, List, [], ◌∷◌, length, slice_index_or}
 use Rattle.std.specs.Coded.{le_prop}
 use Rattle.gx_values.specs.declared.values.Code.{Code}
 use Rattle.gx_values.specs.declared.values.Kind.TheVariants as kind
-use Rattle.gx_values.specs.declared.values.Value.{Value}
 use Rattle.gx_values.specs.declared.values.Value.TheVariants as value
 use Rattle.gx_values.specs.declared.records.Field.{Field}
 use Rattle.gx_values.specs.declared.records.Form.{Form}
+use Rattle.gx_values.specs.Values.{no_field}
 use Rattle.gx_encode.specs.Codes.{IsCodeKind, IsCodeKind-prop, coded_kind}
-
--- what stands in the place of a field or a value that isn't there
-abbrev pub no_field : Field
-no_field = record { name = []; kind = kind.Int }
-
-abbrev pub no_value : Value
-no_value = value.Int (pos 0)
 
 -- with another one in the place of the one with the number
 abbrev pub changed : {A : Type 0} → ℕ → (A → A) → List A → List A

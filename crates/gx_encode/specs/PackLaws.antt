@@ -6,13 +6,11 @@ use Rattle.std.specs.Int.RustNames.{FitsSigned}
 use Rattle.std.proofs.Math.ListN.{replicate}
 use Rattle.std.proofs.lemmas.List.{length-replicate}
 use Rattle.std.proofs.lemmas.Bool.Decides.{nat_tests}
+use Rattle.gx_laws.proofs.NumberLemmas.{equal_from_nat_eq}
 use Rattle.gx_values.proofs.IntLemmas.{same_int}
 use Rattle.gx_encode.specs.Packs.{int_bytes, sign_of, extended, shortest, pack, IsPack}
 
 -- ---- signs
-
-same : (a b : ℕ) → nat_eq a b ≡ true → a ≡ b
-same a b e = grind (arith, nat_tests)
 
 equal : (a b : ℕ) → a ≡ b → nat_eq a b ≡ true
 equal a b e = grind (arith, nat_tests)
@@ -47,7 +45,7 @@ same_sign (b ∷ bytes) = by_test (nat_eq b (sign_of bytes)) refl (same_sign byt
   where
     by_test : (t : Bool) → t ≡ nat_eq b (sign_of bytes) → sign_of (shortest bytes) ≡ sign_of bytes
         → sign_of (cond t (shortest bytes) (b ∷ bytes)) ≡ sign_of (b ∷ bytes)
-    by_test true is again = again ∙ sym (sign_in_front b bytes (same b (sign_of bytes) (sym is)))
+    by_test true is again = again ∙ sym (sign_in_front b bytes (equal_from_nat_eq b (sign_of bytes) (sym is)))
     by_test false is again = refl
 
 extended_more : (n : ℕ) (bytes : List ℕ) → length bytes ≤ n
@@ -70,7 +68,7 @@ extended_shortest (b ∷ bytes) = by_test (nat_eq b (sign_of bytes)) refl (exten
         → extended (length bytes) (shortest bytes) ≡ bytes
         → extended (suc (length bytes)) (cond t (shortest bytes) (b ∷ bytes)) ≡ b ∷ bytes
     by_test true is again =
-        let sign = same_sign bytes ∙ sym (same b (sign_of bytes) (sym is)) in
+        let sign = same_sign bytes ∙ sym (equal_from_nat_eq b (sign_of bytes) (sym is)) in
         extended_more (length bytes) (shortest bytes) (no_longer bytes) ∙ (λ i. sign i ∷ again i)
     by_test false is again = extended_whole (b ∷ bytes)
 
@@ -92,7 +90,7 @@ is_shortest (b ∷ bytes) = by_test (nat_eq b (sign_of bytes)) refl (is_shortest
     by_test true is again = again
     by_test false is again = sym is
 
--- bytes and what they are extended to have the same shortest bytes
+-- bytes and what they are extended to have the equal_from_nat_eq shortest bytes
 front_sign : (k : ℕ) (bytes : List ℕ)
     → sign_of (replicate k (sign_of bytes) ++ bytes) ≡ sign_of bytes
 front_sign zero bytes = refl
@@ -119,9 +117,9 @@ pub pack_is : (n : ℤ) → IsPack n (pack n)
 pack_is n = record {
   value = extended_shortest (int_bytes n);
   shortest = λ other le e. (
-      let same : shortest other ≡ pack n =
+      let equal_from_nat_eq : shortest other ≡ pack n =
       sym (shortest_extended (8 - length other) other) ∙ ap shortest e in
-      omega (arith, no_longer other, ap length same)
+      omega (arith, no_longer other, ap length equal_from_nat_eq)
       );
 }
 

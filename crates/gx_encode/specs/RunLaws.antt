@@ -4,17 +4,12 @@ use Rattle.std.specs.Prelude.{◌&&◌, nat_eq}
 use Rattle.std.specs.List.{list_all}
 use Rattle.std.proofs.Math.ListN.{replicate}
 use Rattle.std.proofs.lemmas.Bool.Decides.{nat_tests}
+use Rattle.gx_laws.proofs.NumberLemmas.{equal_from_nat_eq, nat_eq_itself}
 use Rattle.gx_values.specs.Values.{is_printable}
 use Rattle.gx_encode.specs.Runs.{with_byte, runs_of, pairs_of, rle, joined, AreLongest, AreRuns, AreShort, last_from, repeats}
 
-same : (a b : ℕ) → nat_eq a b ≡ true → a ≡ b
-same a b e = grind (arith, nat_tests)
-
 other : (a b : ℕ) → nat_eq a b ≡ false → a ≢ b
 other a b e = grind (arith, nat_tests)
-
-itself : (a : ℕ) → nat_eq a a ≡ true
-itself a = grind (arith, nat_tests)
 
 some_same : (a b : ℕ) → ◌≡◌ {A = Option ℕ} (Some a) (Some b) → a ≡ b
 some_same a b e = cc
@@ -30,7 +25,7 @@ with_joined b (run ∷ runs) = by_test (nat_eq b run.1) refl
   where
     by_test : (t : Bool) → t ≡ nat_eq b run.1
         → joined (cond t ((suc run.0, b) ∷ runs) ((1, b) ∷ run ∷ runs)) ≡ b ∷ joined (run ∷ runs)
-    by_test true is = ap (λ (x : ℕ). b ∷ (replicate run.0 x ++ joined runs)) (same b run.1 (sym is))
+    by_test true is = ap (λ (x : ℕ). b ∷ (replicate run.0 x ++ joined runs)) (equal_from_nat_eq b run.1 (sym is))
     by_test false is = refl
 
 with_longest : (b : ℕ) (runs : List (ℕ × ℕ)) → AreLongest None runs
@@ -41,7 +36,7 @@ with_longest b (run ∷ runs) are = by_test (nat_eq b run.1) refl
     by_test : (t : Bool) → t ≡ nat_eq b run.1
         → AreLongest None (cond t ((suc run.0, b) ∷ runs) ((1, b) ∷ run ∷ runs))
     by_test true is =
-        (omega arith, no_some b, subst (λ (x : ℕ). AreLongest (Some x) runs) (sym (same b run.1 (sym is))) are.2)
+        (omega arith, no_some b, subst (λ (x : ℕ). AreLongest (Some x) runs) (sym (equal_from_nat_eq b run.1 (sym is))) are.2)
     by_test false is =
         (omega arith, no_some b, (are.0, (λ e. other b run.1 (sym is) (some_same b run.1 e)), are.2))
 
@@ -123,7 +118,7 @@ first_run b (x ∷ text) =
         ∷ runs_of (drop (cond t (suc (repeats b text)) 0) (x ∷ text))
     by_test first true is =
         ap (λ (y : ℕ). (suc (suc (repeats y text)), b) ∷ runs_of (drop (repeats y text) text))
-        (sym (same b x (sym is)))
+        (sym (equal_from_nat_eq b x (sym is)))
     by_test first false is = ap (λ (runs : List (ℕ × ℕ)). (1, b) ∷ runs) (sym first)
 
 -- ---- a run behind
@@ -151,14 +146,14 @@ with_last x r runs = by_test (nat_eq x r.1) refl
     by_test : (t : Bool) → t ≡ nat_eq x r.1
         → last_from None (cond t ((suc r.0, x) ∷ runs) ((1, x) ∷ r ∷ runs))
         ≡ last_from (Some r.1) runs
-    by_test true is = ap (λ (y : ℕ). last_from (Some y) runs) (same x r.1 (sym is))
+    by_test true is = ap (λ (y : ℕ). last_from (Some y) runs) (equal_from_nat_eq x r.1 (sym is))
     by_test false is = refl
 
 one_run : (k b : ℕ) → runs_of (replicate (suc k) b) ≡ (suc k, b) ∷ []
 one_run zero b = refl
 one_run (suc k) b =
     ap (with_byte b) (one_run k b) ∙ ap
-    (λ (t : Bool). cond t ((suc (suc k), b) ∷ []) ((1, b) ∷ (suc k, b) ∷ [])) (itself b)
+    (λ (t : Bool). cond t ((suc (suc k), b) ∷ []) ((1, b) ∷ (suc k, b) ∷ [])) (nat_eq_itself b)
 
 unequal : (a b : ℕ) → a ≢ b → nat_eq a b ≡ false
 unequal a b ne = grind (arith, nat_tests)

@@ -4,7 +4,8 @@ ghost use Rattle.gx_values.specs.Written.{IsRead};
 ghost use Rattle.gx_values.specs.declared.values.Code.TheVariants as code;
 ghost use Rattle.gx_values.specs.declared.values.Kind.TheVariants as kind;
 ghost use Rattle.gx_encode.specs.Codes.{code_of, IsCodable, IsCodeKind};
-ghost use Rattle.gx_encode.specs.Forms.{changed, no_field, no_value};
+ghost use Rattle.gx_values.specs.Values.{no_field, no_value};
+ghost use Rattle.gx_encode.specs.Forms.{changed};
 ghost use Rattle.gx_encode.specs.Rules.{bytes_in};
 
 use crate::packs::{pack_into, unpack};

@@ -30,6 +30,7 @@ use Rattle.gx_model.specs.States.{File, State, Row, file_in}
 use Rattle.gx_model.specs.Found.{IsListed, is_chosen, meets_conds, meets_of}
 use Rattle.gx_model.specs.Commands.{Refusal, no_record, next_state, refusal_of, first_refusal, IsAnswerOr, IsListText, lacks_of}
 use Rattle.gx_model.specs.Play.{Playing, IsAnswered, seen_state, is_inside, working_after, with_working, next_of}
+use Rattle.gx_model.proofs.RunLemmas.{some_after}
 use Rattle.gx_scan.specs.Files.{HasFile}
 use Rattle.gx_engine.specs.declared.engine.Engine.{Engine}
 use Rattle.gx_engine.specs.Steps.{schema_of, built_of, leaves_of, IsSound, AreFresh, selects}
@@ -41,10 +42,6 @@ use Rattle.gx_edits.proofs.EditLemmas.{short_after}
 use Rattle.gx_engine.specs.Moments.{Stands, IsCarried, may_want_room, MayWantRoom}
 
 -- ---- moments of the play
-
-inside_stays : (w : Option State) (s : State) → is_some (working_after w s) ≡ is_some w
-inside_stays None s = refl
-inside_stays (Some old) s = refl
 
 seen_after : (w : Option State) (s k : State) → is_some w ≡ true
     → unwrap_or (working_after w s) k ≡ s
@@ -62,7 +59,7 @@ stands_with : (schema : Schema) (built : Built) (inside : Bool) (commits : ℕ)
     → Stands schema built inside commits old kept p → inside ≡ true → AreInternal schema built new s
     → Stands schema built inside commits new kept (with_working p s)
 stands_with schema built inside commits old new kept p s stands open_ are = record {
-  inside_same = stands.inside_same ∙ sym (inside_stays p.working s);
+  inside_same = stands.inside_same ∙ sym (some_after p.working s);
   commits_same = stands.commits_same;
   working_is = subst (AreInternal schema built new)
       (sym (seen_after p.working s p.kept (sym stands.inside_same ∙ open_))) are;
@@ -75,7 +72,7 @@ pub stands_still : (schema : Schema) (built : Built) (inside : Bool) (commits : 
     → Stands schema built inside commits old kept p → new ≡ old → now ≡ kept → s ≡ seen_state p
     → Stands schema built inside commits new now (with_working p s)
 stands_still schema built inside commits old new kept now p s stands same kept_same is = record {
-  inside_same = stands.inside_same ∙ sym (inside_stays p.working s);
+  inside_same = stands.inside_same ∙ sym (some_after p.working s);
   commits_same = stands.commits_same;
   working_is = subst (λ (maps : List LeafMap). AreInternal schema built maps
       (unwrap_or (working_after p.working s) p.kept)) (sym same)

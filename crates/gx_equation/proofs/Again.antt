@@ -1,9 +1,7 @@
 -- What is in the grammar is read.
-use Rattle.std.proofs.Common.{◌≡◌, ℕ, zero, suc, ◌<◌, ◌≤◌, ◌^◌, eqb, leb, ltb, List, [], ◌∷◌, ◌++◌, length, Option, Some, None, Result, Ok, refl, sym, ap, ◌∙◌, append_assoc, append-nil, arith}
-use Rattle.std.specs.Prelude.{ℤ, pos, negsuc}
-use Rattle.std.specs.Int.RustNames.{FitsSigned}
-use Rattle.std.specs.Int.{w64}
-use Rattle.std.proofs.lemmas.Bool.{ne_eqb, cond-true, cond-false, le-leb, lt-ltb}
+use Rattle.std.proofs.Common.{◌≡◌, ℕ, zero, suc, ◌<◌, ◌≤◌, eqb, leb, List, [], ◌∷◌, ◌++◌, length, Option, Some, None, Result, Ok, refl, sym, ap, ◌∙◌, append_assoc, append-nil, arith}
+use Rattle.std.specs.Prelude.{pos}
+use Rattle.std.proofs.lemmas.Bool.{ne_eqb, cond-true, cond-false, le-leb}
 use Rattle.gx_tokens.specs.declared.why.Why.{Why}
 use Rattle.gx_tokens.specs.Grammar.{◌⨾◌, the}
 use Rattle.gx_tokens.specs.Lexemes.{Lexeme, Word, Number, Quoted, Open, Close, Comma, Equals, End}
@@ -11,7 +9,7 @@ use Rattle.gx_tokens.specs.Numbers.{number_value, natural_up_to, signed_in_range
 use Rattle.gx_tokens.specs.Quotes.{doubled}
 use Rattle.gx_tokens.specs.Reading.{◌>>=◌, map_ok, want, a_word}
 use Rattle.gx_tokens.specs.Spelling.{IsNumber}
-use Rattle.gx_tokens.proofs.NumberLaws.{is_number-true}
+use Rattle.gx_tokens.proofs.NumberLaws.{is_number-true, in_range_again}
 use Rattle.gx_tokens.proofs.QuoteLaws.{unquoted-doubled}
 use Rattle.gx_tokens.proofs.ReadingLaws.{want_again, open_again, close_again, comma_again, equals_again, goes_on_again, ends_again}
 use Rattle.gx_values.specs.declared.values.Code.{Code}
@@ -49,10 +47,6 @@ size_again most n bytes rest t =
     let text = t.2.0 in
     let is : natural_up_to most (number_value text) ≡ Some n = ap (natural_up_to most) t.2.1 ∙ natural_again most n t.1 in
     want_again (a_size most) bytes rest (Number text) n t.2.2 (from_one_again (natural_up_to most (number_value text)) n is t.0)
-
-pub in_range_again : (z : ℤ) → FitsSigned w64 z → signed_in_range z ≡ Some z
-in_range_again (pos n) fits = cond-true (ltb n (2 ^ 63)) _ _ (lt-ltb n (2 ^ 63) (omega (arith, fits)))
-in_range_again (negsuc n) fits = cond-true (ltb n (2 ^ 63)) _ _ (lt-ltb n (2 ^ 63) (omega (arith, fits)))
 
 -- an item's text is a token that means it
 abbrev pub ItemAgain : {X : Type 0} → (Lexeme → Result X Why) → (X → List ℕ → List ℕ → Type 0) → Type 0

@@ -1,5 +1,5 @@
 -- The first fault of a text.
-use Rattle.std.proofs.Common.{◌≡◌, ℕ, zero, suc, List, [], ◌∷◌, ◌++◌, length, Option, Some, None, Result, Ok, Err, refl, sym, ap, subst, ◌∙◌, inr, arith}
+use Rattle.std.proofs.Common.{◌≡◌, ℕ, zero, suc, List, [], ◌∷◌, ◌++◌, length, Option, Some, None, Result, Ok, Err, refl, sym, ap, subst, ◌∙◌, arith}
 use Rattle.gx_tokens.specs.declared.fault.Fault.{Fault}
 use Rattle.gx_tokens.specs.declared.why.Why.{Why}
 use Rattle.gx_tokens.specs.declared.why.Why.TheVariants as why
@@ -13,6 +13,7 @@ use Rattle.gx_tokens.specs.Spelling.{Lexes}
 use Rattle.gx_tokens.proofs.CauseLaws.{first_fault_of}
 use Rattle.gx_tokens.proofs.LocalLaws.{proper_token, takes_token, want_fault, text_behind, later_fault, first_fault}
 use Rattle.gx_tokens.proofs.ReadingLaws.{want_ok}
+use Rattle.gx_tokens.proofs.LocalTokens.{the_end}
 use Rattle.gx_equation.specs.Definitions.{a_start, equation_at}
 use Rattle.gx_equation.specs.Faults.{IsFirstFault, IsRule as IsEquationRule}
 use Rattle.gx_equation.specs.Grammar.{Means}
@@ -27,9 +28,6 @@ use Rattle.gx_equation.proofs.ShapeRules.{shaped}
 use Rattle.gx_equation.proofs.TermsFound.{StartMark, start_mark}
 
 -- ---- definitions behind the first
-
-the_end : the End (32 ∷ []) []
-the_end = record { blanks = 32 ∷ []; here = []; parts = refl; are_blanks = inr (refl, tt); begins = record { parts = refl; is_token = tt; follows = refl } }
 
 -- some text of definitions begins with these tokens
 abbrev IsDefinitionsFront : List Lexeme → Type 0

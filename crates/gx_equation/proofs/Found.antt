@@ -5,6 +5,7 @@ use Rattle.std.specs.Cmp.Lexicographic.{pointwise}
 use Rattle.std.specs.Int.RustNames.{FitsSigned}
 use Rattle.std.specs.Int.{w64}
 use Rattle.std.proofs.lemmas.Bool.{cond_both, leb-true, ltb-true}
+use Rattle.std.proofs.lemmas.Option.{same_Some}
 use Rattle.gx_tokens.specs.declared.fault.Fault.{Fault}
 use Rattle.gx_tokens.specs.declared.why.Why.{Why}
 use Rattle.gx_tokens.specs.declared.why.Why.TheVariants as why
@@ -15,7 +16,8 @@ use Rattle.gx_tokens.specs.Quotes.{unquoted}
 use Rattle.gx_tokens.specs.Reading.{map_ok, want, an_open, a_close, a_comma, a_word}
 use Rattle.gx_tokens.specs.Spelling.{IsQuoted}
 use Rattle.gx_tokens.proofs.QuoteLaws.{doubled-unquoted}
-use Rattle.gx_tokens.proofs.ReadingLaws.{done_is, means_is, bind_ok, test_ok, want_ok, word_is, word_ok, number_ok, open_found, close_found, comma_found, same_bytes}
+use Rattle.gx_tokens.proofs.ReadingLaws.{means_is, bind_ok, test_ok, want_ok, word_is, word_ok, number_ok, open_found, close_found, comma_found, same_bytes}
+use Rattle.gx_tokens.proofs.TokenFound.{done_is}
 use Rattle.gx_values.specs.declared.values.Code.{Code}
 use Rattle.gx_values.specs.declared.values.Code.TheVariants as code
 use Rattle.gx_values.specs.declared.values.Value.{Value}
@@ -27,9 +29,6 @@ use Rattle.gx_equation.specs.declared.heads.Head.{Head}
 use Rattle.gx_equation.specs.declared.heads.Head.TheVariants as heads
 use Rattle.gx_equation.specs.Heads.{spell, in_depth, head_of_word, a_head, code_of_word, a_code, from_one, size_up_to, a_size, int_bound, a_bound, or_comma, items_at, hash_at, encode_at, segment_at, partition_at, divide_at, index_at, opened_at, arguments_at, head_at}
 use Rattle.gx_equation.specs.Grammar.{SizeText, NameText, BoundText, MoreText, ItemsText, code_word, HeadText}
-
-some_is : {A : Type 0} (x y : A) → Some x ≡ Some y → x ≡ y
-some_is x y e = cc
 
 -- ---- items up to a comma
 
@@ -108,7 +107,7 @@ from_one_is (Some (suc m)) n e = let p = means_is (suc m) n e in (omega (arith, 
 pub natural_is : (most : ℕ) (z : ℤ) (n : ℕ) → natural_up_to most z ≡ Some n → (n ≤ most) × (z ≡ pos n)
 natural_is most (pos m) n e =
     cond_both (leb m most) (Some m) None (λ (r : Option ℕ). r ≡ Some n → (n ≤ most) × (pos m ≡ pos n))
-    (λ le h. let p = some_is m n h in let q = leb-true m most le in (omega (arith, p, q), ap pos p))
+    (λ le h. let p = same_Some m n h in let q = leb-true m most le in (omega (arith, p, q), ap pos p))
     (λ _ h. absurd cc)
     e
 natural_is most (negsuc m) n e = absurd cc
@@ -128,12 +127,12 @@ size_found most bytes y e =
 in_range_is : (v z : ℤ) → signed_in_range v ≡ Some z → FitsSigned w64 z × (v ≡ z)
 in_range_is (pos n) z e =
     cond_both (ltb n (2 ^ 63)) (Some (pos n)) None (λ (r : Option ℤ). r ≡ Some z → FitsSigned w64 z × (pos n ≡ z))
-    (λ lt h. let q = ltb-true n (2 ^ 63) lt in let p = some_is (pos n) z h in (subst (λ (y : ℤ). FitsSigned w64 y) p (omega (arith, q)), p))
+    (λ lt h. let q = ltb-true n (2 ^ 63) lt in let p = same_Some (pos n) z h in (subst (λ (y : ℤ). FitsSigned w64 y) p (omega (arith, q)), p))
     (λ _ h. absurd cc)
     e
 in_range_is (negsuc n) z e =
     cond_both (ltb n (2 ^ 63)) (Some (negsuc n)) None (λ (r : Option ℤ). r ≡ Some z → FitsSigned w64 z × (negsuc n ≡ z))
-    (λ lt h. let q = ltb-true n (2 ^ 63) lt in let p = some_is (negsuc n) z h in (subst (λ (y : ℤ). FitsSigned w64 y) p (omega (arith, q)), p))
+    (λ lt h. let q = ltb-true n (2 ^ 63) lt in let p = same_Some (negsuc n) z h in (subst (λ (y : ℤ). FitsSigned w64 y) p (omega (arith, q)), p))
     (λ _ h. absurd cc)
     e
 

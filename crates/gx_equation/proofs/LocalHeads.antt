@@ -10,8 +10,8 @@ use Rattle.gx_tokens.specs.Lexemes.{Lexeme, Word, Number, Quoted, Open, Close, C
 use Rattle.gx_tokens.specs.Locality.{IsInhabited, HasReason, IsLocal}
 use Rattle.gx_tokens.specs.Numbers.{number_value, natural_up_to, signed_number}
 use Rattle.gx_tokens.specs.Reading.{◌>>=◌, map_ok, want, an_open, a_close, a_comma, a_word}
-use Rattle.gx_tokens.proofs.LocalLaws.{TakesToken, Nothing, some_token, some_both, some_nothing, local_want, local_done, local_bind, local_then, local_value}
-use Rattle.gx_tokens.proofs.LocalTokens.{some_word, some_number, some_mark, takes_word, takes_these_words, takes_number, takes_open, takes_close, takes_comma}
+use Rattle.gx_tokens.proofs.LocalLaws.{TakesToken, Nothing, some_token, some_nothing, local_want, local_done, local_bind, local_then, local_value, some_then}
+use Rattle.gx_tokens.proofs.LocalTokens.{some_word, some_number, some_mark, takes_word, takes_these_words, takes_number, local_open, local_comma, local_close}
 use Rattle.gx_values.specs.declared.values.Code.{Code}
 use Rattle.gx_values.specs.declared.values.Code.TheVariants as code
 use Rattle.gx_values.specs.declared.values.Value.{Value}
@@ -29,19 +29,6 @@ use Rattle.gx_equation.proofs.Fuel.{items_settle, local_fuel}
 use Rattle.gx_equation.proofs.HeadsPrinted.{spelled_code}
 use Rattle.gx_equation.proofs.Reasons.{says_names, says_bounds}
 use Rattle.gx_equation.proofs.Shorter.{name_shorter, bound_shorter}
-
-pub local_open : IsLocal (want an_open) (λ _. the Open)
-local_open = local_want an_open (λ _. the Open) takes_open
-
-pub local_comma : IsLocal (want a_comma) (λ _. the Comma)
-local_comma = local_want a_comma (λ _. the Comma) takes_comma
-
-pub local_close : IsLocal (want a_close) (λ _. the Close)
-local_close = local_want a_close (λ _. the Close) takes_close
-
--- the one piece and then the other has a text
-pub some_then : {A : Type 0} (first second : List ℕ → List ℕ → Type 0) → IsInhabited {A = Unit {0}} (λ _. first) → IsInhabited {A = A} (λ _. second) → IsInhabited {A = A} (λ _. first ⨾ second)
-some_then first second f s = some_both {A = Unit {0}} (λ _. first) (λ _ _. second) (λ _. first ⨾ second) (λ a b bytes mid rest p q. (mid, p, q)) f (λ _. s)
 
 some_also : {A : Type 0} (shape other : List ℕ → List ℕ → Type 0) → ((bytes rest : List ℕ) → shape bytes rest → other bytes rest) → IsInhabited {A = A} (λ _. shape) → IsInhabited {A = A} (λ _. other)
 some_also shape other also f = (f.0, λ tail. let s = f.1 tail in (s.0, also (32 ∷ s.0) (32 ∷ tail) s.1))

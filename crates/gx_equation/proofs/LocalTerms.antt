@@ -7,8 +7,8 @@ use Rattle.gx_tokens.specs.Grammar.{◌⨾◌, the, AWord}
 use Rattle.gx_tokens.specs.Lexemes.{Lexeme, Word, Open, Close, Comma, Equals, End}
 use Rattle.gx_tokens.specs.Locality.{IsInhabited, HasReason, IsLocal}
 use Rattle.gx_tokens.specs.Reading.{◌>>=◌, map_ok, want, an_open, a_close, a_comma, an_equals, a_word, comma_or_close}
-use Rattle.gx_tokens.proofs.LocalLaws.{TakesToken, Nothing, some_token, some_both, some_nothing, local_want, local_done, local_bind, local_then}
-use Rattle.gx_tokens.proofs.LocalTokens.{some_word, some_mark, takes_these_words, takes_equals, takes_comma_or_close}
+use Rattle.gx_tokens.proofs.LocalLaws.{TakesToken, Nothing, some_token, some_both, some_nothing, local_want, local_done, local_bind, local_then, some_then}
+use Rattle.gx_tokens.proofs.LocalTokens.{some_word, some_mark, takes_these_words, takes_equals, takes_comma_or_close, local_open, local_comma, local_close}
 use Rattle.gx_tokens.proofs.ReadingLaws.{list_mark, means_is}
 use Rattle.gx_equation.specs.declared.heads.HeadWord.{HeadWord}
 use Rattle.gx_equation.specs.declared.heads.HeadWord.TheVariants as words
@@ -21,7 +21,7 @@ use Rattle.gx_equation.specs.Trees.{Arity, No_kids, One_kid, Two_kids, Some_kids
 use Rattle.gx_equation.proofs.Found.{head_word_is}
 use Rattle.gx_equation.proofs.Fuel.{kids_settle, local_fuel}
 use Rattle.gx_equation.proofs.HeadsPrinted.{spelled}
-use Rattle.gx_equation.proofs.LocalHeads.{local_open, local_comma, local_close, local_name, some_then, local_arguments, some_arguments}
+use Rattle.gx_equation.proofs.LocalHeads.{local_name, local_arguments, some_arguments}
 use Rattle.gx_equation.proofs.Passing.{Pass, pass_kids, pass_behind, pass_from, no_level, pass_term, SideWord, link_word, head_word, side_word, a_side_word, pass_link, pass_side_from, pass_side, pass_named, pass_first, head_cases, IsRefused, no_head}
 use Rattle.gx_equation.proofs.Reasons.{IsGood, good_term, says_kids}
 use Rattle.gx_equation.proofs.TermsFound.{linkset_is}

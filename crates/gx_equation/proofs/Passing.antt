@@ -8,7 +8,8 @@ use Rattle.gx_tokens.specs.declared.why.Why.{Why}
 use Rattle.gx_tokens.specs.declared.why.Why.TheVariants as why
 use Rattle.gx_tokens.specs.Lexemes.{Lexeme, Word, Number, Quoted, Open, Close, Comma, Equals, End, next_token}
 use Rattle.gx_tokens.specs.Reading.{◌>>=◌, map_ok, met, want, word_if, an_open, a_close, a_comma, an_equals, a_word, comma_or_close, fault_at}
-use Rattle.gx_tokens.proofs.ReadingLaws.{done_is, bind_ok}
+use Rattle.gx_tokens.proofs.ReadingLaws.{bind_ok}
+use Rattle.gx_tokens.proofs.TokenFound.{done_is}
 use Rattle.gx_ports.specs.declared.kinds.LeafKind.TheVariants as leaf
 use Rattle.gx_equation.specs.declared.heads.Head.{Head}
 use Rattle.gx_equation.specs.declared.heads.Head.TheVariants as heads

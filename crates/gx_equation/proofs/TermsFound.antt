@@ -9,7 +9,8 @@ use Rattle.gx_tokens.specs.declared.why.Why.TheVariants as why
 use Rattle.gx_tokens.specs.Grammar.{the}
 use Rattle.gx_tokens.specs.Lexemes.{Lexeme, Word, Number, Quoted, Open, Close, Comma, Equals, End}
 use Rattle.gx_tokens.specs.Reading.{◌>>=◌, map_ok, want, an_open, a_close, a_comma, an_equals, a_word, comma_or_close, fault_at}
-use Rattle.gx_tokens.proofs.ReadingLaws.{done_is, means_is, bind_ok, mapped_ok, want_ok, open_found, close_found, comma_found, equals_found, list_mark_found, same_bytes}
+use Rattle.gx_tokens.proofs.ReadingLaws.{means_is, bind_ok, mapped_ok, want_ok, open_found, close_found, comma_found, equals_found, list_mark_found, same_bytes}
+use Rattle.gx_tokens.proofs.TokenFound.{done_is}
 use Rattle.gx_equation.specs.declared.heads.Linkset.{Linkset}
 use Rattle.gx_equation.specs.declared.heads.Linkset.TheVariants as linksets
 use Rattle.gx_equation.specs.Definitions.{linkset_of_word, a_side, a_start, file_at, linkset_at, side_at, definition_behind, definitions_at, equation_at, with_lines}

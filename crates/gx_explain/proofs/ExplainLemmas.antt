@@ -16,6 +16,7 @@ use Rattle.gx_play.specs.declared.play.PlayEnd.{PlayEnd}
 use Rattle.gx_play.specs.declared.play.PlayEnd.TheVariants as play_end
 use Rattle.gx_play.specs.Plays.{IsBadAt, IsLineEnd}
 use Rattle.gx_play.specs.Played.{SaysText, SaysFront}
+use Rattle.gx_play.proofs.PlayLemmas.{parts_more}
 use Rattle.gx_explain.specs.Explained.{command_text, AreExplained, IsExplainEnd, IsExplainedTo, AreFirstExplained}
 use Rattle.gx_explain.specs.Explaining.{IsLineExplained, SaysPlans}
 
@@ -76,11 +77,6 @@ module _ (schema : Schema) (indexed : ℕ → List Bool) where
       explained_on ran (line ∷ []) 1 false inside x.inside text x.text explained
       (subst (λ n. AreExplained schema indexed n inside (line ∷ []) x.text x.inside)
       (let e : number + 1 ≡ 1 + length ran = omega (arith, many) in e) one)
-
-  parts_more : (all before left : Lines) (ran : List (List ℕ)) (line : List ℕ) → all.lines ≡ ran ++ before.lines
-      → before ≡ with_line line left → all.lines ≡ (ran ++ line ∷ []) ++ left.lines
-  parts_more all before left ran line parts before_is =
-      parts ∙ ap (λ (ls : Lines). ran ++ ls.lines) before_is ∙ sym (append_assoc ran (line ∷ []) left.lines)
 
   pub after_line : (all before left : Lines) (number : ℕ) (inside : Bool) (line : List ℕ) (x : ExplainedLine)
       (old mid new : Content) → before ≡ with_line line left → IsSoFar all before number inside old mid

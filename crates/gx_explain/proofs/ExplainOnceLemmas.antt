@@ -1,5 +1,5 @@
 -- The lines of a script are explained by one text, and end in one way.
-use Rattle.std.proofs.Common.{◌≡◌, ℕ, ◌+◌, Bool, false, List, [], ◌∷◌, ◌++◌, length, Option, Some, None, Result, Ok, Err, refl, sym, ap, subst, ◌∙◌, arith, inl, inr}
+use Rattle.std.proofs.Common.{◌≡◌, ℕ, ◌+◌, Bool, false, List, [], ◌∷◌, ◌++◌, length, Option, Some, None, Result, Ok, Err, sym, ap, subst, ◌∙◌, arith, inl, inr}
 use Rattle.gx_schema.specs.declared.schema.Schema.{Schema}
 use Rattle.gx_commands.specs.declared.command.Command.{Command}
 use Rattle.gx_commands.specs.declared.command.LineWhy.{LineWhy}
@@ -9,31 +9,10 @@ use Rattle.gx_commands.specs.Lines.{Lines, script_lines}
 use Rattle.gx_script.proofs.ReadingLaws.{one_reading, reading_of_line}
 use Rattle.gx_model.specs.Play.{End, stopped, end_text}
 use Rattle.gx_model.specs.Runs.{IsBadLine, AreFirstLines}
+use Rattle.gx_model.proofs.RunLemmas.{some_or, head_or, tail_of, bad_once, command_once, good_not_bad, none_not_some, no_line, later_of}
 use Rattle.gx_explain.specs.Explained.{command_text, AreExplained, IsExplainEnd, IsExplainedTo, IsExplainText}
 
 -- ---- a line is good or bad, in one way
-
-abbrev command_or : Command → Result Command LineWhy → Command
-command_or d (Ok c) = c
-command_or d (Err why) = d
-
-abbrev why_or : LineWhy → Result Command LineWhy → LineWhy
-why_or d (Ok c) = d
-why_or d (Err why) = why
-
-abbrev some_or : LineWhy → Option LineWhy → LineWhy
-some_or d None = d
-some_or d (Some why) = why
-
-good_not_bad : (c : Command) (why : LineWhy) → ◌≡◌ {A = Result Command LineWhy} (Ok c) (Err why) → ⊥
-good_not_bad c why e = cc
-
-none_not_some : (why : LineWhy) → ◌≡◌ {A = Option LineWhy} None (Some why) → ⊥
-none_not_some why e = cc
-
-command_once : (schema : Schema) (line : List ℕ) (c d : Command) → IsLineOf schema line c → IsLineOf schema line d → c ≡ d
-command_once schema line c d x y =
-    ap (command_or c) (one_reading schema line (Ok c) (Ok d) (reading_of_line schema line c x) (reading_of_line schema line d y))
 
 -- a good line that may stand where it does is not bad there
 placed_not_bad : (schema : Schema) (inside : Bool) (line : List ℕ) (c : Command) (why : LineWhy)
@@ -43,40 +22,7 @@ placed_not_bad schema inside line c why means placed (inl read) =
 placed_not_bad schema inside line c why means placed (inr bad) =
     none_not_some why (sym placed ∙ ap (place_reason inside) (command_once schema line c bad.0 means bad.1) ∙ bad.2)
 
-bad_once : (schema : Schema) (inside : Bool) (line : List ℕ) (why other : LineWhy)
-    → IsBadLine schema inside line why → IsBadLine schema inside line other → why ≡ other
-bad_once schema inside line why other (inl x) (inl y) = ap (why_or why) (one_reading schema line (Err why) (Err other) x y)
-bad_once schema inside line why other (inl x) (inr y) =
-    absurd (good_not_bad y.0 why (one_reading schema line (Ok y.0) (Err why) (reading_of_line schema line y.0 y.1) x))
-bad_once schema inside line why other (inr x) (inl y) =
-    absurd (good_not_bad x.0 other (one_reading schema line (Ok x.0) (Err other) (reading_of_line schema line x.0 x.1) y))
-bad_once schema inside line why other (inr x) (inr y) =
-    ap (some_or why) (sym x.2 ∙ ap (place_reason inside) (command_once schema line x.0 y.0 x.1 y.1) ∙ y.2)
-
 -- ---- the first of the lines that were explained
-
-abbrev head_or : List ℕ → List (List ℕ) → List ℕ
-head_or d [] = d
-head_or d (line ∷ lines) = line
-
-abbrev tail_of : List (List ℕ) → List (List ℕ)
-tail_of [] = []
-tail_of (line ∷ lines) = lines
-
-no_line : (line : List ℕ) (lines : List (List ℕ)) → ◌≡◌ {A = List (List ℕ)} (line ∷ lines) [] → ⊥
-no_line line lines e = cc
-
--- the lines behind the first of them
-record AreLater (line : List ℕ) (all : Lines) (ran : List (List ℕ)) (next : Result (Option (List ℕ)) LineWhy) : Type 0 where
-  rest : List (List ℕ)
-  parts : all.lines ≡ line ∷ rest
-  first : AreFirstLines (record { lines = rest; stop = all.stop }) ran next
-
-later_of : (line : List ℕ) (all : Lines) (ran : List (List ℕ)) (next : Result (Option (List ℕ)) LineWhy)
-    → AreFirstLines all (line ∷ ran) next → AreLater line all ran next
-later_of line all ran (Ok (Some other)) h = record { rest = ran ++ other ∷ h.0; parts = h.1; first = (h.0, refl) }
-later_of line all ran (Ok None) h = record { rest = ran; parts = h.0; first = (refl, h.1) }
-later_of line all ran (Err why) h = record { rest = ran; parts = h.0; first = (refl, h.1) }
 
 -- the text and the end of two explanations are one
 abbrev pub AreOne : List ℕ → List ℕ → End → End → Type 0

@@ -1,5 +1,5 @@
 -- The fields that are indexed in a term are those that are indexed in the node that it means.
-use Rattle.std.proofs.Common.{◌≡◌, ℕ, zero, suc, ◌+◌, List, [], ◌∷◌, Bool, false, refl, ap, ◌∙◌, arith}
+use Rattle.std.proofs.Common.{◌≡◌, ℕ, zero, suc, ◌+◌, List, [], ◌∷◌, Bool, false, refl, ap, ◌∙◌}
 use Rattle.std.specs.Prelude.{not, ◌&&◌, ◌||◌, is_some}
 use Rattle.gx_values.specs.declared.records.Form.{Form}
 use Rattle.gx_schema.specs.declared.schema.FileDef.{FileDef}
@@ -18,16 +18,8 @@ use Rattle.gx_types.specs.Any.{any_rule}
 use Rattle.gx_types.specs.HeadRules.{head_rule}
 use Rattle.gx_types.specs.Build.{leaf_count, side_leaf_count, IsLeafOf, IsTreeOf, AreTreesOf, IsTreeOfSide, AreTreesOfFiles}
 use Rattle.gx_types.specs.Nodes.{tree_at}
+use Rattle.gx_types.proofs.TreeLaws.{all_shift, no_shift, one_shift}
 use Rattle.gx_explain.specs.Indexed.{some_carries, term_indexed, terms_indexed, side_indexed, file_indexed}
-
-no_shift : (i : ℕ) → i + 0 ≡ i
-no_shift i = omega arith
-
-all_shift : (c : ℕ) → c ≡ 0 + c
-all_shift c = omega arith
-
-one_shift : (i c : ℕ) → i + suc c ≡ suc i + c
-one_shift i c = omega arith
 
 -- no field is indexed in a leaf
 leaf_not : (n : ℕ) (form : Form) (top : Head) (kids : Trees) (m : ℕ) (f : Form) (name : List ℕ)

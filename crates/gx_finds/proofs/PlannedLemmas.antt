@@ -4,6 +4,7 @@ use Rattle.std.specs.Prelude.{◌⊎◌, pos, unwrap_or}
 use Rattle.std.specs.List.{list_all, slice_get}
 use Rattle.std.specs.Option.{option_map}
 use Rattle.std.proofs.lemmas.Bool.{eqb-true, and_parts}
+use Rattle.std.proofs.lemmas.Option.{same_Some}
 use Rattle.gx_values.specs.declared.values.Kind.{Kind}
 use Rattle.gx_values.specs.declared.values.Kind.TheVariants as kind
 use Rattle.gx_values.specs.declared.values.Op.{Op}
@@ -12,15 +13,15 @@ use Rattle.gx_values.specs.declared.values.Value.{Value}
 use Rattle.gx_values.specs.declared.values.Value.TheVariants as value
 use Rattle.gx_values.specs.declared.records.Field.{Field}
 use Rattle.gx_values.specs.declared.keys.Span.{Span}
-use Rattle.gx_values.specs.Values.{Fits, AreFit}
+use Rattle.gx_values.specs.Values.{Fits, AreFit, no_field}
 use Rattle.gx_values.specs.Keys.{bytes_of, key_of, width_of, IsKeyKind}
 use Rattle.gx_values.specs.Spans.{IsSpanKind, IsValueSpan}
 use Rattle.gx_schema.specs.declared.schema.FileDef.{FileDef}
-use Rattle.gx_schema.specs.Lookups.{no_field, field_at, key_kind}
+use Rattle.gx_schema.specs.Lookups.{field_at, key_kind}
 use Rattle.gx_commands.specs.declared.command.Cond.{Cond}
 use Rattle.gx_commands.specs.declared.command.Find.{Find}
 use Rattle.gx_ports.specs.declared.leaves.TheConstants.{MAX_KEY_LEN}
-use Rattle.gx_gather.proofs.Lists.{some_same, none_some}
+use Rattle.gx_gather.proofs.Lists.{none_some}
 use Rattle.gx_mapping.specs.Rule.{In}
 use Rattle.gx_mapping.proofs.FieldLemmas.{fit_at}
 use Rattle.gx_stack.specs.Selected.{IsKeySpan}
@@ -49,7 +50,7 @@ ranked_there q indexed n number has = go q.conds number has
     go (c ∷ cs) (suc i) e = omega (arith, go cs i e)
 
 ranked : (q : Find) (indexed : List Bool) (n number : ℕ) (c : Cond) → HasRank q indexed n number → slice_get q.conds number ≡ Some c → rank_of indexed c ≡ n
-ranked q indexed n number c has there = some_same (rank_of indexed c) n (sym (ap (option_map (rank_of indexed)) there) ∙ has)
+ranked q indexed n number c has there = same_Some (rank_of indexed c) n (sym (ap (option_map (rank_of indexed)) there) ∙ has)
 
 -- a plan by the key or by an index has a condition of one of two ranks
 abbrev pub IsOneOf : ℕ → ℕ → ℕ → Type 0

@@ -2,7 +2,7 @@
 use Rattle.std.proofs.Common.{[], ◌≡◌, ◌≢◌, ℕ, zero, suc, ◌+◌, ◌<◌, List, ◌∷◌, ◌++◌, length, take, get_or, Bool, true, false, cond, refl, sym, ap, ◌∙◌, arith, append-nil, inl, inr}
 use Rattle.std.specs.Prelude.{◌&&◌, ◌⊎◌, min, filter, nat_eq}
 use Rattle.std.specs.List.{list_all}
-use Rattle.std.specs.Ordering.{nat_cmp, is_le, is_gt, ordering_then, ordering_reverse}
+use Rattle.std.specs.Ordering.{nat_cmp, is_le, ordering_then, ordering_reverse}
 use Rattle.std.specs.declared.cmp.Ordering.{Ordering}
 use Rattle.std.specs.declared.cmp.Ordering.TheVariants.{Less, Equal, Greater}
 use Rattle.std.specs.Cmp.Lexicographic.{slice_cmp}
@@ -10,6 +10,7 @@ use Rattle.std.proofs.lemmas.Bool.{cases_Bool, eqb-true}
 use Rattle.std.proofs.lemmas.Cmp.{ranked, upto, nat_eq_equiv, nat_list_cmp_total}
 use Rattle.std.proofs.lemmas.List.Elements.{filter_more}
 use Rattle.std.proofs.lemmas.List.Folds.{list_all-append}
+use Rattle.gx_laws.proofs.OrderingLemmas.{le_not_gt, not_gt_le, cmp_less, cmp_equal, cmp_greater}
 use Rattle.gx_values.specs.declared.values.Kind.{Kind}
 use Rattle.gx_values.specs.declared.values.Op.{Op}
 use Rattle.gx_values.specs.declared.values.Op.TheVariants as op
@@ -19,7 +20,6 @@ use Rattle.gx_values.specs.declared.keys.Span.{Span}
 use Rattle.gx_values.specs.Values.{Fits, value_cmp, is_met}
 use Rattle.gx_values.specs.Keys.{bytes_of, key_of, is_inside}
 use Rattle.gx_values.specs.Spans.{IsValueSpan}
-use Rattle.gx_values.proofs.OrderLemmas.{cmp_less, cmp_equal, cmp_greater}
 use Rattle.gx_schema.specs.declared.schema.FileDef.{FileDef}
 use Rattle.gx_schema.specs.Lookups.{field_at}
 use Rattle.gx_commands.specs.declared.command.Cond.{Cond}
@@ -34,21 +34,6 @@ use Rattle.std.proofs.lemmas.Bool.{and_parts}
 use Rattle.std.proofs.Math.Bool.{and-true}
 
 -- ---- the lower end
-
-le_not_gt : (o : Ordering) → is_le o ≡ true → is_gt o ≡ false
-le_not_gt Less h = refl
-le_not_gt Equal h = refl
-le_not_gt Greater h = cc
-
-pub not_gt_le : (o : Ordering) → is_gt o ≡ false → is_le o ≡ true
-not_gt_le Less h = refl
-not_gt_le Equal h = refl
-not_gt_le Greater h = cc
-
-pub gt_not_le : (o : Ordering) → is_gt o ≡ true → is_le o ≡ false
-gt_not_le Less h = cc
-gt_not_le Equal h = cc
-gt_not_le Greater h = refl
 
 gt_back : (o : Ordering) → is_le o ≡ false → is_le (ordering_reverse o) ≡ true
 gt_back Less h = cc

@@ -12,7 +12,7 @@ use Rattle.gx_schema.specs.Lookups.{field_at}
 use Rattle.gx_commands.specs.declared.command.Cond.{Cond}
 use Rattle.gx_commands.specs.declared.command.Find.{Find}
 use Rattle.gx_mapping.specs.Rule.{In}
-use Rattle.gx_gather.proofs.Lists.{all_at}
+use Rattle.gx_mapping.proofs.RuleLemmas.{all_in}
 use Rattle.gx_planner.specs.declared.plans.Plan.{Plan}
 use Rattle.gx_planner.specs.declared.plans.Plan.TheVariants.{Key, Link, Index, KeyRange, IndexRange, Scan}
 use Rattle.gx_model.specs.States.{File, IsRowOf, IsFileOf}
@@ -29,13 +29,13 @@ use Rattle.gx_finds.proofs.SpanLemmas.{inside_meets, key_inside}
 pub keys_within : (file : FileDef) (c : Cond) (conds : List Cond) (s : Span) (f : File) → In c conds → c.field ≡ 0 → c.op ≢ op.Unequal → c.field < length file.fields → HoldsAllMet (field_at file c.field).kind c.field conds s → IsFileOf file f → length (rows_inside s f) ≤ length (rows_meeting (Some c) f)
 keys_within file c conds s f there key other lt holds fit =
     fewer_pass (is_key_inside s) (meets_one (Some c)) (fin.entries f)
-    (λ r h inside. inside_meets file c conds s r there other lt holds (all_at (IsRowOf file) (fin.entries f) r fit h) (key_inside s r c.field key ∙ inside))
+    (λ r h inside. inside_meets file c conds s r there other lt holds (all_in (IsRowOf file) (fin.entries f) r fit h) (key_inside s r c.field key ∙ inside))
 
 -- inside that of all conditions on another field
 pub fields_within : (file : FileDef) (c : Cond) (conds : List Cond) (s : Span) (f : File) → In c conds → c.op ≢ op.Unequal → c.field < length file.fields → HoldsAllMet (field_at file c.field).kind c.field conds s → IsFileOf file f → length (rows_with c.field s f) ≤ length (rows_meeting (Some c) f)
 fields_within file c conds s f there other lt holds fit =
     fewer_pass (λ r. is_inside s.lo s.hi (bytes_of (value_at r c.field))) (meets_one (Some c)) (fin.entries f)
-    (λ r h inside. inside_meets file c conds s r there other lt holds (all_at (IsRowOf file) (fin.entries f) r fit h) inside)
+    (λ r h inside. inside_meets file c conds s r there other lt holds (all_in (IsRowOf file) (fin.entries f) r fit h) inside)
 
 -- without a condition
 pub all_meeting : (s : Span) (f : File) → ((key : List ℕ) → is_inside s.lo s.hi key ≡ true) → length (rows_inside s f) ≡ length (rows_meeting None f)

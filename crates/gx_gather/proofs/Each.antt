@@ -8,8 +8,9 @@ use Rattle.gx_values.specs.Values.{values_cmp}
 use Rattle.gx_values.specs.declared.records.Rec.{Rec}
 use Rattle.gx_mapping.specs.declared.parts.Part.{Part}
 use Rattle.gx_mapping.specs.Rule.{Rule, In, IsOf, data_parts, IsGathered}
+use Rattle.gx_mapping.proofs.RuleLemmas.{all_in}
 use Rattle.gx_gather.specs.Gather.{rec_cmp, part_for, AreEach, AreMade}
-use Rattle.gx_gather.proofs.Lists.{all_at, all_of}
+use Rattle.gx_gather.proofs.Lists.{all_of}
 use Rattle.gx_gather.proofs.Orders.{Ascends, sorted}
 
 -- the first so many are replaced, and the others as they were
@@ -101,7 +102,7 @@ module _ (rule : Rule) (c : ℕ) where
   each_ascends (q ∷ qs) (s ∷ rs) h a = (
     all_of (λ y. rec_cmp s y ≡ Less) rs (λ r there.
         let k = each_key qs rs h.1 r there in
-        (λ i. values_cmp (h.0.1 i) (k.2 i)) ∙ all_at (λ y. rec_cmp q y ≡ Less) qs k.0 a.0 k.1),
+        (λ i. values_cmp (h.0.1 i) (k.2 i)) ∙ all_in (λ y. rec_cmp q y ≡ Less) qs k.0 a.0 k.1),
     each_ascends qs rs h.1 a.1,
   )
 

@@ -1,5 +1,6 @@
-pub mod Lists
-pub mod Orders
-pub mod Made
-pub mod Each
 mod KeyOrder
+pub mod Each
+pub mod Entries
+pub mod Lists
+pub mod Made
+pub mod Orders

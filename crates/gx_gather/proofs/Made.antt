@@ -16,17 +16,13 @@ use Rattle.gx_values.specs.Values.{values_cmp, AreFit}
 use Rattle.gx_mapping.specs.declared.parts.Part.{Part}
 use Rattle.gx_mapping.specs.Rule.{Rule, In, IsOf, data_parts, part_cmp, AreOfKey, IsGathered}
 use Rattle.gx_mapping.specs.Laws.{MappingLaws}
+use Rattle.gx_mapping.proofs.FieldLemmas.{values_count}
+use Rattle.gx_mapping.proofs.RuleLemmas.{values_cmp_total}
 use Rattle.gx_gather.specs.Gather.{rec_cmp, gather_cmp, first_front, is_next, AreAlike, IsDataPart, AreDataParts, AreMade, AreMadeOf, IsUnmade}
 use Rattle.gx_gather.proofs.Lists.{in_left, in_right, in_cases, from_each, in_filter, in_contains, contains_in}
-use Rattle.gx_gather.proofs.Orders.{values_total, part_total, gather_total, values_same, before_other, front_up, front_tied, not_before_itself, Ascends, ascends, sorted, ascends_append, ascends_middle, ascends_by, Rises, rises, rises_across, rises_last, rises_ascends, gather_ties}
+use Rattle.gx_gather.proofs.Orders.{part_total, gather_total, values_same, before_other, front_up, front_tied, not_before_itself, Ascends, ascends, sorted, ascends_append, ascends_middle, ascends_by, Rises, rises, rises_across, rises_last, rises_ascends, gather_ties}
 
 -- ---- fronts of keys
-
-pub fit_length : (fs : List Field) (vs : List Value) → AreFit fs vs → length vs ≡ length fs
-fit_length [] [] f = refl
-fit_length [] (v ∷ vs) f = absurd f
-fit_length (x ∷ fs) [] f = absurd f
-fit_length (x ∷ fs) (v ∷ vs) f = ap suc (fit_length fs vs f.1)
 
 take_front : (xs ys : List Value) → take (length xs) (xs ++ ys) ≡ xs
 take_front [] ys = refl
@@ -78,7 +74,7 @@ module _ {rule : Rule} (laws : MappingLaws rule) (width : ℕ) (width_is : width
   pub lead : (r : Rec) (p : Part) → IsOf rule.form r → In p (rule.parts r) → rule.holds_rest p.child ≡ true → take width p.rec.key ≡ r.key
   lead r p fits h d =
       let begins = laws.key_leads r p fits h d in
-      ap (take width) begins.1 ∙ ap (λ n. take n (r.key ++ begins.0)) (width_is ∙ sym (fit_length rule.form.keys r.key fits.key)) ∙ take_front r.key begins.0
+      ap (take width) begins.1 ∙ ap (λ n. take n (r.key ++ begins.0)) (width_is ∙ sym (values_count rule.form.keys r.key fits.key)) ∙ take_front r.key begins.0
 
   pub lead_data : (r : Rec) (p : Part) → IsOf rule.form r → In p (data_parts rule r) → take width p.rec.key ≡ r.key
   lead_data r p fits h = let f = in_filter (λ (q : Part). rule.holds_rest q.child) p (rule.parts r) h in lead r p fits f.0 f.1
@@ -180,7 +176,7 @@ module _ {rule : Rule} (laws : MappingLaws rule) (width : ℕ) (width_is : width
   next_after [] q e up = absurd (true≢false (sym e))
   next_after (g ∷ gs) q e up =
       before_other (take width g.rec.key) (take width q.rec.key) (front_up width g q (up g (inl refl)))
-      (λ same. apart (eq_by_cmp values_cmp (take width g.rec.key) (take width q.rec.key)) e (ap (λ k. eq_by_cmp values_cmp (take width g.rec.key) k) (sym same) ∙ (eq_by_cmp_equiv values_total).refl (take width g.rec.key)))
+      (λ same. apart (eq_by_cmp values_cmp (take width g.rec.key) (take width q.rec.key)) e (ap (λ k. eq_by_cmp values_cmp (take width g.rec.key) k) (sym same) ∙ (eq_by_cmp_equiv values_cmp_total).refl (take width g.rec.key)))
     where
       apart : (b : Bool) → not b ≡ true → b ≡ true → ⊥
       apart true a f = true≢false (sym a)
@@ -220,7 +216,7 @@ module _ {rule : Rule} (laws : MappingLaws rule) (width : ℕ) (width_is : width
         below = λ r p h k. elim k [
           | inl same ↦ (
               let last : values_cmp r.key (take width q.rec.key) ≡ Less = elim (in_cases r g.done (made ∷ []) h) [
-                | inl i ↦ values_total.trans r.key (first_front width group) (take width q.rec.key) (subst (λ k. values_cmp r.key k ≡ Less) is.1 (made_after ps before out group (q ∷ rest) made some is.1 g r i)) after
+                | inl i ↦ values_cmp_total.trans r.key (first_front width group) (take width q.rec.key) (subst (λ k. values_cmp r.key k ≡ Less) is.1 (made_after ps before out group (q ∷ rest) made some is.1 g r i)) after
                 | inr i ↦ elim i [ inl at ↦ subst (λ k. values_cmp k (take width q.rec.key) ≡ Less) (sym (ap (λ (x : Rec). x.key) at ∙ is.1)) after | inr f ↦ absurd f ]
               ] in
               subst (λ (x : Part). values_cmp r.key (take width x.rec.key) ≡ Less) (sym same) last)
@@ -277,7 +273,7 @@ module _ {rule : Rule} (laws : MappingLaws rule) (width : ℕ) (width_is : width
           | inl i ↦ (
               let r = from_each (data_parts rule) p g.done i in
               let key = lead_data r.0 p (g.fit r.0 r.1) r.2 in
-              absurd (not_before_itself values_total (first_front width group) (subst (λ k. values_cmp k (first_front width group) ≡ Less) (sym key ∙ same) (subst (λ k. values_cmp r.0.key k ≡ Less) first.2 (g.below r.0 first.0 r.1 first.1)))))
+              absurd (not_before_itself values_cmp_total (first_front width group) (subst (λ k. values_cmp k (first_front width group) ≡ Less) (sym key ∙ same) (subst (λ k. values_cmp r.0.key k ≡ Less) first.2 (g.below r.0 first.0 r.1 first.1)))))
           | inr i ↦ elim (in_cases p group rest i) [ inl k ↦ k | inr k ↦ absurd (apart p k same) ]
         ];
         in_order = λ up. sorted part_cmp group (ascends_by group (λ p q i k. front_tied width p q (g.alike p i ∙ sym (g.alike q k))) (ascends_middle (gather_cmp width) (flat_map (data_parts rule) g.done) group rest (subst (Ascends (gather_cmp width)) g.those (ascends (gather_cmp width) ps up))));
@@ -290,7 +286,7 @@ module _ {rule : Rule} (laws : MappingLaws rule) (width : ℕ) (width_is : width
       let after : values_cmp (first_front width group) (take width q.rec.key) ≡ Less = next_after group q e (up_next ps before out group rest q up g) in
       let tail : Rises (gather_cmp width) (q ∷ rest) = rises_last (gather_cmp width) group (q ∷ rest) (rises_last (gather_cmp width) (flat_map (data_parts rule) g.done) (group ++ q ∷ rest) (subst (Rises (gather_cmp width)) g.those up)) in
       unmade_of ps before out group (q ∷ rest) some none g (λ p h same. elim h [
-        | inl is ↦ not_before_itself values_total (first_front width group) (subst (λ k. values_cmp (first_front width group) k ≡ Less) (ap (λ (x : Part). take width x.rec.key) (sym is) ∙ same) after)
+        | inl is ↦ not_before_itself values_cmp_total (first_front width group) (subst (λ k. values_cmp (first_front width group) k ≡ Less) (ap (λ (x : Part). take width x.rec.key) (sym is) ∙ same) after)
         | inr k ↦ (
             let up_p = front_up width q p (rises_across (gather_cmp width) (q ∷ []) rest q p tail (inl refl) k) in
             let back : values_cmp (take width p.rec.key) (take width q.rec.key) ≡ Less = subst (λ k. values_cmp k (take width q.rec.key) ≡ Less) (sym same) after in

@@ -19,7 +19,7 @@ use Rattle.gx_ports.specs.declared.kinds.LeafKind.TheVariants as kinds
 use Rattle.gx_ports.specs.declared.kinds.LeafSpec.{LeafSpec}
 use Rattle.gx_ports.specs.Keyed.{key_cmp}
 use Rattle.gx_ports.specs.Roots.{roots_of, roots_of_kind}
-use Rattle.gx_ports.proofs.KeyLemmas.{only_equal, front_le}
+use Rattle.gx_ports.proofs.KeyLemmas.{only_equal, front_le_of}
 use Rattle.gx_hash.specs.Buckets.{fnv, through_zero, whole_front, front_of, bucket_of, IsHashed}
 
 -- ---- there is a chain
@@ -144,13 +144,6 @@ front_begun (kind.Bytes most) lo f key is same = absurd (none-some f is)
 same_le : (x y : List ℕ) → x ≡ y → is_le (key_cmp x y) ≡ true
 same_le x y e = ap is_le (ap (key_cmp x) (sym e) ∙ tied_itself nat_list_cmp_total x)
 
-front_at_most : (n : ℕ) (x y : List ℕ) → is_le (key_cmp x y) ≡ true → is_le (key_cmp (take n x) (take n y)) ≡ true
-front_at_most n x y le = elim (key_cmp x y) as (λ r. key_cmp x y ≡ r → is_le r ≡ true → is_le (key_cmp (take n x) (take n y)) ≡ true) [
-  | Less ↦ λ is _. front_le n x y is
-  | Equal ↦ λ is _. same_le (take n x) (take n y) (ap (take n) (only_equal x y is))
-  | Greater ↦ λ _ e. absurd (false≢true e)
-] refl le
-
 close : (r t : Ordering) → t ≡ ordering_reverse r → is_le r ≡ true → is_le t ≡ true → r ≡ Equal
 close Less t e a b = absurd (false≢true (ap is_le (sym e) ∙ b))
 close Equal t e a b = refl
@@ -167,8 +160,8 @@ only_front first lo hi key f low high inside =
     let at_hi = front_begins first hi f high in
     let long = ap length (sym at_hi) ∙ length-take (length f) hi in
     let above = subst (λ (x : List ℕ). is_le (key_cmp x (take (length f) key)) ≡ true) at_lo
-    (front_at_most (length f) lo key (first_so (is_le (key_cmp lo key)) (is_le (key_cmp (take (length hi) key) hi)) inside)) in
-    let below = front_at_most (length f) (take (length hi) key) hi
+    (front_le_of (length f) lo key (first_so (is_le (key_cmp lo key)) (is_le (key_cmp (take (length hi) key) hi)) inside)) in
+    let below = front_le_of (length f) (take (length hi) key) hi
     (second_so (is_le (key_cmp lo key)) (is_le (key_cmp (take (length hi) key) hi)) inside) in
     let below_too = subst (λ (x : List ℕ). is_le (key_cmp x (take (length f) hi)) ≡ true)
     (take-take (length f) (length hi) key (omega (arith, long))) below in

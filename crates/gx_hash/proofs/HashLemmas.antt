@@ -10,11 +10,12 @@ use Rattle.gx_ports.specs.Files.{SameFor, OthersStay, IsPlace, IsWhole}
 use Rattle.gx_ports.specs.Roots.{roots_of}
 use Rattle.gx_ports.specs.LeafMaps.{LeafMap}
 use Rattle.gx_ports.specs.Sheets.{Sheets, Ground, IsPast}
+use Rattle.gx_ports.proofs.PageLemmas.{bytes_same}
 use Rattle.gx_chain.specs.Chain.{IsChain, IsOn, HasChainOf}
 use Rattle.gx_chain.specs.Chains.{IsOfChain}
 use Rattle.gx_chain.specs.Changes.{IsPutIn, IsRemovedFrom, StaysBeside}
 use Rattle.gx_chain.proofs.BucketsLemmas.{IsOneChanged, filled_once, at_bucket, on_chains, chains_changed, placed_changed, on_changed}
-use Rattle.gx_chain.proofs.ChainLemmas.{at_other, same_on, same_on_back, same_chain}
+use Rattle.gx_chain.proofs.ChainLemmas.{same_on, same_on_back, same_chain}
 use Rattle.gx_chain.proofs.ChainsLemmas.{changed, changed_here, changed_other}
 use Rattle.gx_chain.proofs.OwnerLemmas.{others_beside, owned_after}
 use Rattle.gx_chain.proofs.PairLemmas.{found_put, found_removed, none_put}
@@ -155,7 +156,7 @@ module _ (ground : Ground) (place : Place) (s t : Sheets) (map : LeafMap) (key :
 pub hash_same : (ground : Ground) (place : Place) (s t : Sheets) (map : LeafMap) → 1 ≤ roots_of place.spec → SameFor ground place.owner s t
     → IsHash ground place s map → IsHash ground place t map
 hash_same ground place s t map roots same h =
-    let bytes = λ (i q : ℕ) (in_i : i < roots_of place.spec) (c : Contains (h.pages i) q). at_other s t q
+    let bytes = λ (i q : ℕ) (in_i : i < roots_of place.spec) (c : Contains (h.pages i) q). bytes_same s t q
     (same.bytes q ((h.chains i in_i).past q c).past ((h.chains i in_i).owned q c)) in
     let back = λ (i : ℕ) (k c : List ℕ) (in_i : i < roots_of place.spec). same_on_back ground place.owner (place.root + i) s t (h.pages i)
     (λ q at. bytes i q in_i at) k c in

@@ -11,13 +11,13 @@ use Rattle.gx_ports.specs.declared.pages.Place.{Place}
 use Rattle.gx_ports.specs.Files.{OthersStay, IsPlace, IsVacant}
 use Rattle.gx_ports.specs.PageCalls.{KeepsPages}
 use Rattle.gx_ports.specs.Roots.{roots_of}
-use Rattle.gx_ports.specs.Sheets.{Sheets, Ground, IsPast}
+use Rattle.gx_ports.specs.Sheets.{Sheets, Ground, IsPast, bytes_at}
 use Rattle.gx_ports.specs.Keyed.{key_cmp}
+use Rattle.gx_ports.proofs.PageLemmas.{bytes_same}
 use Rattle.gx_slots.specs.Entries.{Entry}
 use Rattle.gx_slots.specs.Page.{IsEntryPage, entries_of, next_of}
-use Rattle.gx_chain.specs.Chain.{bytes_at, entries_at, next_at, IsChain, IsOn}
+use Rattle.gx_chain.specs.Chain.{entries_at, next_at, IsChain, IsOn}
 use Rattle.gx_chain.specs.Changes.{IsMade}
-use Rattle.gx_chain.proofs.ChainLemmas.{at_other}
 use Rattle.gx_chain.proofs.ListLemmas.{contains_here, contains_cases, contains_none}
 use Rattle.gx_chain.proofs.WriteLemmas.{slice_get_set, slice_get_set_same}
 use Rattle.gx_hash.specs.Buckets.{bucket_of}
@@ -86,7 +86,7 @@ module _ (ground : Ground) (place : Place) (s t u : Sheets) (count : ℕ) (at : 
       let r = before.made i less in
       let past = at.past in
       let d : place.root + i ≢ new_root = λ e. omega (arith, e, less) in
-      let same = at_other t u (place.root + i) (byte_stays (place.root + i) (omega (arith, past)) d) in
+      let same = bytes_same t u (place.root + i) (byte_stays (place.root + i) (omega (arith, past)) d) in
       record {
         owned = owner_stays (place.root + i) d ∙ r.owned;
         is_page = subst IsEntryPage (sym same) r.is_page;

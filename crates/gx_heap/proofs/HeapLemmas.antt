@@ -12,10 +12,11 @@ use Rattle.gx_ports.specs.declared.kinds.LeafKind.TheVariants as kinds
 use Rattle.gx_ports.specs.LeafMaps.{LeafMap}
 use Rattle.gx_ports.specs.Sheets.{Sheets, Ground, IsPast}
 use Rattle.gx_ports.specs.Keyed.{key_cmp}
+use Rattle.gx_ports.proofs.PageLemmas.{bytes_same}
 use Rattle.gx_slots.specs.Entries.{Entry}
 use Rattle.gx_chain.specs.Chain.{entries_at, IsChain, IsOn}
 use Rattle.gx_chain.specs.Changes.{IsPutIn, IsRemovedFrom, IsMade, StaysBeside}
-use Rattle.gx_chain.proofs.ChainLemmas.{at_other, same_on, same_on_back, same_chain}
+use Rattle.gx_chain.proofs.ChainLemmas.{same_on, same_on_back, same_chain}
 use Rattle.gx_chain.proofs.CountLemmas.{count_listed, chain_few}
 use Rattle.gx_chain.proofs.ListLemmas.{contains_here, contains_cases, contains_none}
 use Rattle.gx_chain.proofs.OwnerLemmas.{others_beside, owned_beside}
@@ -67,7 +68,7 @@ heap_few ground place s map h =
 pub heap_same : (ground : Ground) (place : Place) (s t : Sheets) (map : LeafMap) → SameFor ground place.owner s t
     → IsHeap ground place s map → IsHeap ground place t map
 heap_same ground place s t map same h =
-    let bytes = λ (q : ℕ) (c : Contains h.pages q). at_other s t q (same.bytes q (h.chain.past q c).past (h.chain.owned q c)) in
+    let bytes = λ (q : ℕ) (c : Contains h.pages q). bytes_same s t q (same.bytes q (h.chain.past q c).past (h.chain.owned q c)) in
     record {
       pages = h.pages;
       chain = same_chain ground place.owner place.root s t h.pages bytes (λ q c. (same.owned q).0 (h.chain.owned q c)) h.chain;

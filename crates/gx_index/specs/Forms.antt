@@ -1,21 +1,13 @@
 -- The forms of the layer.
-use Rattle.std.specs.Prelude.{ℕ, pos, ◌<◌, [], ◌∷◌, length, slice_index_or}
+use Rattle.std.specs.Prelude.{ℕ, ◌<◌, [], ◌∷◌, length, slice_index_or}
 use Rattle.std.specs.Coded.{le_prop}
 use Rattle.std.proofs.Common.{refl}
 use Rattle.gx_values.specs.declared.values.Kind.{Kind}
 use Rattle.gx_values.specs.declared.values.Kind.TheVariants as kind
-use Rattle.gx_values.specs.declared.values.Value.{Value}
 use Rattle.gx_values.specs.declared.values.Value.TheVariants as value
-use Rattle.gx_values.specs.declared.records.Field.{Field}
 use Rattle.gx_values.specs.declared.records.Form.{Form}
 use Rattle.gx_values.specs.Keys.{IsKeyKind}
-
--- what stands in the place of a field or a value that isn't there
-abbrev pub no_field : Field
-no_field = record { name = []; kind = kind.Int }
-
-abbrev pub no_value : Value
-no_value = value.Int (pos 0)
+use Rattle.gx_values.specs.Values.{no_field}
 
 -- the data field of the number and then the key, and no data
 abbrev pub entry_form : ℕ → Form → Form

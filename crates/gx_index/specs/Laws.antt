@@ -7,11 +7,12 @@ use Rattle.gx_values.specs.declared.values.Value.{Value}
 use Rattle.gx_values.specs.declared.records.Field.{Field}
 use Rattle.gx_values.specs.declared.records.Form.{Form}
 use Rattle.gx_values.specs.declared.records.Rec.{Rec}
+use Rattle.gx_values.specs.Values.{no_field, no_value}
 use Rattle.gx_mapping.specs.declared.parts.Part.{Part}
 use Rattle.gx_mapping.specs.Rule.{In, IsOf, BeginsWith, KeepsRecords, part_cmp, is_field, first_in}
 use Rattle.gx_mapping.specs.Laws.{MappingLaws, IsCarrier, IsEntered, IsIndex}
 use Rattle.gx_mapping.proofs.FieldLemmas.{has_value, first_kind, first_value, fit_at}
-use Rattle.gx_index.specs.Forms.{no_field, no_value, CanIndex}
+use Rattle.gx_index.specs.Forms.{CanIndex}
 use Rattle.gx_index.specs.Rules.{record_part, entry_part, index_rule}
 
 -- ---- the two parts

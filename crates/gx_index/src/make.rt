@@ -1,6 +1,7 @@
 // How a layer is made.
 ghost use Rattle.std.specs.Prelude.{◌≡◌, ◌∷◌, ◌<◌, length, slice_index_or, IfOk};
-ghost use Rattle.gx_index.specs.Forms.{entry_form, no_field, CanIndex};
+ghost use Rattle.gx_values.specs.Values.{no_field};
+ghost use Rattle.gx_index.specs.Forms.{entry_form, CanIndex};
 ghost use Rattle.gx_index.specs.Rules.{form_of, field_of};
 
 use crate::layer::Index;

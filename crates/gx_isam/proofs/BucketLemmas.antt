@@ -9,10 +9,10 @@ use Rattle.std.proofs.lemmas.List.Sums.{count_by-le-length}
 use Rattle.gx_ports.specs.declared.pages.Place.{Place}
 use Rattle.gx_ports.specs.Files.{OthersStay}
 use Rattle.gx_ports.specs.LeafMaps.{LeafMap}
-use Rattle.gx_ports.specs.Sheets.{Sheets, Ground}
+use Rattle.gx_ports.specs.Sheets.{Sheets, Ground, bytes_at}
 use Rattle.gx_ports.specs.Keyed.{key_cmp}
 use Rattle.gx_slots.specs.Page.{IsEntryPage, entries_of}
-use Rattle.gx_chain.specs.Chain.{bytes_at, entries_at, IsChain, IsOn}
+use Rattle.gx_chain.specs.Chain.{entries_at, IsChain, IsOn}
 use Rattle.gx_chain.specs.Changes.{StaysBeside}
 use Rattle.gx_chain.proofs.BucketsLemmas.{IsOneChanged, filled_once, at_bucket, on_chains, bytes_stay, chains_changed, placed_changed, on_changed}
 use Rattle.gx_chain.proofs.ChainLemmas.{linked_page}

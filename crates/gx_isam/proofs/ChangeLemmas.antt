@@ -8,10 +8,10 @@ use Rattle.gx_ports.specs.declared.pages.Place.{Place}
 use Rattle.gx_ports.specs.Files.{OthersStay}
 use Rattle.gx_ports.specs.LeafMaps.{LeafMap}
 use Rattle.gx_ports.specs.PageCalls.{ReadsPages}
-use Rattle.gx_ports.specs.Sheets.{Sheets, Ground, IsPast}
+use Rattle.gx_ports.specs.Sheets.{Sheets, Ground, IsPast, bytes_at}
 use Rattle.gx_slots.specs.Entries.{Entry}
 use Rattle.gx_slots.specs.Page.{IsEntryPage}
-use Rattle.gx_chain.specs.Chain.{bytes_at, IsChain, IsOn, LeadsOn}
+use Rattle.gx_chain.specs.Chain.{IsChain, IsOn, LeadsOn}
 use Rattle.gx_chain.specs.Changes.{IsPutIn, IsRemovedFrom}
 use Rattle.gx_chain.proofs.ChainLemmas.{linked_page}
 use Rattle.gx_chain.proofs.ListLemmas.{contains_here, contains_none}

@@ -6,11 +6,12 @@ use Rattle.std.proofs.lemmas.Option.{same_Some}
 use Rattle.gx_bytes.specs.declared.page.TheConstants.{NONE}
 use Rattle.gx_ports.specs.declared.pages.Place.{Place}
 use Rattle.gx_ports.specs.LeafMaps.{LeafMap}
-use Rattle.gx_ports.specs.Sheets.{Sheets, Ground, IsPast}
+use Rattle.gx_ports.specs.Sheets.{Sheets, Ground, IsPast, bytes_at}
+use Rattle.gx_ports.proofs.PageLemmas.{bytes_same}
 use Rattle.gx_slots.specs.Entries.{Entry}
 use Rattle.gx_slots.specs.Page.{IsEntryPage, entries_of, next_of}
-use Rattle.gx_chain.specs.Chain.{bytes_at, entries_at, AreLinked, IsChain, IsOn}
-use Rattle.gx_chain.proofs.ChainLemmas.{at_other, same_on, same_on_back, same_chain}
+use Rattle.gx_chain.specs.Chain.{entries_at, AreLinked, IsChain, IsOn}
+use Rattle.gx_chain.proofs.ChainLemmas.{same_on, same_on_back, same_chain}
 use Rattle.gx_chain.proofs.ListLemmas.{contains_here, contains_later, contains_cases, contains_none, pairs_cons}
 use Rattle.gx_chain.proofs.WriteLemmas.{slice_get_set, slice_get_set_same}
 use Rattle.gx_isam_index.specs.Index.{bucket_count, first_of}
@@ -90,10 +91,10 @@ module _ (ground : Ground) (place : Place) (s u : Sheets) (map : LeafMap) (some 
   old_apart q c e = fresh_off (subst (Contains old) e c)
 
   old_same : (q : ℕ) → Contains old q → bytes_at u q ≡ bytes_at s q
-  old_same q c = at_other s u q (byte_stays q (chain_old.past q c).past (λ e. root_off_old (subst (Contains old) e c)) (old_apart q c))
+  old_same q c = bytes_same s u q (byte_stays q (chain_old.past q c).past (λ e. root_off_old (subst (Contains old) e c)) (old_apart q c))
 
   fresh_bytes : bytes_at u f ≡ bytes_at n.filled f
-  fresh_bytes = at_other n.filled u f (n.written.others f fresh_apart)
+  fresh_bytes = bytes_same n.filled u f (n.written.others f fresh_apart)
 
   fresh_entries : entries_at u f ≡ es
   fresh_entries = ap entries_of fresh_bytes ∙ n.page.entries_are

@@ -9,10 +9,11 @@ use Rattle.gx_ports.specs.declared.kinds.LeafKind.TheVariants as kinds
 use Rattle.gx_ports.specs.declared.pages.Place.{Place}
 use Rattle.gx_ports.specs.Files.{IsPlace, AreFileLaws, SameFor}
 use Rattle.gx_ports.specs.LeafMaps.{LeafMap}
-use Rattle.gx_ports.specs.Sheets.{Sheets, Ground}
-use Rattle.gx_chain.specs.Chain.{bytes_at, IsChain, IsOn}
+use Rattle.gx_ports.specs.Sheets.{Sheets, Ground, bytes_at}
+use Rattle.gx_ports.proofs.PageLemmas.{bytes_same}
+use Rattle.gx_chain.specs.Chain.{IsChain, IsOn}
 use Rattle.gx_chain.specs.Collect.{ArePagesApart}
-use Rattle.gx_chain.proofs.ChainLemmas.{at_other, same_on, same_on_back, same_chain}
+use Rattle.gx_chain.proofs.ChainLemmas.{same_on, same_on_back, same_chain}
 use Rattle.gx_chain.proofs.MapLemmas.{owned_map_is, one_map}
 use Rattle.gx_chain.proofs.WriteLemmas.{slice_get_set, slice_get_set_same}
 use Rattle.gx_slots.specs.Page.{entries_of}
@@ -86,10 +87,10 @@ module _ (ground : Ground) (place : Place) (s : Sheets) (pages : ℕ → List �
 pub isam_same : (ground : Ground) (place : Place) (s t : Sheets) (map : LeafMap) → ground.tables ≤ place.root
     → SameFor ground place.owner s t → IsIsam ground place s map → IsIsam ground place t map
 isam_same ground place s t map past same h =
-    let root = at_other s t place.root (same.bytes place.root past h.root) in
+    let root = bytes_same s t place.root (same.bytes place.root past h.root) in
     let count = ap bucket_count root in
     let old = λ (i : ℕ) (less : i < bucket_count (bytes_at t place.root)). subst (λ n. i < n) count less in
-    let bytes = λ (i q : ℕ) (in_i : i < bucket_count (bytes_at s place.root)) (c : Contains (h.pages i) q). at_other s t q
+    let bytes = λ (i q : ℕ) (in_i : i < bucket_count (bytes_at s place.root)) (c : Contains (h.pages i) q). bytes_same s t q
     (same.bytes q ((h.buckets.chains i in_i).past q c).past ((h.buckets.chains i in_i).owned q c)) in
     let back = λ (i : ℕ) (k c : List ℕ) (in_i : i < bucket_count (bytes_at s place.root)). same_on_back ground place.owner 0 s t
     (h.pages i) (λ q at. bytes i q in_i at) k c in

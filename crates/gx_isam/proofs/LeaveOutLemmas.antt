@@ -7,12 +7,13 @@ use Rattle.std.proofs.lemmas.Option.{same_Some}
 use Rattle.gx_bytes.specs.declared.page.TheConstants.{NONE}
 use Rattle.gx_ports.specs.declared.pages.Place.{Place}
 use Rattle.gx_ports.specs.LeafMaps.{LeafMap}
-use Rattle.gx_ports.specs.Sheets.{Sheets, Ground}
+use Rattle.gx_ports.specs.Sheets.{Sheets, Ground, bytes_at}
+use Rattle.gx_ports.proofs.PageLemmas.{bytes_same}
 use Rattle.gx_slots.specs.Entries.{Entry}
 use Rattle.gx_slots.specs.Page.{entries_of}
-use Rattle.gx_chain.specs.Chain.{bytes_at, entries_at, next_at, IsChain, IsOn}
+use Rattle.gx_chain.specs.Chain.{entries_at, next_at, IsChain, IsOn}
 use Rattle.gx_chain.specs.Changes.{StaysBeside}
-use Rattle.gx_chain.proofs.ChainLemmas.{at_other, same_on, same_on_back, same_chain}
+use Rattle.gx_chain.proofs.ChainLemmas.{same_on, same_on_back, same_chain}
 use Rattle.gx_chain.proofs.ListLemmas.{contains_here, contains_later, contains_cases, contains_none, pairs_head, pairs_tail}
 use Rattle.gx_chain.proofs.WriteLemmas.{slice_get_set, slice_get_set_same}
 use Rattle.gx_isam_index.specs.Index.{IsIndexPage, bucket_count, first_of, separators_of}
@@ -56,7 +57,7 @@ module _ (ground : Ground) (place : Place) (s t u : Sheets) (map : LeafMap) (som
   ]
 
   root_same : bytes_at t root ≡ bytes_at s root
-  root_same = at_other s t root (beside.bytes root past off_old off_new)
+  root_same = bytes_same s t root (beside.bytes root past off_old off_new)
 
   root_owned : slice_get t.owners root ≡ Some place.owner
   root_owned = beside.owners root off_old off_new ∙ h.root
@@ -126,10 +127,10 @@ module _ (ground : Ground) (place : Place) (s t u : Sheets) (map : LeafMap) (som
     byte_stays q in' d = l.freed.bytes q in' ∙ l.written.others q d
 
     rest_same : (q : ℕ) → Contains rest q → bytes_at u q ≡ bytes_at t q
-    rest_same q c = at_other t u q (byte_stays q (chain.past q (rest_in q c)).past (λ e. off_new (subst (Contains pages) e (rest_in q c))))
+    rest_same q c = bytes_same t u q (byte_stays q (chain.past q (rest_in q c)).past (λ e. off_new (subst (Contains pages) e (rest_in q c))))
 
     root_now : bytes_at u root ≡ bytes_at m root
-    root_now = at_other m u root (l.freed.bytes root past)
+    root_now = bytes_same m u root (l.freed.bytes root past)
 
     pub left_out : IsBucketChanged ground place j s u (h.pages j) rest
     left_out = record {

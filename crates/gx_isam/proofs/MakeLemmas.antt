@@ -10,9 +10,9 @@ use Rattle.gx_ports.specs.declared.kinds.LeafKind.TheVariants as kinds
 use Rattle.gx_ports.specs.declared.pages.Place.{Place}
 use Rattle.gx_ports.specs.Files.{OthersStay, IsVacant, IsPlace, ClaimsRoots}
 use Rattle.gx_ports.specs.Roots.{roots_of, roots_of_kind}
-use Rattle.gx_ports.specs.Sheets.{Sheets, Ground, IsClaimed}
+use Rattle.gx_ports.specs.Sheets.{Sheets, Ground, IsClaimed, bytes_at}
 use Rattle.gx_ports.specs.Keyed.{key_cmp}
-use Rattle.gx_chain.specs.Chain.{bytes_at, IsChain}
+use Rattle.gx_chain.specs.Chain.{IsChain}
 use Rattle.gx_chain.proofs.ListLemmas.{contains_none}
 use Rattle.gx_chain.proofs.WriteLemmas.{slice_get_set, slice_get_set_same}
 use Rattle.gx_isam_index.specs.Index.{IsIndexPage, bucket_count, first_of}

@@ -6,8 +6,8 @@ use Rattle.std.specs.FinMap as fin
 use Rattle.gx_ports.specs.declared.pages.Place.{Place}
 use Rattle.gx_ports.specs.Files.{page_count}
 use Rattle.gx_ports.specs.LeafMaps.{LeafMap}
-use Rattle.gx_ports.specs.Sheets.{Sheets, Ground}
-use Rattle.gx_chain.specs.Chain.{bytes_at, entries_at, IsOn}
+use Rattle.gx_ports.specs.Sheets.{Sheets, Ground, bytes_at}
+use Rattle.gx_chain.specs.Chain.{entries_at, IsOn}
 use Rattle.gx_chain.specs.Collect.{ArePagesApart}
 use Rattle.gx_chain.proofs.ChainsLemmas.{below_to, below_from, map_below}
 use Rattle.gx_chain.proofs.CountLemmas.{count_listed, keys_few, first_of as entry_of}

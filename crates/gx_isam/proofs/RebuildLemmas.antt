@@ -8,6 +8,7 @@ use Rattle.std.proofs.lemmas.Bool.Decides.{nat_tests}
 use Rattle.std.proofs.lemmas.List.{get_or-set_same}
 use Rattle.std.proofs.lemmas.List.Sums.{count_by-le-length, sum_by-set}
 use Rattle.std.proofs.lemmas.Option.{same_Some, none-some, get_or_from_slice_get, slice_get_within}
+use Rattle.gx_laws.proofs.NumberLemmas.{number_itself}
 use Rattle.gx_bytes.specs.declared.page.TheConstants.{NONE}
 use Rattle.gx_ports.specs.declared.leaves.Entry.{Entry as LeafEntry}
 use Rattle.gx_ports.specs.declared.page_view.PageView.{Ghosts}
@@ -15,13 +16,13 @@ use Rattle.gx_ports.specs.declared.pages.Place.{Place}
 use Rattle.gx_ports.specs.Files.{OthersStay, page_count}
 use Rattle.gx_ports.specs.LeafMaps.{LeafMap, selected}
 use Rattle.gx_ports.specs.PageCalls.{KeepsPages}
-use Rattle.gx_ports.specs.Sheets.{Sheets, Ground}
+use Rattle.gx_ports.specs.Sheets.{Sheets, Ground, bytes_at}
 use Rattle.gx_ports.specs.Keyed.{key_cmp}
+use Rattle.gx_ports.proofs.PageLemmas.{others_itself, others_joined}
 use Rattle.gx_slots.specs.Entries.{Entry}
 use Rattle.gx_slots.specs.Page.{IsEntryPage, entries_of}
-use Rattle.gx_chain.specs.Chain.{bytes_at, entries_at, next_at, IsChain, IsOn}
+use Rattle.gx_chain.specs.Chain.{entries_at, next_at, IsChain, IsOn}
 use Rattle.gx_chain.specs.Changes.{StaysBeside}
-use Rattle.gx_chain.proofs.MapLemmas.{equal_itself}
 use Rattle.gx_chain.proofs.CountLemmas.{count_listed}
 use Rattle.gx_chain.proofs.EntryLemmas.{more_from, more_to}
 use Rattle.gx_chain.proofs.ListLemmas.{contains_here, contains_later, contains_none}
@@ -45,19 +46,6 @@ use Rattle.gx_isam.proofs.LeaveOutLemmas.{headed, left_out, on_rest}
 
 -- ---- other owners, over two changes
 
-pub others_joined : (ground : Ground) (owner : ℕ) (s t u : Sheets) → OthersStay ground owner s t → OthersStay ground owner t u
-    → OthersStay ground owner s u
-others_joined ground owner s t u a b other d z =
-    let x = a other d z in
-    let y = b other d z in
-    record {
-      owned = λ q. (λ o. (y.owned q).0 ((x.owned q).0 o), λ o. (x.owned q).1 ((y.owned q).1 o));
-      bytes = λ q past o. y.bytes q past ((x.owned q).0 o) ∙ x.bytes q past o;
-    }
-
-pub others_itself : (ground : Ground) (owner : ℕ) (s : Sheets) → OthersStay ground owner s s
-others_itself ground owner s other d z = record { owned = λ q. (λ o. o, λ o. o); bytes = λ q past o. refl }
-
 -- ---- the pages of an owner are counted
 
 zero_other : (n : ℕ) → 1 ≤ n → (0 == n) ≡ false
@@ -69,7 +57,7 @@ count_freed owner q owners some is =
     let f = λ (o : ℕ). cond {A = ℕ} (o == owner) 1 0 in
     let parts = sum_by-set f owners q 0 0 (slice_get_within owners q owner is) in
     let here : f (get_or owners q 0) ≡ 1 = ap f (get_or_from_slice_get owners q owner 0 is)
-    ∙ ap (λ (b : Bool). cond {A = ℕ} b 1 0) (equal_itself owner) in
+    ∙ ap (λ (b : Bool). cond {A = ℕ} b 1 0) (number_itself owner) in
     let none : f 0 ≡ 0 = ap (λ (b : Bool). cond {A = ℕ} b 1 0) (zero_other owner some) in
     omega (arith, parts, here, none)
 

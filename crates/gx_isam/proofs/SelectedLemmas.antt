@@ -4,21 +4,22 @@ use Rattle.std.specs.Prelude.{T, filter, slice_get}
 use Rattle.std.specs.FinMap as fin
 use Rattle.std.specs.FinMap.Entries.{below_all}
 use Rattle.std.specs.List.{All, Contains}
-use Rattle.std.specs.Ordering.{is_lt, eq_by_cmp}
-use Rattle.std.specs.declared.cmp.Ordering.{Ordering}
-use Rattle.std.specs.declared.cmp.Ordering.TheVariants.{Less, Equal, Greater}
+use Rattle.std.specs.Ordering.{eq_by_cmp}
+use Rattle.std.specs.declared.cmp.Ordering.TheVariants.{Less}
 use Rattle.std.proofs.lemmas.Option.{none-some, same_Some}
+use Rattle.gx_laws.proofs.OrderingLemmas.{is_less}
+use Rattle.gx_laws.proofs.BoolLemmas.{first_of_both, second_of_both}
 use Rattle.gx_values.specs.Keys.{is_inside}
+use Rattle.gx_values.proofs.OrderLemmas.{all_inside}
 use Rattle.gx_ports.specs.declared.leaves.Entry.{Entry as LeafEntry}
 use Rattle.gx_ports.specs.declared.pages.Place.{Place}
 use Rattle.gx_ports.specs.Keyed.{key_cmp}
 use Rattle.gx_ports.specs.LeafMaps.{LeafMap, entry_of, selected}
-use Rattle.gx_ports.specs.Sheets.{Sheets, Ground}
+use Rattle.gx_ports.specs.Sheets.{Sheets, Ground, bytes_at}
 use Rattle.gx_ports.proofs.KeyLemmas.{same_key, tied}
-use Rattle.gx_ports.proofs.KeyedLemmas.{first_of_both, second_of_both}
 use Rattle.gx_slots.specs.Entries.{Entry, IsFit}
 use Rattle.gx_slots.proofs.PageLemmas.{page_of}
-use Rattle.gx_chain.specs.Chain.{bytes_at, entries_at}
+use Rattle.gx_chain.specs.Chain.{entries_at}
 use Rattle.gx_chain.proofs.ChainLemmas.{linked_page}
 use Rattle.gx_isam_index.specs.Index.{first_of}
 use Rattle.gx_isam.specs.Isam.{IsIsam}
@@ -31,14 +32,10 @@ Pairs = List (List ℕ × List ℕ)
 
 -- ---- without bounds all are inside
 
-inside_all : (k : List ℕ) → is_inside [] [] k ≡ true
-inside_all [] = refl
-inside_all (x ∷ xs) = refl
-
 filtered_all : (es : Pairs) → filter (λ e. is_inside [] [] e.0) es ≡ es
 filtered_all [] = refl
 filtered_all (e ∷ es) = ap (λ (b : Bool). cond b (e ∷ filter (λ e. is_inside [] [] e.0) es) (filter (λ e. is_inside [] [] e.0) es))
-    (inside_all e.0) ∙ ap (λ (x : Pairs). e ∷ x) (filtered_all es)
+    (all_inside e.0) ∙ ap (λ (x : Pairs). e ∷ x) (filtered_all es)
 
 pub all_selected : (m : LeafMap) → selected [] [] m ≡ map entry_of (fin.entries m)
 all_selected m = ap (map entry_of) (filtered_all (fin.entries m))
@@ -52,16 +49,11 @@ keys_selected m = ap keys_of (all_selected m) ∙ keys_are (fin.entries m)
 
 -- ---- their keys ascend
 
-less_of : (r : Ordering) → T (is_lt r) → r ≡ Less
-less_of Less h = refl
-less_of Equal h = absurd h
-less_of Greater h = absurd h
-
 below_each : (k : List ℕ) (es : Pairs) (i : ℕ) (f : LeafEntry) → T (below_all key_cmp k es) → slice_get (map entry_of es) i ≡ Some f
     → key_cmp k f.key ≡ Less
 below_each k [] i f all at = absurd (none-some f at)
 below_each k (e ∷ es) zero f all at = ap (λ (x : LeafEntry). key_cmp k x.key) (sym (same_Some (entry_of e) f at))
-    ∙ less_of (key_cmp k e.0) (first_of_both _ _ all)
+    ∙ is_less (key_cmp k e.0) (first_of_both _ _ all)
 below_each k (e ∷ es) (suc i) f all at = below_each k es i f (second_of_both _ _ all) at
 
 ascending : (es : Pairs) → T (fin.is_sorted key_cmp es) → (i : ℕ) (e f : LeafEntry) → slice_get (map entry_of es) i ≡ Some e

@@ -6,16 +6,15 @@ use Rattle.std.specs.List.{count_by}
 use Rattle.std.specs.Ordering.{is_eq, is_le}
 use Rattle.std.specs.declared.cmp.Ordering.{Ordering}
 use Rattle.std.specs.declared.cmp.Ordering.TheVariants.{Less, Equal, Greater}
-use Rattle.std.proofs.lemmas.Bool.{cases_Bool, false≢true}
+use Rattle.std.proofs.lemmas.Bool.{cases_Bool}
 use Rattle.std.proofs.lemmas.List.Sums.{sum_by-cons}
 use Rattle.gx_values.specs.Keys.{is_inside}
 use Rattle.gx_ports.specs.declared.leaves.Entry.{Entry as LeafEntry}
 use Rattle.gx_ports.specs.declared.pages.Place.{Place}
 use Rattle.gx_ports.specs.Keyed.{key_cmp}
 use Rattle.gx_ports.specs.LeafMaps.{LeafMap}
-use Rattle.gx_ports.specs.Sheets.{Sheets, Ground}
-use Rattle.gx_ports.proofs.KeyLemmas.{front_le, le_trans, only_equal, tied}
-use Rattle.gx_chain.specs.Chain.{bytes_at}
+use Rattle.gx_ports.specs.Sheets.{Sheets, Ground, bytes_at}
+use Rattle.gx_ports.proofs.KeyLemmas.{le_trans, tied, front_le_of}
 use Rattle.gx_chain.specs.Chains.{IsOnChain, AreGathered}
 use Rattle.gx_chain.specs.Collect.{inside_on}
 use Rattle.gx_chain.proofs.SpanLemmas.{AreBucketChains, pages_between, between_gathered}
@@ -50,13 +49,6 @@ pub bucket_least : (separators : List (List ℕ)) (lo hi key : List ℕ) → is_
     → bucket_among separators lo ≤ bucket_among separators key
 bucket_least separators lo hi key inside = count_more (λ s. is_le (key_cmp s lo)) (λ s. is_le (key_cmp s key)) separators
     (λ s e. le_trans s lo key e (first_so _ _ inside))
-
-front_le_of : (n : ℕ) (x y : List ℕ) → is_le (key_cmp x y) ≡ true → is_le (key_cmp (take n x) (take n y)) ≡ true
-front_le_of n x y e = elim (key_cmp x y) as (λ r. key_cmp x y ≡ r → is_le r ≡ true → is_le (key_cmp (take n x) (take n y)) ≡ true) [
-  | Less ↦ λ is _. front_le n x y is
-  | Equal ↦ λ is _. subst (λ (z : List ℕ). is_le (key_cmp (take n x) (take n z)) ≡ true) (only_equal x y is) (le_itself (take n x))
-  | Greater ↦ λ _ never. absurd (false≢true never)
-] refl e
 
 -- and no greater than the last one by its upper end
 pub bucket_most : (separators : List (List ℕ)) (lo hi key : List ℕ) → is_inside lo hi key ≡ true

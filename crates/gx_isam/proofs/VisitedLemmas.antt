@@ -8,8 +8,8 @@ use Rattle.gx_ports.specs.declared.page_view.PageView.{Ghosts}
 use Rattle.gx_ports.specs.declared.pages.Place.{Place}
 use Rattle.gx_ports.specs.Files.{IsWhole}
 use Rattle.gx_ports.specs.LeafMaps.{LeafMap}
-use Rattle.gx_ports.specs.Sheets.{Sheets, Ground}
-use Rattle.gx_chain.specs.Chain.{bytes_at, entries_at, IsChain}
+use Rattle.gx_ports.specs.Sheets.{Sheets, Ground, bytes_at}
+use Rattle.gx_chain.specs.Chain.{entries_at, IsChain}
 use Rattle.gx_chain.specs.Placed.{HaveBucket}
 use Rattle.gx_chain.proofs.ListLemmas.{contains_here, contains_none}
 use Rattle.gx_chain.proofs.PlacedChainLemmas.{IsVisiting, all_marked, chain_there}

@@ -7,8 +7,7 @@ use Rattle.gx_ports.specs.declared.stop.Stop.{Stop}
 use Rattle.gx_ports.specs.declared.stop.Stop.TheVariants as stop
 use Rattle.gx_ports.specs.declared.page_view.PageView.{Ghosts}
 use Rattle.gx_ports.specs.Files.{EndsFile, OthersStay}
-use Rattle.gx_ports.specs.Sheets.{Sheets, Ground}
-use Rattle.gx_chain.specs.Chain.{bytes_at}
+use Rattle.gx_ports.specs.Sheets.{Sheets, Ground, bytes_at}
 use Rattle.gx_chain.proofs.WriteLemmas.{slice_get_set}
 use Rattle.gx_isam_index.specs.Index.{IsIndexPage, bucket_count, first_of, separators_of}
 use Rattle.gx_isam.specs.Change.{IsIndexWritten}

@@ -2,9 +2,9 @@
 use Rattle.std.specs.Prelude.{◌≡◌, ◌≢◌, ◌⊎◌, ℕ, ◌<◌, List, [], slice_get, Option, MatchOption}
 use Rattle.gx_bytes.specs.declared.page.TheConstants.{NONE}
 use Rattle.gx_ports.specs.declared.pages.Place.{Place}
-use Rattle.gx_ports.specs.Sheets.{Sheets, Ground, IsPast, IsClaimed, IsOwnedAnew}
+use Rattle.gx_ports.specs.Sheets.{Sheets, Ground, IsPast, IsClaimed, IsOwnedAnew, bytes_at}
 use Rattle.gx_slots.specs.Entries.{Entry}
-use Rattle.gx_chain.specs.Chain.{bytes_at, entries_at, next_at}
+use Rattle.gx_chain.specs.Chain.{entries_at, next_at}
 use Rattle.gx_chain.specs.Changes.{IsRewritten}
 use Rattle.gx_isam_index.specs.Index.{IsIndexPage, bucket_count, first_of, separators_of}
 

@@ -2,8 +2,7 @@
 use Rattle.std.specs.FinMap.{keys}
 use Rattle.gx_ports.specs.declared.pages.Place.{Place}
 use Rattle.gx_ports.specs.LeafMaps.{LeafMap}
-use Rattle.gx_ports.specs.Sheets.{Sheets}
-use Rattle.gx_chain.specs.Chain.{bytes_at}
+use Rattle.gx_ports.specs.Sheets.{Sheets, bytes_at}
 use Rattle.gx_isam_index.specs.Fresh.{HasFreshBuckets}
 
 -- the index of the file has them for the keys of the map

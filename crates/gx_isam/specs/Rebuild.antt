@@ -8,9 +8,8 @@ use Rattle.gx_ports.specs.declared.page_view.PageView.{Ghosts}
 use Rattle.gx_ports.specs.declared.pages.Place.{Place}
 use Rattle.gx_ports.specs.Files.{OthersStay, page_count}
 use Rattle.gx_ports.specs.LeafMaps.{LeafMap}
-use Rattle.gx_ports.specs.Sheets.{Sheets, Ground}
+use Rattle.gx_ports.specs.Sheets.{Sheets, Ground, bytes_at}
 use Rattle.gx_slots.specs.Entries.{Entry}
-use Rattle.gx_chain.specs.Chain.{bytes_at}
 use Rattle.gx_isam_index.specs.Index.{bucket_count, bucket_of, first_of, separators_of}
 use Rattle.gx_isam.specs.Isam.{IsIsam}
 

@@ -2,9 +2,9 @@
 use Rattle.std.specs.Prelude.{◌≡◌, ◌≢◌, ◌⊎◌, ℕ, true, Bool, List, [], slice_get, Some, IsTrue}
 use Rattle.std.specs.List.{Contains}
 use Rattle.gx_ports.specs.declared.page_view.PageView.{Ghosts}
-use Rattle.gx_ports.specs.Sheets.{Sheets, Ground}
+use Rattle.gx_ports.specs.Sheets.{Sheets, Ground, bytes_at}
 use Rattle.gx_slots.specs.Page.{IsEntryPage}
-use Rattle.gx_chain.specs.Chain.{bytes_at, entries_at}
+use Rattle.gx_chain.specs.Chain.{entries_at}
 use Rattle.gx_chain.specs.Placed.{HaveBucket, IsPlacedChain, HasPlacedChain, ArePlacedChains}
 use Rattle.gx_isam_index.specs.Index.{bucket_of, first_of}
 

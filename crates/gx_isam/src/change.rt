@@ -4,9 +4,9 @@ ghost use Rattle.gx_ports.specs.declared.leaves.TheConstants.{MAX_KEY_LEN, MAX_E
 ghost use Rattle.gx_ports.specs.declared.pages.TheConstants.{PAGE_LEN};
 ghost use Rattle.gx_ports.specs.Files.{IsPlace, EndsFile};
 ghost use Rattle.gx_ports.specs.PageCalls.{KeepsPages, CountsPageFaults};
-ghost use Rattle.gx_ports.specs.Sheets.{IsPast, HasNone};
+ghost use Rattle.gx_ports.specs.Sheets.{IsPast, HasNone, bytes_at};
 ghost use Rattle.gx_slots.specs.Page.{IsEntryPage, entries_of};
-ghost use Rattle.gx_chain.specs.Chain.{bytes_at, IsEntryAt};
+ghost use Rattle.gx_chain.specs.Chain.{IsEntryAt};
 ghost use Rattle.gx_isam_index.specs.Index.{IsIndexPage, bucket_count, separators_of, first_of};
 ghost use Rattle.gx_isam.specs.Change.{IsHungBefore, IsLeftOut, IsLeftOutIfEmpty};
 

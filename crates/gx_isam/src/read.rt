@@ -3,8 +3,8 @@ ghost use Rattle.std.specs.Prelude.{◌≡◌, ◌<◌, ◌^◌, length, IsTrue,
 ghost use Rattle.gx_ports.specs.declared.pages.TheConstants.{PAGE_LEN};
 ghost use Rattle.gx_ports.specs.Files.{EndsFile};
 ghost use Rattle.gx_ports.specs.PageCalls.{ReadsPages};
-ghost use Rattle.gx_ports.specs.Sheets.{IsPast};
-ghost use Rattle.gx_chain.specs.Chain.{bytes_at, LeadsOn};
+ghost use Rattle.gx_ports.specs.Sheets.{IsPast, bytes_at};
+ghost use Rattle.gx_chain.specs.Chain.{LeadsOn};
 ghost use Rattle.gx_isam_index.specs.Index.{IsIndexPage, bucket_count, first_of};
 ghost use Rattle.gx_isam.specs.Isam.{IsIndexAt};
 ghost use Rattle.gx_isam.specs.Change.{IsFirst};

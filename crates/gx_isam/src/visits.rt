@@ -3,8 +3,8 @@ ghost use Rattle.std.specs.Prelude.{◌≡◌, ◌≢◌, ◌==◌, ◌<◌, [],
 ghost use Rattle.std.specs.List.{list_all};
 ghost use Rattle.gx_ports.specs.Files.{EndsFile, IsPlace, IsWhole};
 ghost use Rattle.gx_ports.specs.PageCalls.{ReadsPages};
-ghost use Rattle.gx_ports.specs.Sheets.{IsPast};
-ghost use Rattle.gx_chain.specs.Chain.{bytes_at, entries_at};
+ghost use Rattle.gx_ports.specs.Sheets.{IsPast, bytes_at};
+ghost use Rattle.gx_chain.specs.Chain.{entries_at};
 ghost use Rattle.gx_isam_index.specs.Index.{IsIndexPage, bucket_count, bucket_of};
 ghost use Rattle.gx_isam.specs.Isam.{IsIsam};
 ghost use Rattle.gx_isam.specs.Visited.{AreVisitedBuckets, HasEntryAt, HasRootAndSeen, HasUnseenBucket, IsRootAndSeen, IsVisitedBucket};

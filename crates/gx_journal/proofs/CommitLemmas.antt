@@ -1,8 +1,10 @@
 -- A commit whose changed pages are in their slots.
-use Rattle.std.proofs.Common.{◌≡◌, inl, inr, ℕ, ◌+◌, ◌*◌, ◌≤◌, Bool, true, false, List, [], ◌∷◌, ◌++◌, length, IsTrue, refl, sym, ◌∙◌, ap, subst, arith, length-append, Result, Ok, Err}
+use Rattle.std.proofs.Common.{◌≡◌, inl, inr, ℕ, ◌+◌, ◌*◌, ◌≤◌, Bool, true, false, List, ◌++◌, length, IsTrue, refl, sym, ◌∙◌, ap, subst, arith, length-append, Result, Ok, Err}
 use Rattle.std.specs.Prelude.{◌||◌, OnOk, is_err}
 use Rattle.std.proofs.lemmas.List.{append-nil}
 use Rattle.std.proofs.lemmas.List.FromFn.{length-map-range_with_len}
+use Rattle.std.proofs.lemmas.Bool.{or_parts}
+use Rattle.gx_laws.proofs.ListLemmas.{none_long}
 use Rattle.gx_frames.specs.Pool.{Resident}
 use Rattle.gx_device.specs.declared.device.Failed.{Failed}
 use Rattle.gx_device.specs.Content.{Content}
@@ -22,10 +24,6 @@ use Rattle.gx_journal.proofs.ForgetLemmas.{none_left}
 use Rattle.gx_journal.proofs.PageLemmas.{pages_same, slots_hold, homes_stored}
 use Rattle.gx_journal.proofs.OpenLemmas.{opened_kept}
 
-no_items : (xs : List ℕ) → length xs ≡ 0 → xs ≡ []
-no_items [] is = refl
-no_items (x ∷ xs) is = absurd (omega (arith, is))
-
 -- two lists that begin with each other are one
 pub prefix_both : (xs ys : List ℕ) → IsPrefix xs ys → IsPrefix ys xs → ys ≡ xs
 prefix_both xs ys p q =
@@ -33,7 +31,7 @@ prefix_both xs ys p q =
     let less = length-append ys q.0 in
     let up = ap (λ (l : List ℕ). length l) p.1 in
     let down = ap (λ (l : List ℕ). length l) q.1 in
-    p.1 ∙ ap (λ (l : List ℕ). xs ++ l) (no_items p.0 (omega (arith, more, less, up, down))) ∙ append-nil xs
+    p.1 ∙ ap (λ (l : List ℕ). xs ++ l) (none_long p.0 (omega (arith, more, less, up, down))) ∙ append-nil xs
 
 -- slots alone were written
 module _ (P : ℕ) (kept : View) (old mid : Content) (count : length kept.pages ≡ P) (rest : AtRest old.now kept)
@@ -148,12 +146,8 @@ pub calm_committed : {T E : Type 0} (r : Result T E) (tells was bad : Bool) (P :
 calm_committed (Ok x) tells was bad P c steady is calm = subst (λ (b : Bool). CalmSince tells b P c c) (sym (λ i. steady i || is i)) calm
 calm_committed (Err e) tells was bad P c steady is calm = tt
 
-neither : (a b : Bool) → (a || b) ≡ false → (a ≡ false) × (b ≡ false)
-neither false b e = (refl, e)
-neither true b e = absurd (let f : true ≡ false = e in cc)
-
 -- where none failed, this one didn't
 pub committed_still : {T E A : Type 0} (r : Result T E) (was bad : Bool) → bad ≡ is_err r → (was || bad) ≡ false → (was ≡ false → OnOk r A)
     → A
-committed_still (Ok x) was bad is none then = then (neither was bad none).0
-committed_still (Err e) was bad is none then = absurd (let f : true ≡ false = sym is ∙ (neither was bad none).1 in cc)
+committed_still (Ok x) was bad is none then = then (or_parts was bad none).0
+committed_still (Err e) was bad is none then = absurd (let f : true ≡ false = sym is ∙ (or_parts was bad none).1 in cc)

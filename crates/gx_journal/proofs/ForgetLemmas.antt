@@ -1,12 +1,11 @@
 -- Changes are forgotten.
-use Rattle.std.proofs.Common.{◌≡◌, inl, inr, ℕ, ◌+◌, ◌<◌, ◌≤◌, Bool, true, false, List, [], ◌∷◌, length, get_or, Option, Some, None, refl, sym, ◌∙◌, ap, subst, arith, cond, replicate, zero, suc}
+use Rattle.std.proofs.Common.{◌≡◌, inl, inr, ℕ, ◌+◌, ◌<◌, ◌≤◌, Bool, true, false, List, [], ◌∷◌, length, get_or, Option, Some, None, refl, sym, ◌∙◌, ap, subst, arith, cond, replicate}
 use Rattle.std.specs.Prelude.{not, map}
-use Rattle.std.specs.List.{count_by}
 use Rattle.std.proofs.lemmas.Bool.{true≢false, cases_Bool}
 use Rattle.std.proofs.lemmas.Bool.Decides.{eqb_tells}
 use Rattle.std.proofs.lemmas.Option.{same_Some}
-use Rattle.std.proofs.lemmas.List.{get_or-set_same, get_or-set_other}
 use Rattle.std.proofs.lemmas.List.Sums.{sum_by-le}
+use Rattle.gx_laws.proofs.ListLemmas.{no_flag}
 use Rattle.gx_frames.specs.Order.{IsUnique, IsAbsent}
 use Rattle.gx_frames.specs.Pool.{Resident, find_page, unchanged}
 use Rattle.gx_frames.proofs.PoolLemmas.{find_here}
@@ -78,13 +77,8 @@ none_left i listed spilled past left p = elim (cases_Bool (get_or spilled p fals
   | inr off ↦ off
 ]
 
-unset : (n p : ℕ) → get_or (replicate n false) p false ≡ false
-unset zero p = refl
-unset (suc n) zero = refl
-unset (suc n) (suc p) = unset n p
-
 pub none_set : (n : ℕ) (flags : List Bool) → flags ≡ replicate n false → (p : ℕ) → get_or flags p false ≡ false
-none_set n flags is p = ap (λ (l : List Bool). get_or l p false) is ∙ unset n p
+none_set n flags is p = ap (λ (l : List Bool). get_or l p false) is ∙ no_flag n p
 
 -- once the spilled pages left the frames and none counts as spilled, what stayed is as it is stored
 pub all_stored : (P : ℕ) (blocks : List (List ℕ)) (was is : List Bool) (listed : List ℕ) (rs ss : List Resident) → IsListed was listed

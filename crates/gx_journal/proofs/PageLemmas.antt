@@ -9,6 +9,7 @@ use Rattle.gx_frames.specs.Pool.{Resident}
 use Rattle.gx_device.specs.Content.{Content}
 use Rattle.gx_layout.specs.Layout.{View, OnlyBlocks, home, head_of, Holds, SameButChanged}
 use Rattle.gx_layout.specs.Calm.{Calm, kept_view}
+use Rattle.gx_layout.proofs.ReplayLemmas.{homes_long}
 use Rattle.gx_journal.specs.Sources.{stored, page_of, IsCached, SamePages, IsSlot, IsBody, OnlySlots}
 use Rattle.gx_journal.specs.State.{blank, pages_told, homes_told, head_told, CalmSince}
 
@@ -50,9 +51,6 @@ pages_set tells P Q old new was is rs ss p bytes size told below here others =
           ∙ ap (λ (n : ℕ). get_or (set ys p bytes) n d) same.1
       | inr off ↦ others k off.1 ∙ sym (listed_pages g P k d under) ∙ sym (get_or-set_other ys p k bytes d (λ (e : k ≡ p). off.1 (sym e)))
     ]))
-
-homes_long : (P : ℕ) (blocks : List (List ℕ)) → 7 + 2 * P ≤ length blocks → length (take P (drop (7 + P) blocks)) ≡ P
-homes_long P blocks room = omega (arith, length-take P (drop (7 + P) blocks), length-drop (7 + P) blocks, room)
 
 -- where each page is as at home, the working pages are the kept ones
 pub pages_home : (tells : Bool) (P Q : ℕ) (c : Content) (spilled : List Bool) (rs : List Resident) → Q ≡ P

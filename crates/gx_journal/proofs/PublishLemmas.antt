@@ -1,6 +1,6 @@
 -- Pages are written home.
-use Rattle.std.proofs.Common.{◌≡◌, ◌⊎◌, inl, inr, ℕ, ◌+◌, ◌<◌, Bool, true, false, List, [], length, get_or, sym, ◌∙◌, ap, subst, arith, Result, Ok, Err, zero, suc, ◌∷◌}
-use Rattle.std.specs.Prelude.{OnOk, if◌then◌else◌}
+use Rattle.std.proofs.Common.{◌≡◌, ◌⊎◌, inl, inr, ℕ, ◌+◌, ◌<◌, Bool, true, false, List, [], length, get_or, sym, ◌∙◌, ap, subst, arith, zero, suc, ◌∷◌}
+use Rattle.std.specs.Prelude.{if◌then◌else◌}
 use Rattle.std.proofs.lemmas.Bool.Decides.{eqb_tells}
 use Rattle.gx_device.specs.Content.{Moment, Content, block_of}
 use Rattle.gx_layout.specs.Layout.{OnlyBlocks, IsIn, Holds, home}
@@ -14,10 +14,6 @@ use Rattle.gx_frames.specs.Pool.{Resident, find_page}
 use Rattle.gx_journal.specs.Sources.{stored, page_of, IsCached, SamePages, OnlySlots, IsListed, IsHomeOf, IsCommitted, IsBody, IsAmong}
 use Rattle.gx_journal.proofs.SourceLemmas.{page_apart}
 use Rattle.gx_journal.proofs.SlotLemmas.{slots_silent}
-
-pub always : {T E A : Type 0} (r : Result T E) → A → OnOk r A
-always (Ok x) a = a
-always (Err e) a = tt
 
 -- one page more of a list is written home
 module _ (P : ℕ) (listed : List ℕ) (i p : ℕ) (at : p ≡ get_or listed i 0) (lt : i < length listed) (below : p < P)

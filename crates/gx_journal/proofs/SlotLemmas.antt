@@ -1,5 +1,5 @@
 -- Calls of the device that change slots alone.
-use Rattle.std.proofs.Common.{◌≡◌, ◌≢◌, ℕ, Bool, true, false, Some, set, ◌+◌, ◌<◌, ◌≤◌, List, [], length, get_or, sym, ◌∙◌, ap, subst, arith}
+use Rattle.std.proofs.Common.{◌≡◌, ◌≢◌, ℕ, Bool, true, false, Some, set, ◌+◌, ◌<◌, List, [], length, get_or, sym, ◌∙◌, ap, subst, arith}
 use Rattle.gx_device.specs.Content.{Moment, Content, Writes, OnlyTime, Silent, block_of}
 use Rattle.gx_device.specs.Crash.{Outside}
 use Rattle.gx_device.proofs.RunLemmas.{outside_same, outside_twice, outside_write}

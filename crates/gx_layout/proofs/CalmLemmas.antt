@@ -1,6 +1,5 @@
 -- Calls that leave the kept pages keep it calm.
 use Rattle.std.proofs.Common.{◌≡◌, inl, inr, ℕ, ◌+◌, ◌<◌, ◌≤◌, Bool, false, List, [], ◌∷◌, ◌++◌, length, get_or, refl, sym, ◌∙◌, ap, subst, arith, append_assoc}
-use Rattle.std.proofs.lemmas.List.{append-nil}
 use Rattle.std.proofs.lemmas.List.Elements.{All-append, All-nil, All-cons}
 use Rattle.gx_device.specs.Content.{Moment, Content, Ticks, OnlyTime, Writes, Listens, Speaks, block_of, is_pending}
 use Rattle.gx_device.specs.Crash.{EachImage}
@@ -10,12 +9,7 @@ use Rattle.gx_layout.specs.Calm.{Calm}
 use Rattle.gx_layout.specs.CalmLaws.{quiet_rest}
 use Rattle.gx_layout.specs.PhaseLaws.{rest_slot}
 use Rattle.gx_device.proofs.RunLemmas.{outside_write}
-
-pub prefix_same : (xs ys : List ℕ) → ys ≡ xs → IsPrefix xs ys
-prefix_same xs ys same = ([], same ∙ sym (append-nil xs))
-
-prefix_twice : (xs ys zs : List ℕ) → IsPrefix xs ys → IsPrefix ys zs → IsPrefix xs zs
-prefix_twice xs ys zs p q = (p.0 ++ q.0, q.1 ∙ ap (λ (l : List ℕ). l ++ q.0) p.1 ∙ append_assoc xs p.0 q.0)
+use Rattle.gx_device.proofs.PrefixLemmas.{prefix_same, prefix_twice}
 
 -- what was said may grow
 quiet_longer : (v : View) (start : Moment) (last longer : List ℕ) → IsPrefix last longer → (m : Moment)

@@ -3,7 +3,7 @@ use Rattle.std.proofs.Common.{◌≡◌, inl, inr, ⊎_elim, ℕ, ◌+◌, ◌<�
 use Rattle.gx_device.specs.Content.{Moment, Content, block_of, Syncs, NonePending}
 use Rattle.gx_device.specs.Crash.{EachImage, Through, LeavesOnly, Outside}
 use Rattle.gx_device.proofs.RunLemmas.{joined, weakened, guarded, synced}
-use Rattle.gx_layout.specs.Layout.{is_open, has_bit, Names, View, with_pages, IsHead, StandsFor, IsIn, Holds, IsFirm, Fits, AtRest, IsLogged, SameButChanged, IsReady, IsOpened, Either, home}
+use Rattle.gx_layout.specs.Layout.{is_open, has_bit, Names, View, with_pages, StandsFor, IsIn, Holds, IsFirm, Fits, AtRest, IsLogged, SameButChanged, IsReady, IsOpened, Either, home}
 use Rattle.gx_layout.specs.PhaseLaws.{bool_cases, rest_leaves, ready_leaves, opened_leaves, rest_slots, rest_bitmap, ready_gate, opened_homes}
 
 module _ (kept : View) (changed : List Bool) (counts : length changed ≡ length kept.pages) where

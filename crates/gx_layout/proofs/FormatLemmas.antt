@@ -1,6 +1,5 @@
 -- A device that is laid out.
-use Rattle.std.proofs.Common.{◌≡◌, inl, inr, ℕ, ◌+◌, ◌-◌, ◌<◌, ◌≤◌, List, [], ◌∷◌, ◌++◌, length, get_or, replicate, refl, sym, ◌∙◌, ap, arith, length-append, append_assoc, Result, Ok, Err}
-use Rattle.std.specs.Prelude.{OnOk}
+use Rattle.std.proofs.Common.{◌≡◌, inl, inr, ℕ, ◌+◌, ◌-◌, ◌<◌, ◌≤◌, List, [], ◌∷◌, ◌++◌, length, get_or, replicate, refl, sym, ◌∙◌, ap, arith, length-append, append_assoc}
 use Rattle.std.proofs.lemmas.List.{replicate-append-replicate, length-replicate, get_or-set_same, get_or-set_other}
 use Rattle.std.proofs.lemmas.Bool.{cases_eq}
 use Rattle.gx_bytes.specs.Parts.{overwritten}
@@ -101,7 +100,3 @@ module _ (a b c : Content) (gate : Through (Outside (λ n. n ≡ 1) a.now) a b) 
   pub laid_texts : (d : Content) → Through (Outside IsText c.now) c d → Through (Outside IsFormatted a.now) a d
   laid_texts d texts = outside_joined IsFormatted a c d laid_bitmap
       (run_more IsText IsFormatted (λ n is. (let low = is.0 in (omega (arith, low), is.1))) c d texts)
-
-pub same_after : {T E A : Type 0} (r : Result T E) → A → OnOk r A
-same_after (Ok x) a = a
-same_after (Err e) a = tt

@@ -3,6 +3,7 @@ use Rattle.std.proofs.Common.{◌≡◌, ◌≢◌, ℕ, ◌+◌, ◌*◌, ◌<�
 use Rattle.std.specs.Prelude.{slice_get, Some, Result, Ok, Err, OnOk, IsErrOf, IsErrAnd}
 use Rattle.std.specs.FinMap.{empty}
 use Rattle.std.proofs.lemmas.List.{set-get_or}
+use Rattle.std.proofs.lemmas.Option.{same_Some}
 use Rattle.gx_ports.specs.declared.page_view.PageView.{Ghosts}
 use Rattle.gx_ports.specs.declared.pages.Place.{Place}
 use Rattle.gx_ports.specs.declared.stop.Stop.{Stop}
@@ -16,7 +17,6 @@ use Rattle.gx_leaves.specs.Kinds.{IsFileAt, IsFreshOf, map_in}
 use Rattle.gx_leaves.specs.Places.{IsLaidOut}
 use Rattle.gx_leaves.specs.Wholeness.{maps_of, limits_of, AreWhole, AreLaid, IsFreshAt}
 use Rattle.gx_leaves.proofs.FrameLemmas.{fresh_stays as others_fresh, held_at, elsewhere, laws_at, maps_set, laid_stays}
-use Rattle.gx_leaves.proofs.SumLemmas.{some_same}
 use Rattle.gx_leaves.proofs.CrowdLemmas.{crowded}
 
 module _ {S : Type 0} (g : Ghosts S) (places : List Place) where
@@ -72,7 +72,7 @@ module _ {S : Type 0} (g : Ghosts S) (places : List Place) where
       -- a file that was laid out anew is fresh
       pub fresh_now : (result : Result T Stop) (m : LeafMap) → OnOk result (IsFileAt (g.ground old) place (g.working new) m) → OnOk result (IsFreshOf place.spec.kind place (g.working new) m) → OnOk result (IsFreshAt (g.ground new) places (g.working new) leaf)
       fresh_now (Ok x) m file fresh = subst (λ b. IsFreshAt b places (g.working new) leaf) (sym keeps.ground)
-          (λ other there. (let same = some_same place other (sym at ∙ there) in
+          (λ other there. (let same = same_Some place other (sym at ∙ there) in
           subst (λ p. IsFreshOf p.spec.kind p (g.working new) (map_in (g.ground old) p (g.working new))) same
           (subst (λ n. IsFreshOf place.spec.kind place (g.working new) n) (sym ((laws_at (g.ground old) places laid leaf place at).one (g.working new) m file)) fresh)))
       fresh_now (Err e) m file fresh = tt

@@ -1,6 +1,7 @@
 -- A leaf that was examined.
 use Rattle.std.proofs.Common.{◌≡◌, ℕ, List, length, sym, subst, ◌∙◌}
 use Rattle.std.specs.Prelude.{slice_get, Some, Result, Ok, Err, OnOk}
+use Rattle.std.proofs.lemmas.Option.{same_Some}
 use Rattle.gx_ports.specs.declared.page_view.PageView.{Ghosts}
 use Rattle.gx_ports.specs.declared.pages.Place.{Place}
 use Rattle.gx_ports.specs.Files.{IsWhole}
@@ -9,7 +10,6 @@ use Rattle.gx_ports.specs.PageCalls.{ReadsPages}
 use Rattle.gx_ports.specs.Sheets.{Sheets, Ground}
 use Rattle.gx_leaves.specs.Kinds.{IsFileAt}
 use Rattle.gx_leaves.specs.Wholeness.{AreLaid, AreWhole, IsTable, IsWholeAt}
-use Rattle.gx_leaves.proofs.SumLemmas.{some_same}
 
 module _ {S : Type 0} (g : Ghosts S) (places : List Place) (old new : S) (reads : ReadsPages g old new) where
   file_read : (place : Place) (m : LeafMap) → IsFileAt (g.ground new) place (g.working new) m → IsFileAt (g.ground old) place (g.working old) m
@@ -28,7 +28,7 @@ module _ {S : Type 0} (g : Ghosts S) (places : List Place) (old new : S) (reads 
   whole_by leaf place at count many table file = record {
     told = file.1.told;
     table = subst (λ (n : ℕ). IsTable (g.ground old) n (g.working old)) many table;
-    held = λ other there. (let same = some_same place other (sym at ∙ there) in
+    held = λ other there. (let same = same_Some place other (sym at ∙ there) in
         (file.0, subst (λ (p : Place). IsFileAt (g.ground old) p (g.working old) file.0) same (file_read place file.0 file.1.file)));
   }
 

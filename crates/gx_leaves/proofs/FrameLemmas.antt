@@ -3,7 +3,7 @@ use Rattle.std.proofs.Common.{◌≡◌, ◌≢◌, inl, inr, ℕ, List, length,
 use Rattle.std.specs.Prelude.{slice_get, Some}
 use Rattle.std.specs.FinMap.{empty}
 use Rattle.std.proofs.lemmas.Bool.{cases_eq}
-use Rattle.std.proofs.lemmas.Option.{slice_get_within}
+use Rattle.std.proofs.lemmas.Option.{slice_get_within, same_Some}
 use Rattle.gx_ports.specs.declared.pages.Place.{Place}
 use Rattle.gx_ports.specs.LeafMaps.{LeafMap, map_at, SameElsewhere}
 use Rattle.gx_ports.specs.Sheets.{Sheets, Ground}
@@ -12,7 +12,7 @@ use Rattle.gx_leaves.specs.Kinds.{IsFileAt, IsFreshOf, map_in}
 use Rattle.gx_leaves.specs.Places.{IsLaidOut}
 use Rattle.gx_leaves.specs.Wholeness.{maps_of, table_owner, IsFreshAt, IsTable, AreLaid}
 use Rattle.gx_leaves.proofs.KindLemmas.{file_laws, fresh_with}
-use Rattle.gx_leaves.proofs.SumLemmas.{some_same, map_set_at, map_same_at, map_at_some}
+use Rattle.gx_leaves.proofs.SumLemmas.{map_set_at, map_same_at, map_at_some}
 use Rattle.gx_leaves.proofs.PlaceLemmas.{placed}
 
 -- the laws of the file at the place of a leaf
@@ -86,7 +86,7 @@ module _ (base : Ground) (places : List Place) (laid : IsLaidOut base places) (o
   laid_stays whole m file = record {
     table = table_stays whole.table;
     each = λ i other there. elim (cases_eq i leaf) [
-      | inl e ↦ (let same = some_same place other (sym at ∙ ap (slice_get places) (sym e) ∙ there) in (m, subst (λ p. IsFileAt base p new m) same file))
+      | inl e ↦ (let same = same_Some place other (sym at ∙ ap (slice_get places) (sym e) ∙ there) in (m, subst (λ p. IsFileAt base p new m) same file))
       | inr differ ↦ (let h = whole.each i other there in (h.0, file_stays i other differ there h.0 h.1))
     ];
   }

@@ -3,7 +3,7 @@ use Rattle.std.proofs.Common.{◌≡◌, ◌≢◌, inl, inr, ℕ, ◌+◌, ◌<
 use Rattle.std.specs.Prelude.{slice_get, replicate, Some}
 use Rattle.std.specs.FinMap.{empty}
 use Rattle.std.proofs.lemmas.Bool.{cases_eq, cases_lt}
-use Rattle.std.proofs.lemmas.Option.{slice_get_within}
+use Rattle.std.proofs.lemmas.Option.{slice_get_within, same_Some}
 use Rattle.gx_ports.specs.declared.kinds.LeafSpec.{LeafSpec}
 use Rattle.gx_ports.specs.declared.pages.Place.{Place}
 use Rattle.gx_ports.specs.Sheets.{Sheets, Ground}
@@ -12,7 +12,7 @@ use Rattle.gx_leaves.specs.Kinds.{IsFileAt, map_in}
 use Rattle.gx_leaves.specs.Places.{places_of, IsRoomFor, IsLaidOut}
 use Rattle.gx_leaves.specs.Wholeness.{maps_of, table_owner, AreLaid}
 use Rattle.gx_leaves.specs.Making.{IsAllFree, AreMade}
-use Rattle.gx_leaves.proofs.SumLemmas.{some_same, map_all_same}
+use Rattle.gx_leaves.proofs.SumLemmas.{map_all_same}
 use Rattle.gx_leaves.proofs.PlaceLemmas.{placed, roots_apart, laid_by, place_count}
 use Rattle.gx_leaves.proofs.FrameLemmas.{laws_at, file_stays}
 
@@ -21,7 +21,7 @@ module _ (base : Ground) (places : List Place) (laid : IsLaidOut base places) wh
   none_made sheets free = record {
     made = λ leaf place below at. absurd (omega (arith, below));
     own = λ page below. free.own page below (omega (arith, below, laid.room.room));
-    taken = λ page owner past at. (let e = some_same 0 owner (sym (free.free page past) ∙ at) in omega (arith, e));
+    taken = λ page owner past at. (let e = same_Some 0 owner (sym (free.free page past) ∙ at) in omega (arith, e));
     free = λ leaf place behind at page from below. free.free page (record { past = omega (arith, from, (placed base places laid leaf place at).is.past); below = below });
   }
 
@@ -32,7 +32,7 @@ module _ (base : Ground) (places : List Place) (laid : IsLaidOut base places) wh
         let within = slice_get_within old.owners page place.owner is in
         elim (cases_lt page base.tables) [
           | inr past ↦ (let most = so_far.taken page place.owner (record { past = past; below = omega (arith, within, many) }) is in omega (arith, most, p.number))
-          | inl below ↦ (let e = some_same table_owner place.owner (sym (so_far.own page below) ∙ is) in omega (arith, e, p.is.most))
+          | inl below ↦ (let e = same_Some table_owner place.owner (sym (so_far.own page below) ∙ is) in omega (arith, e, p.is.most))
         ]
 
     -- here the next one can be made
@@ -45,7 +45,7 @@ module _ (base : Ground) (places : List Place) (laid : IsLaidOut base places) wh
     module _ (new : Sheets) (file : IsFileAt base place new empty) (others : OthersStay base place.owner old new) (roots : ClaimsRoots place old new) where
       one_more : (leaf : ℕ) (other : Place) → leaf < count + 1 → slice_get places leaf ≡ Some other → IsFileAt base other new empty
       one_more leaf other below there = elim (cases_eq leaf count) [
-        | inl e ↦ subst (λ p. IsFileAt base p new empty) (some_same place other (sym at ∙ ap (slice_get places) (sym e) ∙ there)) file
+        | inl e ↦ subst (λ p. IsFileAt base p new empty) (same_Some place other (sym at ∙ ap (slice_get places) (sym e) ∙ there)) file
         | inr differ ↦ file_stays base places laid old new count place at others leaf other differ there empty (so_far.made leaf other (let d = differ in let b = below in omega (arith, d, b)) there)
       ]
 

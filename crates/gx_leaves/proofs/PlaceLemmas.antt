@@ -2,7 +2,7 @@
 use Rattle.std.proofs.Common.{◌≡◌, ℕ, zero, suc, ◌+◌, ◌<◌, ◌≤◌, IsTrue, List, [], ◌∷◌, length, get_or, map, refl, sym, ap, subst, ◌∙◌, arith, rules}
 use Rattle.std.specs.Prelude.{slice_get, Some}
 use Rattle.std.proofs.lemmas.List.{length-map}
-use Rattle.std.proofs.lemmas.Option.{slice_get_within, slice_get_read}
+use Rattle.std.proofs.lemmas.Option.{slice_get_within, slice_get_read, same_Some}
 use Rattle.std.proofs.lemmas.List.Sums.{sum_by-cons}
 use Rattle.gx_ports.specs.declared.kinds.LeafSpec.{LeafSpec}
 use Rattle.gx_ports.specs.declared.pages.Place.{Place}
@@ -11,7 +11,6 @@ use Rattle.gx_ports.specs.Sheets.{Ground}
 use Rattle.gx_ports.specs.Files.{IsPlace}
 use Rattle.gx_leaves.specs.Kinds.{is_built, are_built}
 use Rattle.gx_leaves.specs.Places.{places_from, places_of, specs_of, IsRoomFor, IsLaidOut}
-use Rattle.gx_leaves.proofs.SumLemmas.{some_same}
 
 roots_cons : (spec : LeafSpec) (specs : List LeafSpec) → root_pages (spec ∷ specs) ≡ roots_of spec + root_pages specs
 roots_cons spec specs = sum_by-cons (λ (n : ℕ). n) (roots_of spec) (map roots_of specs)
@@ -29,7 +28,7 @@ front_built spec specs built = search rules
 at_from : (specs : List LeafSpec) (root owner leaf : ℕ) (place : Place) → IsTrue (are_built specs) → slice_get (places_from root owner specs) leaf ≡ Some place → IsFrom root owner leaf specs place
 at_from [] root owner leaf place built at = absurd (cc)
 at_from (spec ∷ specs) root owner zero place built at =
-    subst (λ p. IsFrom root owner zero (spec ∷ specs) p) (some_same _ place at) (record {
+    subst (λ p. IsFrom root owner zero (spec ∷ specs) p) (same_Some _ place at) (record {
       number = omega arith;
       past = omega arith;
       below = omega (arith, roots_cons spec specs);
@@ -74,7 +73,7 @@ between [] root owner i j p q built less here there = absurd (cc)
 between (spec ∷ specs) root owner i zero p q built less here there = absurd (omega (arith, less))
 between (spec ∷ specs) root owner zero (suc j) p q built less here there =
     let behind = at_from specs (root + roots_of spec) (owner + 1) j q (front_built spec specs built).1 there in
-    subst (λ x. x.root + roots_of x.spec ≤ q.root) (some_same _ p here) behind.past
+    subst (λ x. x.root + roots_of x.spec ≤ q.root) (same_Some _ p here) behind.past
 between (spec ∷ specs) root owner (suc i) (suc j) p q built less here there =
     between specs (root + roots_of spec) (owner + 1) i j p q (front_built spec specs built).1 (omega (arith, less)) here there
 

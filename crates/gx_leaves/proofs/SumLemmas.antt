@@ -4,9 +4,7 @@ use Rattle.std.specs.Prelude.{slice_get, Some, count_by, replicate}
 use Rattle.std.specs.List.{sum_by}
 use Rattle.std.proofs.lemmas.Bool.{cond-true}
 use Rattle.std.proofs.lemmas.List.Sums.{sum_by-cons, sum_by-le-sum_by}
-
-pub some_same : {X : Type 0} (x y : X) → Some x ≡ Some y → x ≡ y
-some_same x y e = cc
+use Rattle.std.proofs.lemmas.Option.{same_Some}
 
 module _ {X Y : Type 0} (f g : X → Y) where
   pub map_same : (xs : List X) → ((i : ℕ) (x : X) → slice_get xs i ≡ Some x → g x ≡ f x) → map g xs ≡ map f xs
@@ -16,7 +14,7 @@ module _ {X Y : Type 0} (f g : X → Y) where
   -- one element has another value
   pub map_set_at : (xs : List X) (i : ℕ) (x : X) (y : Y) → slice_get xs i ≡ Some x → g x ≡ y → ((j : ℕ) (z : X) → j ≢ i → slice_get xs j ≡ Some z → g z ≡ f z) → map g xs ≡ set (map f xs) i y
   map_set_at [] i x y at is same = absurd (cc)
-  map_set_at (z ∷ xs) zero x y at is same = λ k. (ap g (some_same z x at) ∙ is) k ∷ map_same xs (λ j w there. same (suc j) w (omega arith) there) k
+  map_set_at (z ∷ xs) zero x y at is same = λ k. (ap g (same_Some z x at) ∙ is) k ∷ map_same xs (λ j w there. same (suc j) w (omega arith) there) k
   map_set_at (z ∷ xs) (suc i) x y at is same = λ k. same 0 z (omega arith) refl k ∷ map_set_at xs i x y at is (λ j w other there. same (suc j) w (let o = other in omega (arith, o)) there) k
 
   pub map_same_at : (xs : List X) (i : ℕ) (d : Y) → ((x : X) → slice_get xs i ≡ Some x → g x ≡ f x) → get_or (map g xs) i d ≡ get_or (map f xs) i d
@@ -26,7 +24,7 @@ module _ {X Y : Type 0} (f g : X → Y) where
 
 pub map_at_some : {X Y : Type 0} (f : X → Y) (xs : List X) (i : ℕ) (x : X) (d : Y) → slice_get xs i ≡ Some x → get_or (map f xs) i d ≡ f x
 map_at_some f [] i x d at = absurd (cc)
-map_at_some f (z ∷ xs) zero x d at = ap f (some_same z x at)
+map_at_some f (z ∷ xs) zero x d at = ap f (same_Some z x at)
 map_at_some f (z ∷ xs) (suc i) x d at = map_at_some f xs i x d at
 
 pub some_at : {X : Type 0} (xs : List X) (i : ℕ) → i < length xs → (x : X) × (slice_get xs i ≡ Some x)
@@ -52,7 +50,7 @@ module _ {X : Type 0} (f g h : X → ℕ) where
   sum_least_but [] i x at one le = absurd (cc)
   sum_least_but (z ∷ xs) zero x at one le =
       let rest = sum_least xs (λ j y there. le (suc j) y (omega arith) there) in
-      let e = some_same z x at in
+      let e = same_Some z x at in
       let one_here : f z ≤ g z + 2 * h z + 1 = omega (arith, one, ap f e, ap g e, ap h e) in
       omega (arith, one_here, rest, sum_by-cons f z xs, sum_by-cons g z xs, sum_by-cons h z xs)
   sum_least_but (z ∷ xs) (suc i) x at one le =
@@ -64,7 +62,7 @@ module _ {X : Type 0} (f g h : X → ℕ) where
 pub sum_more : {X : Type 0} (f g : X → ℕ) (xs : List X) (i : ℕ) (x : X) → slice_get xs i ≡ Some x → f x + 1 ≤ g x → ((z : X) → f z ≤ g z) → sum_by f xs + 1 ≤ sum_by g xs
 sum_more f g [] i x at more le = absurd (cc)
 sum_more f g (z ∷ xs) zero x at more le =
-    let e = some_same z x at in
+    let e = same_Some z x at in
     let here : f z + 1 ≤ g z = omega (arith, more, ap f e, ap g e) in
     let rest = sum_by-le-sum_by f g xs le in
     omega (arith, here, rest, sum_by-cons f z xs, sum_by-cons g z xs)

@@ -2,13 +2,12 @@
 use Rattle.std.proofs.Common.{◌≡◌, inl, inr, ℕ, ◌+◌, ◌*◌, ◌-◌, ◌<◌, ◌≤◌, List, length, IsTrue, get_or, subst, sym, ap, ◌∙◌, arith}
 use Rattle.std.specs.Prelude.{slice_get, Some}
 use Rattle.std.proofs.lemmas.Bool.{cases_lt}
-use Rattle.std.proofs.lemmas.Option.{slice_get-get_or, slice_get_within}
+use Rattle.std.proofs.lemmas.Option.{slice_get-get_or, slice_get_within, same_Some}
 use Rattle.gx_ports.specs.declared.page_view.PageView.{Ghosts}
 use Rattle.gx_ports.specs.PageCalls.{ReadsPages}
 use Rattle.gx_ports.specs.Sheets.{Sheets, Ground, AreOwnersOn}
 use Rattle.gx_leaves.specs.Checks.{IsDueOwner}
 use Rattle.gx_leaves.specs.Wholeness.{IsTable, table_owner}
-use Rattle.gx_leaves.proofs.SumLemmas.{some_same}
 
 -- the owners of the pages before this one are such as they may have
 abbrev pub AreDue : Ground → ℕ → Sheets → ℕ → Type 0
@@ -41,7 +40,7 @@ module _ (base : Ground) (leaves : ℕ) (sheets : Sheets) (many : length sheets.
         let at_all : slice_get sheets.owners (first + i) ≡ Some owner =
         ap (λ (n : ℕ). slice_get sheets.owners (n + i)) first_is ∙ sym (on i low (omega (arith, below, many, first_is))) ∙ at in
         record {
-          own = λ less. some_same owner table_owner (sym at_all ∙ whole.own (first + i) less);
+          own = λ less. same_Some owner table_owner (sym at_all ∙ whole.own (first + i) less);
           owned = λ past. whole.owned (first + i) owner (record { past = past; below = below }) at_all;
         }
 

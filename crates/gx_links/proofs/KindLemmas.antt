@@ -3,8 +3,8 @@ use Rattle.std.proofs.Common.{◌≡◌, List, [], ◌∷◌, get_or, refl, sym,
 use Rattle.gx_values.specs.declared.values.Kind.{Kind}
 use Rattle.gx_values.specs.declared.values.Value.{Value}
 use Rattle.gx_values.specs.declared.records.Field.{Field}
-use Rattle.gx_values.specs.Values.{Fits, AreFit}
-use Rattle.gx_links.specs.Kinds.{kinds_of, AreOfKinds, no_value}
+use Rattle.gx_values.specs.Values.{Fits, AreFit, no_value}
+use Rattle.gx_links.specs.Kinds.{kinds_of, AreOfKinds}
 
 by_fields : (fs : List Field) (vs : List Value) → AreFit fs vs → AreOfKinds (kinds_of fs) vs
 by_fields [] [] fit = tt

@@ -1,74 +1,28 @@
 -- The members of the owners of a link, and what one pair more or less makes of them.
 use Rattle.std.proofs.Common.{◌≡◌, ◌<◌, ◌≤◌, suc, List, [], ◌∷◌, ◌⊎◌, length, cond, Bool, true, false, Option, Some, None, inl, inr, refl, sym, ap, subst, ◌∙◌, arith}
 use Rattle.std.specs.Prelude.{T, ◌≢◌, not, map, filter}
-use Rattle.std.specs.Ordering.{is_eq, is_lt, eq_by_cmp, ordering_reverse}
+use Rattle.std.specs.Ordering.{is_lt, ordering_reverse}
 use Rattle.std.specs.declared.cmp.Ordering.{Ordering}
 use Rattle.std.specs.declared.cmp.Ordering.TheVariants.{Less, Equal, Greater}
-use Rattle.std.specs.Cmp.{IsTotalOrder, tied_itself}
 use Rattle.std.specs.FinMap as fin
-use Rattle.std.specs.FinMap.Entries.{below_all}
-use Rattle.std.proofs.lemmas.Bool.{true≢false, not-true, not_from_false, false_from_ne_true}
+use Rattle.std.proofs.lemmas.Bool.{true≢false, not-true, not_from_false}
+use Rattle.std.proofs.lemmas.Option.{same_Some}
+use Rattle.gx_laws.proofs.BoolLemmas.{first_of_both, second_of_both}
+use Rattle.gx_laws.proofs.OrderingLemmas.{is_less}
 use Rattle.gx_values.specs.declared.values.Kind.{Kind}
 use Rattle.gx_values.specs.declared.values.Value.{Value}
 use Rattle.gx_values.specs.Values.{value_cmp, Fits}
-use Rattle.gx_values.proofs.OrderLemmas.{value_cmp_total, value_cmp_same}
+use Rattle.gx_values.proofs.OrderLemmas.{value_cmp_total, value_cmp_same, same_value, value_itself, other_value, value_cases}
 use Rattle.gx_mapping.specs.Rule.{In}
-use Rattle.gx_gather.proofs.Lists.{in_map, from_map, in_filter, filter_in, all_at, all_of, some_same, none_some, bool_cases}
+use Rattle.gx_mapping.proofs.RuleLemmas.{all_in}
+use Rattle.gx_gather.proofs.Lists.{in_map, from_map, in_filter, filter_in, all_of, none_some}
 use Rattle.gx_gather.proofs.Orders.{Ascends, ascends_filter, ascends_unique}
-use Rattle.gx_stack.proofs.LeafRead.{first_of_both, second_of_both, is_less}
+use Rattle.gx_gather.proofs.Entries.{below_in, find_in, in_find}
 use Rattle.gx_links.specs.Links.{Link, is_same, members_of, distinct, owners_of, most_members, IsLink, with_member, without_member}
 
 -- ---- orders
 
-is_equal : (r : Ordering) → is_eq r ≡ true → r ≡ Equal
-is_equal Less e = cc
-is_equal Equal e = refl
-is_equal Greater e = cc
-
-pub less_equal : Less ≡ Equal → ⊥
-less_equal e = cc
-
-pub greater_equal : Greater ≡ Equal → ⊥
-greater_equal e = cc
-
-pub same_value : (k q : Value) → is_same k q ≡ true → k ≡ q
-same_value k q e = value_cmp_same k q (is_equal (value_cmp k q) e)
-
-pub value_itself : (k : Value) → is_same k k ≡ true
-value_itself k = ap is_eq (tied_itself value_cmp_total k)
-
-pub other_value : (k q : Value) → k ≢ q → is_same k q ≡ false
-other_value k q ne = false_from_ne_true _ (λ e. ne (same_value k q e))
-
-pub value_cases : (k q : Value) → (k ≡ q) ⊎ (k ≢ q)
-value_cases k q = elim (bool_cases (is_same k q)) [
-  | inl e ↦ inl (same_value k q e)
-  | inr e ↦ inr (λ is. true≢false (sym (value_itself k) ∙ ap (is_same k) is ∙ e))
-]
-
 -- ---- pairs and look-ups
-
-pub below_in : {K X : Type 0} (R : K → K → Ordering) (x : K) (es : List (K × X)) (r : K × X) → T (below_all R x es) → In r es → R x r.0 ≡ Less
-below_in R x [] r h there = absurd there
-below_in {K} {X} R x (s ∷ es) r h (inl same) = subst (λ (q : K × X). R x q.0 ≡ Less) (sym same) (is_less _ (first_of_both _ _ h))
-below_in R x (s ∷ es) r h (inr there) = below_in R x es r (second_of_both _ _ h) there
-
-module _ {K X : Type 0} {R : K → K → Ordering} where
-  pub find_in : fin.IsAntisymmetric R → (k : K) (v : X) (es : List (K × X)) → fin.find R k es ≡ Some v → In (k, v) es
-  find_in same k v [] e = none_some v e
-  find_in same k v (r ∷ es) e = go (eq_by_cmp R k r.0) refl e (λ f. find_in same k v es f)
-    where
-      go : (b : Bool) → eq_by_cmp R k r.0 ≡ b → cond b (Some r.1) (fin.find R k es) ≡ Some v → (fin.find R k es ≡ Some v → In (k, v) es) → In (k, v) (r ∷ es)
-      go true t f more = inl (λ i. (same k r.0 (is_equal (R k r.0) t) i, sym (some_same r.1 v f) i))
-      go false t f more = inr (more f)
-
-  pub in_find : IsTotalOrder R → (r : K × X) (es : List (K × X)) → T (fin.is_sorted R es) → In r es → fin.find R r.0 es ≡ Some r.1
-  in_find total r [] h there = absurd there
-  in_find total r (s ∷ es) h (inl same) =
-      ap (λ b. cond b (Some s.1) (fin.find R r.0 es)) (subst (λ (q : K × X). eq_by_cmp R r.0 q.0 ≡ true) same (ap is_eq (tied_itself total r.0))) ∙ ap (λ (q : K × X). Some q.1) (sym same)
-  in_find total r (s ∷ es) h (inr there) =
-      let above : R r.0 s.0 ≡ Greater = total.antisymm r.0 s.0 ∙ ap ordering_reverse (below_in R s.0 es r (first_of_both _ _ h) there) in
-      ap (λ o. cond (is_eq o) (Some s.1) (fin.find R r.0 es)) above ∙ in_find total r es (second_of_both _ _ h) there
 
 pub pair_in : (link : Link) (m o : Value) → fin.get link m ≡ Some o → In (m, o) (fin.entries link)
 pair_in link m o e = find_in value_cmp_same m o (fin.entries link) (sym (fin.get-entries link m) ∙ e)
@@ -168,11 +122,11 @@ with_ascends m (x ∷ xs) up new = go (is_lt (value_cmp m x)) refl (with_ascends
     go : (b : Bool) → is_lt (value_cmp m x) ≡ b → Ascends value_cmp (with_member m xs) → Ascends value_cmp (cond b (m ∷ x ∷ xs) (x ∷ with_member m xs))
     go true e more =
         let less : value_cmp m x ≡ Less = is_less _ (subst T (sym e) tt) in
-        ((less, all_of _ xs (λ y h. value_cmp_total.trans m x y less (all_at _ xs y up.0 h))), up)
+        ((less, all_of _ xs (λ y h. value_cmp_total.trans m x y less (all_in _ xs y up.0 h))), up)
     go false e more = (
       all_of _ (with_member m xs) (λ y h. elim (from_with m xs y h) [
         | inl is ↦ subst (λ z. value_cmp x z ≡ Less) (sym is) (not_less m x e (λ same. new (inl same)))
-        | inr k ↦ all_at _ xs y up.0 k
+        | inr k ↦ all_in _ xs y up.0 k
       ]),
       more,
     )
@@ -213,7 +167,7 @@ module _ (link : Link) (o m : Value) where
   -- whose owner is which
   pub from_insert : (x y : Value) → fin.get (fin.insert link m o) x ≡ Some y → ((x ≡ m) × (y ≡ o)) ⊎ ((x ≢ m) × (fin.get link x ≡ Some y))
   from_insert x y e = elim (value_cases x m) [
-    | inl is ↦ inl (is, some_same y o (sym e ∙ ap (fin.get (fin.insert link m o)) is ∙ new_here))
+    | inl is ↦ inl (is, same_Some y o (sym e ∙ ap (fin.get (fin.insert link m o)) is ∙ new_here))
     | inr ne ↦ inr (ne, sym (old_there x ne) ∙ e)
   ]
 

@@ -1,6 +1,6 @@
 -- The owners of a link, made from its pairs.
 use Rattle.std.proofs.Common.{◌≡◌, ◌<◌, ◌+◌, ℕ, zero, suc, List, [], ◌∷◌, ◌++◌, ◌⊎◌, length, cond, get_or, Bool, true, false, Some, inl, inr, refl, sym, ap, subst, ◌∙◌, arith, append_assoc, append-nil}
-use Rattle.std.specs.Prelude.{T, ◌&&◌, ◌≢◌, map, slice_set}
+use Rattle.std.specs.Prelude.{T, ◌≢◌, map, slice_set}
 use Rattle.std.specs.List.{AllByRecursion}
 use Rattle.std.specs.List.Sorted.{IsPermutation, IsSortedBy}
 use Rattle.std.specs.Ordering.{is_lt, eq_by_cmp, ordering_then}
@@ -12,18 +12,21 @@ use Rattle.std.specs.FinMap.Entries.{below_all}
 use Rattle.std.proofs.lemmas.Bool.{true≢false}
 use Rattle.std.proofs.lemmas.Cmp.{on_total, then_total}
 use Rattle.std.proofs.lemmas.Map.Keys.{IsDistinct-from_sorted, IsDistinct-IsPermutation}
+use Rattle.gx_laws.proofs.BoolLemmas.{both_true, first_of_both, second_of_both}
+use Rattle.gx_laws.proofs.OrderingLemmas.{less_is, second_equal}
 use Rattle.gx_values.specs.declared.values.Value.{Value}
 use Rattle.gx_values.specs.Values.{value_cmp}
-use Rattle.gx_values.proofs.OrderLemmas.{value_cmp_total, value_cmp_same}
+use Rattle.gx_values.proofs.OrderLemmas.{value_cmp_total, value_cmp_same, same_value, value_itself}
 use Rattle.gx_mapping.specs.Rule.{In}
-use Rattle.gx_gather.proofs.Lists.{in_left, in_right, in_each, from_each, in_map, from_map, all_at, all_of}
+use Rattle.gx_mapping.proofs.RuleLemmas.{all_in}
+use Rattle.gx_gather.proofs.Lists.{in_left, in_right, in_each, from_each, in_map, from_map, all_of}
 use Rattle.gx_gather.proofs.Orders.{Ascends, sorted, rises, rises_ascends, not_before_itself, not_both_before}
 use Rattle.gx_gather.proofs.Made.{permuted_in, permuted_back}
-use Rattle.gx_stack.proofs.LeafRead.{first_of_both, second_of_both}
+use Rattle.gx_gather.proofs.Entries.{below_in}
 use Rattle.gx_links.specs.declared.pairs.Owned.{Owned}
 use Rattle.gx_links.specs.Links.{Link, is_same}
 use Rattle.gx_links.specs.Owners.{owner_cmp, member_cmp, pair_with, pairs_under, pairs_of, first_of, with_member_last, is_last, with_pair, AreOwners, IsGroupOf}
-use Rattle.gx_links.proofs.MemberLemmas.{below_in, same_value, value_itself, pair_in, in_pair, members_are, less_equal, greater_equal}
+use Rattle.gx_links.proofs.MemberLemmas.{pair_in, in_pair, members_are}
 
 -- ---- one pair more
 
@@ -125,19 +128,12 @@ member_total = on_total (λ (p : Value × Value). p.0) value_cmp_total
 pub owner_total : IsTotalOrder owner_cmp
 owner_total = then_total (on_total (λ (p : Value × Value). p.1) value_cmp_total) (on_total (λ (p : Value × Value). p.0) value_cmp_total)
 
-both_true : (a b : Bool) → T a → T b → T (a && b)
-both_true true b p q = q
-both_true false b p q = p
-
 pub pairs_ascend : (es : List (Value × Value)) → T (fin.is_sorted value_cmp es) → Ascends member_cmp es
 pairs_ascend [] h = tt
 pairs_ascend (e ∷ es) h = (
   all_of (λ q. member_cmp e q ≡ Less) es (λ q k. below_in value_cmp e.0 es q (first_of_both _ _ h) k),
   pairs_ascend es (second_of_both _ _ h),
 )
-
-less_is : (r : Ordering) → r ≡ Less → T (is_lt r)
-less_is r e = subst (λ x. T (is_lt x)) (sym e) tt
 
 pub pairs_sorted : (es : List (Value × Value)) → Ascends member_cmp es → T (fin.is_sorted value_cmp es)
 pairs_sorted [] h = tt
@@ -146,11 +142,6 @@ pairs_sorted (e ∷ es) h = both_true (below_all value_cmp e.0 es) (fin.is_sorte
     below : (xs : List (Value × Value)) → AllByRecursion (λ q. member_cmp e q ≡ Less) xs → T (below_all value_cmp e.0 xs)
     below [] all = tt
     below (x ∷ xs) all = both_true (is_lt (value_cmp e.0 x.0)) (below_all value_cmp e.0 xs) (less_is _ all.0) (below xs all.1)
-
-second_equal : (a b : Ordering) → ordering_then a b ≡ Equal → b ≡ Equal
-second_equal Less b e = absurd (less_equal e)
-second_equal Equal b e = e
-second_equal Greater b e = absurd (greater_equal e)
 
 -- pairs by member are ascending by owner once they are sorted so
 pub by_owner : (es ps : List (Value × Value)) → IsPermutation es ps → IsSortedBy (λ a b. is_lt (owner_cmp a b)) ps → Ascends member_cmp es → Ascends owner_cmp ps
@@ -161,7 +152,7 @@ by_owner es ps perm up order = rises_ascends owner_total (λ x y e. second_equal
 
 across : {A : Type 0} (R : A → A → Ordering) (xs ys : List A) (x y : A) → Ascends R (xs ++ ys) → In x xs → In y ys → R x y ≡ Less
 across R [] ys x y a i k = absurd i
-across R (z ∷ xs) ys x y a (inl e) k = subst (λ w. R w y ≡ Less) (sym e) (all_at (λ w. R z w ≡ Less) (xs ++ ys) y a.0 (in_right y xs ys k))
+across R (z ∷ xs) ys x y a (inl e) k = subst (λ w. R w y ≡ Less) (sym e) (all_in (λ w. R z w ≡ Less) (xs ++ ys) y a.0 (in_right y xs ys k))
 across R (z ∷ xs) ys x y a (inr i) k = across R xs ys x y a.1 i k
 
 behind : {A : Type 0} (R : A → A → Ordering) (xs ys : List A) → Ascends R (xs ++ ys) → Ascends R ys
@@ -218,14 +209,14 @@ owners_ascend (g ∷ gs) runs up =
       | inl l ↦ l
       | inr is ↦ absurd (
           let first : value_cmp g.owner f.owner ≡ Less = elim (order f (inl refl)) [ inl l ↦ l | inr e ↦ absurd (ne e) ] in
-          not_both_before value_cmp_total f.owner k.owner (all_at (λ y. value_cmp f.owner y ≡ Less) (owners_in ks) k.owner rest.0 (in_map (λ (x : Owned). x.owner) k ks j)) (subst (λ z. value_cmp z f.owner ≡ Less) is first))
+          not_both_before value_cmp_total f.owner k.owner (all_in (λ y. value_cmp f.owner y ≡ Less) (owners_in ks) k.owner rest.0 (in_map (λ (x : Owned). x.owner) k ks j)) (subst (λ z. value_cmp z f.owner ≡ Less) is first))
     ]
 
 members_up : (o : Value) (ms : List Value) (rest : List (Value × Value)) → Ascends owner_cmp (map (pair_with o) ms ++ rest) → Ascends value_cmp ms
 members_up o [] rest up = tt
 members_up o (m ∷ ms) rest up = (
   all_of (λ y. value_cmp m y ≡ Less) ms (λ y i.
-      ap (λ r. ordering_then r (value_cmp m y)) (sym (tied_itself value_cmp_total o)) ∙ all_at (λ q. owner_cmp (m, o) q ≡ Less) (map (pair_with o) ms ++ rest) (y, o) up.0 (in_left (y, o) (map (pair_with o) ms) rest (in_map (pair_with o) y ms i))),
+      ap (λ r. ordering_then r (value_cmp m y)) (sym (tied_itself value_cmp_total o)) ∙ all_in (λ q. owner_cmp (m, o) q ≡ Less) (map (pair_with o) ms ++ rest) (y, o) up.0 (in_left (y, o) (map (pair_with o) ms) rest (in_map (pair_with o) y ms i))),
   members_up o ms rest up.1,
 )
 
@@ -238,8 +229,8 @@ group_ascends (k ∷ gs) g up (inr h) = group_ascends gs g (behind owner_cmp (pa
 pub one_group : (gs : List Owned) (g h : Owned) → Ascends value_cmp (owners_in gs) → In g gs → In h gs → g.owner ≡ h.owner → g ≡ h
 one_group [] g h up i k e = absurd i
 one_group (x ∷ gs) g h up (inl i) (inl k) e = i ∙ sym k
-one_group (x ∷ gs) g h up (inl i) (inr k) e = absurd (not_before_itself value_cmp_total h.owner (subst (λ z. value_cmp z h.owner ≡ Less) (ap (λ (y : Owned). y.owner) (sym i) ∙ e) (all_at (λ y. value_cmp x.owner y ≡ Less) (owners_in gs) h.owner up.0 (in_map (λ (y : Owned). y.owner) h gs k))))
-one_group (x ∷ gs) g h up (inr i) (inl k) e = absurd (not_before_itself value_cmp_total g.owner (subst (λ z. value_cmp z g.owner ≡ Less) (ap (λ (y : Owned). y.owner) (sym k) ∙ sym e) (all_at (λ y. value_cmp x.owner y ≡ Less) (owners_in gs) g.owner up.0 (in_map (λ (y : Owned). y.owner) g gs i))))
+one_group (x ∷ gs) g h up (inl i) (inr k) e = absurd (not_before_itself value_cmp_total h.owner (subst (λ z. value_cmp z h.owner ≡ Less) (ap (λ (y : Owned). y.owner) (sym i) ∙ e) (all_in (λ y. value_cmp x.owner y ≡ Less) (owners_in gs) h.owner up.0 (in_map (λ (y : Owned). y.owner) h gs k))))
+one_group (x ∷ gs) g h up (inr i) (inl k) e = absurd (not_before_itself value_cmp_total g.owner (subst (λ z. value_cmp z g.owner ≡ Less) (ap (λ (y : Owned). y.owner) (sym k) ∙ sym e) (all_in (λ y. value_cmp x.owner y ≡ Less) (owners_in gs) g.owner up.0 (in_map (λ (y : Owned). y.owner) g gs i))))
 one_group (x ∷ gs) g h up (inr i) (inr k) e = one_group gs g h up.1 i k e
 
 pub are_owners : (link : Link) (ps : List (Value × Value)) (gs : List Owned) → Ascends owner_cmp ps → ((q : Value × Value) → In q ps → In q (fin.entries link)) → ((q : Value × Value) → In q (fin.entries link) → In q ps) → pairs_of gs ≡ ps → AreRuns gs → AreOwners link gs

@@ -8,6 +8,7 @@ use Rattle.std.specs.declared.cmp.Ordering.TheVariants.{Less, Equal, Greater}
 use Rattle.std.specs.Cmp.{IsTotalOrder, nat_cmp_total, Equal-is, tied_itself, eq_by_cmp_equiv}
 use Rattle.std.specs.FinMap as fin
 use Rattle.std.proofs.lemmas.Map.Keys.{IsDistinct-IsPermutation}
+use Rattle.gx_laws.proofs.OrderingLemmas.{less_equal, greater_equal, cmp_less}
 use Rattle.gx_values.specs.declared.values.Kind.{Kind}
 use Rattle.gx_values.specs.declared.values.Value.{Value}
 use Rattle.gx_values.specs.declared.records.Form.{Form}
@@ -18,9 +19,10 @@ use Rattle.gx_ports.specs.LeafMaps.{LeafMap}
 use Rattle.gx_mapping.specs.declared.parts.Part.{Part}
 use Rattle.gx_mapping.specs.Rule.{Rule, In, IsOf, part_cmp}
 use Rattle.gx_mapping.specs.Laws.{MappingLaws}
+use Rattle.gx_mapping.proofs.RuleLemmas.{parts_tied, all_in}
 use Rattle.gx_gather.specs.Gather.{rec_cmp, gather_cmp, part_for}
-use Rattle.gx_gather.proofs.Lists.{in_left, in_right, in_cases, in_each, from_each, in_map, from_map, all_at, all_of, bool_cases}
-use Rattle.gx_gather.proofs.Orders.{Ascends, sorted, ascends, ascends_append, ascends_by, ascends_unique, child_ascends, nat_less, rises, rises_ascends, gather_total, gather_ties, part_total, not_before_itself}
+use Rattle.gx_gather.proofs.Lists.{in_left, in_right, in_cases, in_each, from_each, in_map, from_map, all_of, bool_cases}
+use Rattle.gx_gather.proofs.Orders.{Ascends, sorted, ascends, ascends_append, ascends_by, ascends_unique, child_ascends, rises, rises_ascends, gather_total, gather_ties, part_total, not_before_itself}
 use Rattle.gx_gather.proofs.Made.{permuted_in, permuted_back}
 use Rattle.gx_stack.specs.Tree.{Tree, Kids, no_kids, kid, kid_count, IsValid, AreValid}
 use Rattle.gx_stack.specs.Internal.{IsSet, IsInternal, AreInternal, parts_for}
@@ -33,7 +35,7 @@ use Rattle.gx_links.specs.Links.{Link, members_of, most_members, IsLink}
 use Rattle.gx_links.specs.Rows.{two_forms, link_parts, node_rows, link_rule, IsHeldLink, RowLaws, RowsApart}
 use Rattle.gx_links.specs.Owners.{member_cmp, AreOwners}
 use Rattle.gx_links.specs.Pairs.{rows_of, two_parts, ArePairs, AreRows, IsTold, ArePairsOfRows}
-use Rattle.gx_links.proofs.MemberLemmas.{from_members, in_pair, pair_in, members_ascend, less_equal, greater_equal}
+use Rattle.gx_links.proofs.MemberLemmas.{from_members, in_pair, pair_in, members_ascend}
 use Rattle.gx_links.proofs.OwnerLemmas.{member_total, pairs_ascend, pairs_sorted}
 use Rattle.gx_links.proofs.RowLemmas.{in_link_parts, from_link_parts, node_set}
 
@@ -48,16 +50,13 @@ sorted_rows rows made found perm up order distinct to from =
     (λ p h. from p (permuted_back rows made p perm h))
     (λ p h. permuted_in rows made p perm (to p h))
 
-parts_tied : (p q : Part) → p.child ≡ q.child → p.rec.key ≡ q.rec.key → part_cmp p q ≡ Equal
-parts_tied p q a b = (λ i. ordering_then (nat_cmp (a i) q.child) (values_cmp (b i) q.rec.key)) ∙ tied_itself part_total q
-
 -- of two that tie in an ascending list
 tied_same : {A : Type 0} {R : A → A → Ordering} (o : IsTotalOrder R) (xs : List A) (x y : A) → Ascends R xs → In x xs → In y xs → R x y ≡ Equal → x ≡ y
 tied_same o [] x y up h k e = absurd h
 tied_same o (z ∷ xs) x y up (inl i) (inl k) e = i ∙ sym k
-tied_same {R = R} o (z ∷ xs) x y up (inl i) (inr k) e = absurd (less_equal (sym (all_at (λ w. R z w ≡ Less) xs y up.0 k) ∙ ap (λ w. R w y) (sym i) ∙ e))
+tied_same {R = R} o (z ∷ xs) x y up (inl i) (inr k) e = absurd (less_equal (sym (all_in (λ w. R z w ≡ Less) xs y up.0 k) ∙ ap (λ w. R w y) (sym i) ∙ e))
 tied_same {R = R} o (z ∷ xs) x y up (inr i) (inl k) e =
-    let less : R y x ≡ Less = ap (λ w. R w x) k ∙ all_at (λ w. R z w ≡ Less) xs x up.0 i in
+    let less : R y x ≡ Less = ap (λ w. R w x) k ∙ all_in (λ w. R z w ≡ Less) xs x up.0 i in
     absurd (greater_equal (sym (o.antisymm x y ∙ ap ordering_reverse less) ∙ e))
 tied_same o (z ∷ xs) x y up (inr i) (inr k) e = tied_same o xs x y up.1 i k e
 
@@ -109,7 +108,7 @@ module _ {owner member : Kind} {forms : ℕ → Form} {nodes : ℕ} {rows : Valu
           let there = from_rows q (in_each (λ (x : Owned). rows x.owner x.members) h.0 q gs (sub h.0 (inr h.1)) h.2) in
           let same : p ≡ q = laws.once link p q is here there child key in
           let owners : g.owner ≡ h.0.owner = apart.whose g.owner h.0.owner g.members h.0.members p i (subst (λ x. In x (rows h.0.owner h.0.members)) (sym same) h.2) in
-          not_before_itself value_cmp_total h.0.owner (subst (λ o. value_cmp o h.0.owner ≡ Less) owners (all_at (λ y. value_cmp g.owner y ≡ Less) (map (λ (x : Owned). x.owner) hs) h.0.owner up.0 (in_map (λ (x : Owned). x.owner) h.0 hs h.1)))))
+          not_before_itself value_cmp_total h.0.owner (subst (λ o. value_cmp o h.0.owner ≡ Less) owners (all_in (λ y. value_cmp g.owner y ≡ Less) (map (λ (x : Owned). x.owner) hs) h.0.owner up.0 (in_map (λ (x : Owned). x.owner) h.0 hs h.1)))))
 
       pub rows_distinct : IsDistinct (eq_by_cmp part_cmp) (rows_of rows gs)
       rows_distinct = distinct gs (λ g h. h) (ascends value_cmp (map (λ (g : Owned). g.owner) gs) are.in_order)
@@ -181,7 +180,7 @@ pub two_ascend : (A B : List Rec) → Ascends rec_cmp A → Ascends rec_cmp B �
 two_ascend A B a b = ascends_append (map (part_for 0) A) (map (part_for 1) B) (child_ascends 0 A a) (child_ascends 1 B b) (λ p q h k.
     let x = from_map (part_for 0) p A h in
     let y = from_map (part_for 1) q B k in
-    (λ i. ordering_then (nat_cmp (x.2 i).child (y.2 i).child) (values_cmp p.rec.key q.rec.key)) ∙ ap (λ o. ordering_then o (values_cmp p.rec.key q.rec.key)) (nat_less 0 1 (omega arith)))
+    (λ i. ordering_then (nat_cmp (x.2 i).child (y.2 i).child) (values_cmp p.rec.key q.rec.key)) ∙ ap (λ o. ordering_then o (values_cmp p.rec.key q.rec.key)) (cmp_less 0 1 (omega arith)))
 
 in_first : (A B : List Rec) (r : Rec) → In r A → In r (parts_for 0 (two_parts A B))
 in_first A B r h = in_parts_for 0 (two_parts A B) (part_for 0 r) (in_left (part_for 0 r) (map (part_for 0) A) (map (part_for 1) B) (in_map (part_for 0) r A h)) refl
@@ -224,7 +223,7 @@ pub first_ascends : (A B : List Rec) → Ascends part_cmp (two_parts A B) → As
 first_ascends [] B up = tt
 first_ascends (r ∷ A) B up = (
   all_of (λ s. rec_cmp r s ≡ Less) A (λ s h.
-      ap (λ o. ordering_then o (values_cmp r.key s.key)) (sym (tied_itself nat_cmp_total 0)) ∙ all_at (λ q. part_cmp (part_for 0 r) q ≡ Less) (two_parts A B) (part_for 0 s) up.0 (in_left (part_for 0 s) (map (part_for 0) A) (map (part_for 1) B) (in_map (part_for 0) s A h))),
+      ap (λ o. ordering_then o (values_cmp r.key s.key)) (sym (tied_itself nat_cmp_total 0)) ∙ all_in (λ q. part_cmp (part_for 0 r) q ≡ Less) (two_parts A B) (part_for 0 s) up.0 (in_left (part_for 0 s) (map (part_for 0) A) (map (part_for 1) B) (in_map (part_for 0) s A h))),
   first_ascends A B up.1,
 )
 
@@ -233,7 +232,7 @@ second_ascends (r ∷ A) B up = second_ascends A B up.1
 second_ascends [] [] up = tt
 second_ascends [] (r ∷ B) up = (
   all_of (λ s. rec_cmp r s ≡ Less) B (λ s h.
-      ap (λ o. ordering_then o (values_cmp r.key s.key)) (sym (tied_itself nat_cmp_total 1)) ∙ all_at (λ q. part_cmp (part_for 1 r) q ≡ Less) (map (part_for 1) B) (part_for 1 s) up.0 (in_map (part_for 1) s B h)),
+      ap (λ o. ordering_then o (values_cmp r.key s.key)) (sym (tied_itself nat_cmp_total 1)) ∙ all_in (λ q. part_cmp (part_for 1 r) q ≡ Less) (map (part_for 1) B) (part_for 1 s) up.0 (in_map (part_for 1) s B h)),
   second_ascends [] B up.1,
 )
 
@@ -270,7 +269,7 @@ values_ascend f [] keys up = tt
 values_ascend f (r ∷ rs) keys up = (
   all_of (λ q. member_cmp (f r) q ≡ Less) (map f rs) (λ q h.
       let s = from_map f q rs h in
-      subst (λ x. member_cmp (f r) x ≡ Less) (sym s.2) (one_value r s.0 (f r).0 (f s.0).0 (keys r (inl refl)) (keys s.0 (inr s.1)) (all_at (λ y. rec_cmp r y ≡ Less) rs s.0 up.0 s.1))),
+      subst (λ x. member_cmp (f r) x ≡ Less) (sym s.2) (one_value r s.0 (f r).0 (f s.0).0 (keys r (inl refl)) (keys s.0 (inr s.1)) (all_in (λ y. rec_cmp r y ≡ Less) rs s.0 up.0 s.1))),
   values_ascend f rs (λ s h. keys s (inr h)) up.1,
 )
 

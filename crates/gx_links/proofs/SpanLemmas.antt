@@ -1,5 +1,6 @@
 -- The span of the keys that begin with one value.
 use Rattle.std.proofs.Common.{◌≡◌, ◌<◌, ℕ, List, [], ◌∷◌, ◌++◌, length, ◌∙◌, arith, append_assoc}
+use Rattle.gx_laws.proofs.ListLemmas.{right_empty}
 use Rattle.gx_values.specs.declared.values.Value.{Value}
 use Rattle.gx_values.specs.declared.values.Op.TheVariants as op
 use Rattle.gx_values.specs.declared.records.Field.{Field}
@@ -11,10 +12,6 @@ use Rattle.gx_values.specs.Spans.{HoldsThoseMet, IsValueSpan}
 use Rattle.gx_stack.specs.Selected.{IsKeySpan}
 use Rattle.gx_links.specs.Kinds.{first_kind}
 use Rattle.gx_links.specs.Spans.{begins_with}
-
-pub right_empty : (xs ys : List ℕ) → xs ++ ys ≡ [] → ys ≡ []
-right_empty [] ys e = e
-right_empty (x ∷ xs) ys e = cc
 
 -- no key is a proper prefix of an end, where no first value's bytes are
 pub whole_span : (form : Form) (span : Span) → 0 < length form.keys → IsValueSpan (first_kind form.keys) span → IsKeySpan form span

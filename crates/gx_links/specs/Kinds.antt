@@ -20,7 +20,3 @@ abbrev pub AreOfKinds : List Kind → List Value → Type 0
 AreOfKinds [] [] = Unit {0}
 AreOfKinds (kind ∷ kinds) (value ∷ values) = Fits kind value × AreOfKinds kinds values
 AreOfKinds _ _ = ⊥
-
--- what stands for a value where there is none
-abbrev pub no_value : Value
-no_value = value.Bytes []

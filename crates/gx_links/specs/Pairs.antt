@@ -7,6 +7,7 @@ use Rattle.std.specs.Ordering.{eq_by_cmp}
 use Rattle.gx_values.specs.declared.values.Kind.{Kind}
 use Rattle.gx_values.specs.declared.values.Value.{Value}
 use Rattle.gx_values.specs.declared.records.Rec.{Rec}
+use Rattle.gx_values.specs.Values.{no_value}
 use Rattle.gx_ports.specs.LeafMaps.{LeafMap}
 use Rattle.gx_mapping.specs.declared.parts.Part.{Part}
 use Rattle.gx_mapping.specs.Rule.{Rule, In, part_cmp}
@@ -15,7 +16,6 @@ use Rattle.gx_stack.specs.Tree.{Tree}
 use Rattle.gx_stack.specs.Internal.{HasSet}
 use Rattle.gx_stack.specs.Held.{AreHeld}
 use Rattle.gx_links.specs.declared.pairs.Owned.{Owned}
-use Rattle.gx_links.specs.Kinds.{no_value}
 use Rattle.gx_links.specs.Links.{Link, IsLink, most_members}
 use Rattle.gx_links.specs.Linksets.{LinkRule, HasLink}
 use Rattle.gx_links.specs.Rows.{link_parts}

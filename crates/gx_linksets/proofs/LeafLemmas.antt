@@ -1,5 +1,5 @@
 -- No link has more leaves than there are.
-use Rattle.std.proofs.Common.{◌≡◌, ◌<◌, ◌≤◌, ℕ, suc, List, [], ◌∷◌, ◌++◌, true, false, length, inl, inr, refl}
+use Rattle.std.proofs.Common.{◌≡◌, ◌<◌, ◌≤◌, ℕ, suc, List, [], ◌∷◌, true, false, length, inl, inr}
 use Rattle.std.specs.List.{AllByRecursion, IsDistinct, list_any}
 use Rattle.std.proofs.Math.Dec.{eqb}
 use Rattle.std.proofs.lemmas.Bool.{eqb-true, ne_eqb}
@@ -9,7 +9,7 @@ use Rattle.gx_values.specs.declared.records.Form.{Form}
 use Rattle.gx_schema.specs.declared.schema.Schema.{Schema}
 use Rattle.gx_schema.specs.Lookups.{link_at}
 use Rattle.gx_mapping.specs.Rule.{Rule, In}
-use Rattle.gx_gather.proofs.Lists.{in_cases, contains_in}
+use Rattle.gx_gather.proofs.Lists.{contains_in, once_joined, IsOnce}
 use Rattle.gx_stack.specs.declared.node.Node.{Node}
 use Rattle.gx_stack.specs.Tree.{Tree, Kids, leaf, layer, no_kids, kid, leaves_of, kids_leaves, IsValid, AreValid}
 use Rattle.gx_forms.specs.Forms.{link_form}
@@ -20,18 +20,6 @@ use Rattle.gx_types.specs.Any.{any_rule}
 use Rattle.gx_types.specs.Links.{linkset_at, link_kids_at}
 use Rattle.gx_types.specs.Nodes.{AreLinkNodes}
 use Rattle.gx_linksets.specs.Stored.{rule_at}
-
-abbrev IsOnce : List ℕ → Type 0
-IsOnce [] = Unit {0}
-IsOnce (x ∷ xs) = (In x xs → ⊥) × IsOnce xs
-
-once_joined : (xs ys : List ℕ) → IsOnce xs → IsOnce ys → ((n : ℕ) → In n xs → In n ys → ⊥)
-    → IsOnce (xs ++ ys)
-once_joined [] ys a b h = b
-once_joined (x ∷ xs) ys a b h = (
-  λ i. elim (in_cases x xs ys i) [ inl k ↦ a.0 k | inr k ↦ h x (inl refl) k ],
-  once_joined xs ys a.1 b (λ n i k. h n (inr i) k),
-)
 
 module _ {M : Type 0} (rule : M → Rule) where
   mutual

@@ -1,12 +1,11 @@
 -- What the changes of a pointer array make of the link, in the words of its calls.
 use Rattle.std.proofs.Common.{◌≡◌, ◌<◌, ◌≤◌, ◌+◌, ℕ, List, [], ◌∷◌, ◌++◌, inl, inr, length, get_or, Option, Some, None, refl, sym, ap, subst, ◌∙◌, arith}
-use Rattle.std.specs.Prelude.{OnOk, Result, Ok, Err}
 use Rattle.std.specs.FinMap as fin
 use Rattle.gx_values.specs.declared.values.Kind.{Kind}
 use Rattle.gx_values.specs.declared.values.Kind.TheVariants as kind
 use Rattle.gx_values.specs.declared.values.Value.{Value}
 use Rattle.gx_values.specs.declared.records.Rec.{Rec}
-use Rattle.gx_values.specs.Values.{Fits, IsSized, AreSized}
+use Rattle.gx_values.specs.Values.{Fits, IsSized, AreSized, no_value}
 use Rattle.gx_values.specs.Keys.{bytes_of}
 use Rattle.gx_values.specs.Spans.{IsSpanKind}
 use Rattle.gx_values.proofs.CopyLemmas.{fit_sized}
@@ -19,7 +18,6 @@ use Rattle.gx_links.specs.Links.{Link, members_of, most_members, with_member, wi
 use Rattle.gx_links.specs.Rows.{node_rows, owner_entries, IsHeldLink, owner_kind}
 use Rattle.gx_links.proofs.JoinLemmas.{crowded_more}
 use Rattle.gx_links.proofs.MemberLemmas.{in_members, from_members, new_here, members_with, members_gone, others_stay, from_with, from_without, with_length}
-use Rattle.gx_links.specs.Kinds.{no_value}
 use Rattle.gx_lists.specs.Arrays.{array_rec, array_rows, one_node, IsArray, AreOfKind, AreCut, HasMembers}
 use Rattle.gx_lists.proofs.ArrayLemmas.{of_form, none_there, one_there, first_held, more_held, last_held, others_gone, rec_crowded}
 
@@ -166,7 +164,3 @@ pub first_value : (key : List Value) (x : Value) → 0 < length key → x ≡ ge
     → IsSized x × (get_or key 0 no_value ≡ x)
 first_value [] x some read sized = absurd (omega arith)
 first_value (v ∷ key) x some read sized = (subst IsSized (sym read) sized.0, sym read)
-
-pub on_ok_any : {T E P : Type 0} (r : Result T E) → P → OnOk r P
-on_ok_any (Ok x) p = p
-on_ok_any (Err y) p = tt

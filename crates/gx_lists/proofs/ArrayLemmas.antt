@@ -7,9 +7,10 @@ use Rattle.gx_values.specs.declared.values.Kind.{Kind}
 use Rattle.gx_values.specs.declared.values.Value.{Value}
 use Rattle.gx_values.specs.declared.records.Rec.{Rec}
 use Rattle.gx_values.specs.declared.keys.Span.{Span}
-use Rattle.gx_values.specs.Values.{Fits, AreFit, AreSized}
+use Rattle.gx_values.specs.Values.{Fits, AreFit, AreSized, no_value}
 use Rattle.gx_values.specs.Keys.{key_of, is_inside, IsKeyKind}
 use Rattle.gx_values.proofs.CopyLemmas.{are_sized}
+use Rattle.gx_values.proofs.OrderLemmas.{same_value, value_itself, value_cases}
 use Rattle.gx_ports.specs.LeafMaps.{LeafMap, Limits, IsCrowdedBy}
 use Rattle.gx_mapping.specs.declared.parts.Part.{Part}
 use Rattle.gx_mapping.specs.Rule.{Rule, In, IsOf}
@@ -22,13 +23,13 @@ use Rattle.gx_stack.specs.Selected.{IsSelection}
 use Rattle.gx_stack.proofs.Children.{in_parts_for, from_parts_for}
 use Rattle.gx_stack.proofs.Without.{from_without, to_without}
 use Rattle.gx_stack.proofs.Same.{internal_of_members}
-use Rattle.gx_links.specs.Kinds.{AreOfKinds, no_value}
+use Rattle.gx_links.specs.Kinds.{AreOfKinds}
 use Rattle.gx_links.specs.Links.{Link, members_of, most_members, IsLink}
 use Rattle.gx_links.specs.Linksets.{HasLink}
 use Rattle.gx_links.specs.Rows.{link_parts, node_rows, owner_entries, IsHeldLink, RowLaws, owner_kind}
 use Rattle.gx_links.proofs.KindLemmas.{fit_kinds}
 use Rattle.gx_links.proofs.JoinLemmas.{crowded_more}
-use Rattle.gx_links.proofs.MemberLemmas.{same_value, value_itself, value_cases, in_members, from_members, others_stay, gone_free, gone_comes}
+use Rattle.gx_links.proofs.MemberLemmas.{in_members, from_members, others_stay, gone_free, gone_comes}
 use Rattle.gx_links.proofs.RowLemmas.{node_set}
 use Rattle.gx_links.specs.Spans.{begins_with}
 use Rattle.gx_lists.specs.Arrays.{array_rec, array_rows, one_node, array_rule, IsArray, AreOfKind, first_body, AreCut, AreOfNone, HasMembers, IsOwnerAmong}

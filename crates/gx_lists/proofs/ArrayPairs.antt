@@ -7,12 +7,13 @@ use Rattle.std.specs.declared.cmp.Ordering.TheVariants.{Less}
 use Rattle.std.specs.Cmp.{Equal-is, eq_by_cmp_equiv}
 use Rattle.std.specs.FinMap as fin
 use Rattle.std.proofs.lemmas.Map.Keys.{IsDistinct-from_sorted, IsDistinct-IsPermutation}
+use Rattle.std.proofs.lemmas.Option.{same_Some}
 use Rattle.gx_values.specs.declared.values.Kind.{Kind}
 use Rattle.gx_values.specs.declared.values.Kind.TheVariants as kind
 use Rattle.gx_values.specs.declared.values.Value.{Value}
 use Rattle.gx_values.specs.declared.values.Value.TheVariants as value
 use Rattle.gx_values.specs.declared.records.Rec.{Rec}
-use Rattle.gx_values.specs.Values.{value_cmp, Fits, IsSized}
+use Rattle.gx_values.specs.Values.{value_cmp, Fits, IsSized, no_value}
 use Rattle.gx_values.specs.Keys.{key_of, IsKeyKind}
 use Rattle.gx_values.proofs.CopyLemmas.{fit_sized}
 use Rattle.gx_values.proofs.OrderLemmas.{value_cmp_total, value_cmp_same}
@@ -20,8 +21,9 @@ use Rattle.gx_ports.specs.LeafMaps.{LeafMap}
 use Rattle.gx_mapping.specs.declared.parts.Part.{Part}
 use Rattle.gx_mapping.specs.Rule.{Rule, In, IsOf, part_cmp}
 use Rattle.gx_mapping.specs.Laws.{MappingLaws}
+use Rattle.gx_mapping.proofs.RuleLemmas.{all_in}
 use Rattle.gx_gather.specs.Gather.{rec_cmp, part_for}
-use Rattle.gx_gather.proofs.Lists.{in_each, from_each, in_map, from_map, all_at, all_of, some_same, bool_cases}
+use Rattle.gx_gather.proofs.Lists.{in_each, from_each, in_map, from_map, all_of, bool_cases}
 use Rattle.gx_gather.proofs.Orders.{Ascends, ascends, sorted, rises, rises_ascends, not_before_itself}
 use Rattle.gx_gather.proofs.Made.{permuted_in, permuted_back}
 use Rattle.gx_stack.specs.Tree.{Tree, tree_form, leaf_body}
@@ -30,7 +32,7 @@ use Rattle.gx_stack.specs.Held.{AreHeld}
 use Rattle.gx_stack.proofs.Children.{in_parts_for, from_parts_for}
 use Rattle.gx_stack.proofs.Same.{internal_of_members}
 use Rattle.gx_links.specs.declared.pairs.Owned.{Owned}
-use Rattle.gx_links.specs.Kinds.{AreOfKinds, no_value}
+use Rattle.gx_links.specs.Kinds.{AreOfKinds}
 use Rattle.gx_links.specs.Links.{Link, members_of, IsLink}
 use Rattle.gx_links.specs.Rows.{RowsApart, RowLaws, IsHeldLink, owner_kind}
 use Rattle.gx_links.specs.Owners.{member_cmp, pair_with, pairs_under, pairs_of, AreOwners}
@@ -225,7 +227,7 @@ module _ {M : Type 0} (rule : M → Rule) (tree : Tree M) (member : Kind) (valid
                 let k = from_map (λ (g : Owned). g.owner) y hs i in
                 let s = cut_at member rs hs k.0 c.1 k.1 in
                 let less = one_value r s.0 (get_or r.key 0 no_value) (get_or s.0.key 0 no_value) (array_key r (of r (inl refl))).0
-                (array_key s.0 (of s.0 (inr s.1))).0 (all_at (λ q. rec_cmp r q ≡ Less) rs s.0 up.0 s.1) in
+                (array_key s.0 (of s.0 (inr s.1))).0 (all_in (λ q. rec_cmp r q ≡ Less) rs s.0 up.0 s.1) in
                 (λ j. value_cmp (c.0.owner j) ((k.2 ∙ s.2.owner) j)) ∙ less),
             rise rs hs c.1 up.1 (λ s i. of s (inr i)),
           )
@@ -285,7 +287,7 @@ module _ {M : Type 0} (rule : M → Rule) (tree : Tree M) (member : Kind) (valid
             members_rise o (m ∷ ms) rise = (
               all_of (λ q. member_cmp (pair_with o m) q ≡ Less) (map (pair_with o) ms) (λ q i.
                   let x = from_map (pair_with o) q ms i in
-                  subst (λ y. member_cmp (pair_with o m) y ≡ Less) (sym x.2) (all_at (λ y. value_cmp m y ≡ Less) ms x.0 rise.0 x.1)),
+                  subst (λ y. member_cmp (pair_with o m) y ≡ Less) (sym x.2) (all_in (λ y. value_cmp m y ≡ Less) ms x.0 rise.0 x.1)),
               members_rise o ms rise.1,
             )
 
@@ -308,10 +310,10 @@ module _ {M : Type 0} (rule : M → Rule) (tree : Tree M) (member : Kind) (valid
                       let a = from_members link g.owner m.0 (subst (In m.0) (each_owner link are g (sub g (inl refl))) m.1) in
                       let b = from_members link h.0.owner y.0 (subst (In y.0) (each_owner link are h.0 (sub h.0 (inr h.1.0))) h.1.1) in
                       let members : m.0 ≡ y.0 = ap (λ (q : Value × Value). q.0) (sym m.2) ∙ same in
-                      let owners : g.owner ≡ h.0.owner = some_same g.owner h.0.owner (sym a ∙ ap (fin.get link) members ∙ b) in
+                      let owners : g.owner ≡ h.0.owner = same_Some g.owner h.0.owner (sym a ∙ ap (fin.get link) members ∙ b) in
                       not_before_itself value_cmp_total h.0.owner
                       (subst (λ o. value_cmp o h.0.owner ≡ Less) owners
-                      (all_at (λ z. value_cmp g.owner z ≡ Less) (map (λ (q : Owned). q.owner) hs) h.0.owner rise.0
+                      (all_in (λ z. value_cmp g.owner z ≡ Less) (map (λ (q : Owned). q.owner) hs) h.0.owner rise.0
                       (in_map (λ (q : Owned). q.owner) h.0 hs h.1.0))))
                 ])
 

@@ -1,24 +1,25 @@
 -- The records of an inverted list: what selections of them find, and what changes of two of them make of the link.
 use Rattle.std.proofs.Common.{◌≡◌, ◌≢◌, ◌<◌, ◌≤◌, ◌+◌, ◌*◌, ℕ, true, List, [], ◌∷◌, ◌++◌, inl, inr, length, map, Option, Some, None, refl, sym, ap, subst, ◌∙◌, get_or, arith, length-append}
-use Rattle.std.specs.Prelude.{IfSome, Ok}
+use Rattle.std.specs.Prelude.{IfSome}
 use Rattle.std.specs.List.{AllByRecursion}
 use Rattle.std.specs.Ordering.{ordering_then}
 use Rattle.std.specs.declared.cmp.Ordering.TheVariants.{Less, Equal}
 use Rattle.std.specs.Cmp.{tied_itself}
 use Rattle.std.specs.FinMap as fin
 use Rattle.std.proofs.lemmas.List.Sums.{sum_by-cons}
+use Rattle.std.proofs.lemmas.Option.{same_Some}
 use Rattle.gx_values.specs.declared.values.Kind.{Kind}
 use Rattle.gx_values.specs.declared.values.Value.{Value}
 use Rattle.gx_values.specs.declared.records.Rec.{Rec}
 use Rattle.gx_values.specs.declared.keys.Span.{Span}
-use Rattle.gx_values.specs.Values.{value_cmp, Fits, AreFit}
+use Rattle.gx_values.specs.Values.{value_cmp, Fits, AreFit, no_value}
 use Rattle.gx_values.specs.Keys.{key_of, is_inside}
-use Rattle.gx_values.proofs.OrderLemmas.{value_cmp_total}
+use Rattle.gx_values.proofs.OrderLemmas.{value_cmp_total, same_value, value_itself}
 use Rattle.gx_ports.specs.LeafMaps.{LeafMap, Limits, map_at, IsCrowdedBy}
 use Rattle.gx_mapping.specs.declared.parts.Part.{Part}
 use Rattle.gx_mapping.specs.Rule.{Rule, In, IsOf}
 use Rattle.gx_gather.specs.Gather.{rec_cmp, part_for}
-use Rattle.gx_gather.proofs.Lists.{in_map, from_map, in_left, in_right, some_same, none_some}
+use Rattle.gx_gather.proofs.Lists.{in_map, from_map, in_left, in_right, none_some}
 use Rattle.gx_gather.proofs.Orders.{Ascends, ascends, ascends_unique, rec_total}
 use Rattle.gx_stack.specs.Tree.{Tree, leaves_of, kids_leaves, tree_form, entries_of, entry_total}
 use Rattle.gx_stack.specs.Internal.{IsSet, HasSet, IsInternal, IsChange, changed, entries_if as change_entries}
@@ -28,13 +29,13 @@ use Rattle.gx_stack.proofs.Without.{from_without, to_without}
 use Rattle.gx_stack.proofs.Same.{internal_of_members, internal_elsewhere}
 use Rattle.gx_links.specs.declared.changes.Change.{Change}
 use Rattle.gx_links.specs.Changes.{AreReplaced, coming, reversed}
-use Rattle.gx_links.specs.Kinds.{AreOfKinds, no_value}
+use Rattle.gx_links.specs.Kinds.{AreOfKinds}
 use Rattle.gx_links.specs.Links.{Link, members_of, IsLink}
 use Rattle.gx_links.specs.Linksets.{HasLink, entries_if}
 use Rattle.gx_links.specs.Rows.{two_forms, link_parts, node_rows, owner_entries, IsHeldLink, RowLaws, two_nodes, owner_kind, member_kind}
 use Rattle.gx_links.proofs.KindLemmas.{fit_kinds}
 use Rattle.gx_links.proofs.JoinLemmas.{crowded_more}
-use Rattle.gx_links.proofs.MemberLemmas.{same_value, value_itself, in_members, from_members, members_ascend, new_here, from_insert, still_there, from_remove, kept_there}
+use Rattle.gx_links.proofs.MemberLemmas.{in_members, from_members, members_ascend, new_here, from_insert, still_there, from_remove, kept_there}
 use Rattle.gx_links.proofs.RowLemmas.{node_set}
 use Rattle.gx_links.specs.Spans.{begins_with}
 use Rattle.gx_lists.specs.Inverted.{pair_rec, owned_rec, inverted_rows, IsInverted, inverted_rule, member_in, owner_in}
@@ -402,7 +403,7 @@ module _ {M : Type 0} (rule : M → Rule) (down up : Tree M) (valid : IsInverted
             let f = from_without (node_rows inverted_rows link 0) (pair_rec o m) r h in
             let pair = from_down link r f.0 in
             let other : pair.member ≢ m = λ e. f.1 (ap (λ (x : Rec). x.key) pair.is
-            ∙ (λ i. some_same pair.owner o (sym pair.owned ∙ ap (fin.get link) e ∙ owned) i ∷ e i ∷ [])) in
+            ∙ (λ i. same_Some pair.owner o (sym pair.owned ∙ ap (fin.get link) e ∙ owned) i ∷ e i ∷ [])) in
             subst (λ x. In x (node_rows inverted_rows (fin.remove link m) 0)) (sym pair.is)
             (in_down (fin.remove link m) pair.owner pair.member (kept_there link m pair.member other ∙ pair.owned)))
             (λ r h.

@@ -7,19 +7,19 @@ use Rattle.std.specs.FinMap as fin
 use Rattle.gx_values.specs.declared.values.Kind.{Kind}
 use Rattle.gx_values.specs.declared.values.Value.{Value}
 use Rattle.gx_values.specs.declared.records.Rec.{Rec}
-use Rattle.gx_values.specs.Values.{value_cmp, Fits, IsSized}
+use Rattle.gx_values.specs.Values.{value_cmp, Fits, IsSized, no_value}
 use Rattle.gx_values.proofs.CopyLemmas.{fit_sized}
 use Rattle.gx_values.proofs.OrderLemmas.{value_cmp_total}
 use Rattle.gx_mapping.specs.declared.parts.Part.{Part}
 use Rattle.gx_mapping.specs.Rule.{Rule, In, IsOf, part_cmp}
 use Rattle.gx_gather.specs.Gather.{rec_cmp, part_for}
-use Rattle.gx_gather.proofs.Lists.{from_each, in_map, from_map, all_at, all_of}
+use Rattle.gx_gather.proofs.Lists.{from_each, in_map, from_map, all_of}
 use Rattle.gx_gather.proofs.Orders.{Ascends, ascends, not_before_itself}
 use Rattle.gx_stack.specs.Tree.{Tree, tree_form}
 use Rattle.gx_stack.specs.Held.{AreHeld}
 use Rattle.gx_ports.specs.LeafMaps.{LeafMap}
 use Rattle.gx_mapping.specs.Laws.{MappingLaws}
-use Rattle.gx_links.specs.Kinds.{no_value}
+use Rattle.gx_mapping.proofs.RuleLemmas.{all_in}
 use Rattle.gx_links.specs.Links.{Link}
 use Rattle.gx_links.specs.Rows.{RowsApart, IsHeldLink, two_nodes, owner_kind, member_kind}
 use Rattle.gx_links.specs.Pairs.{IsTold, ArePairs, two_parts}
@@ -62,7 +62,7 @@ rows_once o (m ∷ ms) up = (
         let n = from_each (pair_rows o) q ms h in
         two_members o o m n.0 p q
         (λ e. not_before_itself value_cmp_total n.0
-        (subst (λ v. value_cmp v n.0 ≡ Less) e (all_at (λ y. value_cmp m y ≡ Less) ms n.0 up.0 n.1))) i n.2
+        (subst (λ v. value_cmp v n.0 ≡ Less) e (all_in (λ y. value_cmp m y ≡ Less) ms n.0 up.0 n.1))) i n.2
 
     first : (q : Part) → In q (part_for 1 (owned_rec o m) ∷ inverted_rows o ms) → eq_by_cmp part_cmp (part_for 0 (pair_rec o m)) q ≡ false
     first q (inl e) = not_tied (part_for 0 (pair_rec o m)) q

@@ -6,6 +6,7 @@ use Rattle.std.proofs.lemmas.Bool.Decides.{nat_tests}
 use Rattle.std.proofs.lemmas.List.{take-append-drop}
 use Rattle.std.proofs.lemmas.List.Quantifiers.{position-Some}
 use Rattle.std.proofs.lemmas.Grind.{flat_map-append}
+use Rattle.gx_laws.proofs.ListLemmas.{drop_front, none_long}
 use Rattle.gx_values.specs.declared.values.Kind.{Kind}
 use Rattle.gx_values.specs.declared.values.Kind.TheVariants as kind
 use Rattle.gx_values.specs.declared.values.Value.{Value}
@@ -110,10 +111,6 @@ take_front : (a b : List ℕ) → take (length a) (a ++ b) ≡ a
 take_front [] b = refl
 take_front (x ∷ a) b = ap (λ l. x ∷ l) (take_front a b)
 
-drop_front : (a b : List ℕ) → drop (length a) (a ++ b) ≡ b
-drop_front [] b = refl
-drop_front (x ∷ a) b = drop_front a b
-
 front_bytes : (rest a b : List ℕ) (width : ℕ) → rest ≡ a ++ b → length a ≡ width → (take width rest ≡ a) × (drop width rest ≡ b)
 front_bytes rest a b width e l = (
   (λ i. take (sym l i) (e i)) ∙ take_front a b,
@@ -153,17 +150,13 @@ one_cut k bytes before now after rest width v so_far some front is pushed = reco
       );
 }
 
-empty : (l : List ℕ) → length l ≡ 0 → l ≡ []
-empty [] e = refl
-empty (x ∷ l) e = absurd (omega arith)
-
 pub all_cut : (k : Kind) (bytes : List ℕ) (before now : List Value) (rest : List ℕ) → AreCutSoFar k bytes before now rest → length rest ≡ 0
     → AreCut k bytes before now
 all_cut k bytes before now rest so_far none = record {
   found = so_far.found;
   appended = so_far.appended;
   fit = so_far.fit;
-  joined = sym (append-nil (key_of so_far.found)) ∙ ap (λ l. key_of so_far.found ++ l) (sym (empty rest none)) ∙ so_far.joined;
+  joined = sym (append-nil (key_of so_far.found)) ∙ ap (λ l. key_of so_far.found ++ l) (sym (none_long rest none)) ∙ so_far.joined;
 }
 
 -- ---- as the calls have them

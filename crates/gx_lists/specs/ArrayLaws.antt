@@ -7,7 +7,7 @@ use Rattle.gx_values.specs.declared.values.Kind.TheVariants as kind
 use Rattle.gx_values.specs.declared.values.Value.{Value}
 use Rattle.gx_values.specs.declared.values.Value.TheVariants as value
 use Rattle.gx_values.specs.declared.records.Form.{Form}
-use Rattle.gx_values.specs.Values.{Fits}
+use Rattle.gx_values.specs.Values.{Fits, no_value}
 use Rattle.gx_values.specs.Keys.{key_of, width_of, IsKeyKind}
 use Rattle.gx_values.specs.Spans.{IsSpanKind}
 use Rattle.gx_mapping.specs.declared.parts.Part.{Part}
@@ -16,7 +16,7 @@ use Rattle.gx_mapping.specs.Laws.{MappingLaws}
 use Rattle.gx_gather.specs.Gather.{part_for}
 use Rattle.gx_gather.proofs.Lists.{in_each, from_each}
 use Rattle.gx_stack.specs.Tree.{Tree, tree_form, leaf_body}
-use Rattle.gx_links.specs.Kinds.{kinds_of, no_value}
+use Rattle.gx_links.specs.Kinds.{kinds_of}
 use Rattle.gx_links.specs.Links.{Link, members_of, owners_of, most_members, IsLink}
 use Rattle.gx_links.specs.Linksets.{LinksetLaws}
 use Rattle.gx_links.specs.Rows.{link_parts, RowLaws, IsHeldLink, owner_kind}

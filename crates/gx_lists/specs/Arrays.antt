@@ -8,14 +8,14 @@ use Rattle.gx_values.specs.declared.values.Kind.TheVariants as kind
 use Rattle.gx_values.specs.declared.values.Value.{Value}
 use Rattle.gx_values.specs.declared.values.Value.TheVariants as value
 use Rattle.gx_values.specs.declared.records.Rec.{Rec}
-use Rattle.gx_values.specs.Values.{value_cmp, Fits}
+use Rattle.gx_values.specs.Values.{value_cmp, Fits, no_value}
 use Rattle.gx_values.specs.Keys.{bytes_of, key_of, width_of}
 use Rattle.gx_values.specs.Spans.{IsSpanKind}
 use Rattle.gx_mapping.specs.declared.parts.Part.{Part}
 use Rattle.gx_mapping.specs.Rule.{Rule, In}
 use Rattle.gx_gather.specs.Gather.{part_for}
 use Rattle.gx_stack.specs.Tree.{Tree, Kids, no_kids, kid, tree_form, leaf_body, AreValid}
-use Rattle.gx_links.specs.Kinds.{kinds_of, no_value}
+use Rattle.gx_links.specs.Kinds.{kinds_of}
 use Rattle.gx_links.specs.declared.pairs.Owned.{Owned}
 use Rattle.gx_links.specs.Links.{most_members}
 use Rattle.gx_links.specs.Linksets.{LinkRule}

@@ -4,11 +4,12 @@ use Rattle.std.specs.List.{flat_map}
 use Rattle.gx_values.specs.declared.values.Value.{Value}
 use Rattle.gx_values.specs.declared.records.Rec.{Rec}
 use Rattle.gx_values.specs.Spans.{IsSpanKind}
+use Rattle.gx_values.specs.Values.{no_value}
 use Rattle.gx_mapping.specs.declared.parts.Part.{Part}
 use Rattle.gx_mapping.specs.Rule.{Rule}
 use Rattle.gx_gather.specs.Gather.{part_for}
 use Rattle.gx_stack.specs.Tree.{Tree, tree_form, AreValid}
-use Rattle.gx_links.specs.Kinds.{kinds_of, no_value}
+use Rattle.gx_links.specs.Kinds.{kinds_of}
 use Rattle.gx_links.specs.Linksets.{LinkRule}
 use Rattle.gx_links.specs.Pairs.{pair_at}
 use Rattle.gx_links.specs.Rows.{two_forms, link_rule, two_nodes, owner_kind, member_kind}

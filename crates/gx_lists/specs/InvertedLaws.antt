@@ -1,18 +1,19 @@
 -- The rows of an inverted list keep the laws of rows.
 use Rattle.std.proofs.Common.{◌≡◌, ◌<◌, List, [], ◌∷◌, inl, inr, true, Some, refl, sym, ap, subst, ◌∙◌, get_or, arith}
 use Rattle.std.specs.FinMap as fin
+use Rattle.std.proofs.lemmas.Option.{same_Some}
 use Rattle.gx_values.specs.declared.values.Kind.{Kind}
 use Rattle.gx_values.specs.declared.values.Value.{Value}
 use Rattle.gx_values.specs.declared.records.Form.{Form}
 use Rattle.gx_values.specs.declared.records.Rec.{Rec}
-use Rattle.gx_values.specs.Values.{Fits}
+use Rattle.gx_values.specs.Values.{Fits, no_value}
 use Rattle.gx_mapping.specs.declared.parts.Part.{Part}
 use Rattle.gx_mapping.specs.Rule.{Rule, In, IsOf}
 use Rattle.gx_mapping.specs.Laws.{MappingLaws}
 use Rattle.gx_gather.specs.Gather.{part_for}
-use Rattle.gx_gather.proofs.Lists.{in_each, from_each, some_same}
+use Rattle.gx_gather.proofs.Lists.{in_each, from_each}
 use Rattle.gx_stack.specs.Tree.{Tree, tree_form}
-use Rattle.gx_links.specs.Kinds.{kinds_of, no_value}
+use Rattle.gx_links.specs.Kinds.{kinds_of}
 use Rattle.gx_links.specs.Links.{Link, members_of, owners_of}
 use Rattle.gx_links.specs.Linksets.{LinksetLaws}
 use Rattle.gx_links.specs.Rows.{link_parts, two_forms, RowLaws, IsHeldLink, two_nodes, owner_kind, member_kind}
@@ -69,7 +70,7 @@ same_rows link p q a b child key = go a.there b.there
         ap (λ (x : Part). x.rec.key) (sym e) ∙ key ∙ ap (λ (x : Part). x.rec.key) f in
         let members : a.member ≡ b.member = ap first_of keys in
         let owners : a.owner ≡ b.owner =
-        some_same a.owner b.owner (sym a.owned ∙ ap (fin.get link) members ∙ b.owned) in
+        same_Some a.owner b.owner (sym a.owned ∙ ap (fin.get link) members ∙ b.owned) in
         e ∙ (λ i. part_for 1 (owned_rec (owners i) (members i))) ∙ sym f
     go (inl e) (inr (inl f)) =
         absurd (zero_one p q (pair_rec a.owner a.member) (owned_rec b.owner b.member) e f child)

@@ -1,5 +1,6 @@
 -- Members joined by their key bytes: the bytes tell the members, and how many there are at most.
-use Rattle.std.proofs.Common.{◌≡◌, ◌<◌, ◌≤◌, ◌+◌, ◌*◌, ℕ, suc, List, [], ◌∷◌, inl, inr, length, refl, ap, arith, length-append}
+use Rattle.std.proofs.Common.{◌≡◌, ◌<◌, ◌≤◌, ◌*◌, List, [], ◌∷◌, inl, inr, length, refl, ap, arith, length-append}
+use Rattle.gx_laws.proofs.NumberLemmas.{times_suc}
 use Rattle.gx_values.specs.declared.values.Kind.{Kind}
 use Rattle.gx_values.specs.declared.values.Kind.TheVariants as kind
 use Rattle.gx_values.specs.declared.values.Value.{Value}
@@ -40,12 +41,9 @@ same_joined k (x ∷ xs) (y ∷ ys) key f g e =
     value_prefix_free k key x y (key_of xs) (key_of ys) (one_of k x xs f) (one_of k y ys g) e in
     λ i. both.0 i ∷ same_joined k xs ys key (rest_of k x xs f) (rest_of k y ys g) both.1 i
 
-one_more : (n w : ℕ) → suc n * w ≡ w + n * w
-one_more n w = omega arith
-
 pub joined_small : (k : Kind) (ms : List Value) → AreOfKind k ms
     → length (key_of ms) ≤ length ms * width_of k
 joined_small k [] fit = omega arith
 joined_small k (m ∷ ms) fit =
     omega
-    (arith, length-append (bytes_of m) (key_of ms), fit_bytes k m (one_of k m ms fit), joined_small k ms (rest_of k m ms fit), one_more (length ms) (width_of k))
+    (arith, length-append (bytes_of m) (key_of ms), fit_bytes k m (one_of k m ms fit), joined_small k ms (rest_of k m ms fit), times_suc (length ms) (width_of k))

@@ -9,12 +9,14 @@ use Rattle.std.specs.declared.cmp.Ordering.TheVariants.{Less, Equal, Greater}
 use Rattle.std.specs.Cmp.Lexicographic.{nat_list_cmp_total}
 use Rattle.std.specs.FinMap as fin
 use Rattle.std.specs.FinMap.Entries.{below_all}
+use Rattle.gx_laws.proofs.ResultLemmas.{none_of}
+use Rattle.gx_laws.proofs.BoolLemmas.{both_true, first_of_both, second_of_both}
 use Rattle.gx_ports.specs.Keyed.{key_cmp}
 use Rattle.gx_memory_leaves.specs.Cells.{Cell, Cells, body_entry, bodies, put_back, undone, without, kept_cells, emptied, HasCell, CanUndo, LeafPair, pair_of}
 use Rattle.gx_memory_leaves.specs.declared.undo.Undo.{Undo}
 use Rattle.gx_memory_leaves.specs.Pairs.{empty_pair}
 use Rattle.gx_ports.proofs.KeyLemmas.{only_equal, same_key, tied, shadowed, swapped, apart}
-use Rattle.gx_ports.proofs.KeyedLemmas.{entries_of_sorted, both_of, first_of_both, second_of_both}
+use Rattle.gx_ports.proofs.KeyedLemmas.{entries_of_sorted}
 
 -- a cell that may be missing has no body either
 abbrev pub flat : Option Cell → Cell
@@ -58,14 +60,14 @@ below_bodies : (x : List ℕ) (es : List (List ℕ × Cell)) → T (below_all ke
 below_bodies x [] h = tt
 below_bodies x (e ∷ es) h = elim (e.1) as (λ (o : Option (List ℕ)). T (below_all key_cmp x (cons_option (option_map (λ (y : List ℕ). (e.0, y)) o) (filter_map body_entry es)))) [
   | None ↦ below_bodies x es (second_of_both _ _ h)
-  | Some b ↦ both_of _ _ (first_of_both _ _ h) (below_bodies x es (second_of_both _ _ h))
+  | Some b ↦ both_true _ _ (first_of_both _ _ h) (below_bodies x es (second_of_both _ _ h))
 ]
 
 sorted_bodies : (es : List (List ℕ × Cell)) → T (fin.is_sorted key_cmp es) → T (fin.is_sorted key_cmp (filter_map body_entry es))
 sorted_bodies [] h = tt
 sorted_bodies (e ∷ es) h = elim (e.1) as (λ (o : Option (List ℕ)). T (fin.is_sorted key_cmp (cons_option (option_map (λ (y : List ℕ). (e.0, y)) o) (filter_map body_entry es)))) [
   | None ↦ sorted_bodies es (second_of_both _ _ h)
-  | Some b ↦ both_of _ _ (below_bodies e.0 es (first_of_both _ _ h)) (sorted_bodies es (second_of_both _ _ h))
+  | Some b ↦ both_true _ _ (below_bodies e.0 es (first_of_both _ _ h)) (sorted_bodies es (second_of_both _ _ h))
 ]
 
 -- the entries of the bodies, in order
@@ -104,10 +106,6 @@ remove_body m k = fin.same_map nat_list_cmp_total only_equal _ _ (λ q.
     ∙ get_inserted m k q None
     ∙ ap (cond (eq_by_cmp key_cmp q k) None) (sym (get_bodies m q))
     ∙ sym (fin.get-remove nat_list_cmp_total (bodies m) k q))
-
-none_of : {A : Type 0} (o : Option A) → is_some o ≡ false → o ≡ None
-none_of None e = refl
-none_of (Some x) e = cc
 
 -- where a key has no body, there is none to take away
 pub remove_absent : (m : Cells) (k : List ℕ) → is_some (flat (fin.get m k)) ≡ false → fin.remove (bodies m) k ≡ bodies m

@@ -11,9 +11,10 @@ use Rattle.std.specs.FinMap.Entries.{by_order, find-put, below_all}
 use Rattle.std.specs.Map.{keys_of, lookup, set_value, remove_entry}
 use Rattle.std.specs.BTreeMap.{insert_entry, is_at}
 use Rattle.std.proofs.lemmas.Map.Keys.{sorted_head, sorted_tail}
+use Rattle.gx_laws.proofs.BoolLemmas.{both_true}
 use Rattle.gx_ports.specs.Keyed.{key_cmp}
 use Rattle.gx_ports.proofs.KeyLemmas.{only_equal, same_key, apart, shadowed, swapped, same_either}
-use Rattle.gx_ports.proofs.KeyedLemmas.{entries_of_sorted, both_of}
+use Rattle.gx_ports.proofs.KeyedLemmas.{entries_of_sorted}
 use Rattle.gx_memory_leaves.specs.Cells.{Cell, Cells, cells_of}
 
 abbrev pub is_key : List ℕ → List ℕ → Bool
@@ -97,11 +98,11 @@ remove_cells es k sorted = alike _ _ (λ q.
 
 below_cells : (x : List ℕ) (es : List (List ℕ × Cell)) → AllByRecursion (λ y. key_cmp x y ≡ Less) (keys_of es) → T (below_all key_cmp x es)
 below_cells x [] below = tt
-below_cells x (e ∷ es) below = both_of _ _ (subst (λ r. T (is_lt r)) (sym below.0) tt) (below_cells x es below.1)
+below_cells x (e ∷ es) below = both_true _ _ (subst (λ r. T (is_lt r)) (sym below.0) tt) (below_cells x es below.1)
 
 sorted_cells : (es : List (List ℕ × Cell)) → IsStrictlySortedBy key_cmp (keys_of es) → T (fin.is_sorted key_cmp es)
 sorted_cells [] sorted = tt
-sorted_cells (e ∷ es) sorted = both_of _ _ (below_cells e.0 es (sorted_head key_cmp e.0 (keys_of es) sorted)) (sorted_cells es (sorted_tail key_cmp e.0 (keys_of es) sorted))
+sorted_cells (e ∷ es) sorted = both_true _ _ (below_cells e.0 es (sorted_head key_cmp e.0 (keys_of es) sorted)) (sorted_cells es (sorted_tail key_cmp e.0 (keys_of es) sorted))
 
 -- the entries, in order
 pub entries_cells : (es : List (List ℕ × Cell)) → IsStrictlySortedBy key_cmp (keys_of es) → fin.entries (cells_of es) ≡ es

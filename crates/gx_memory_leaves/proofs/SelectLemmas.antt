@@ -67,11 +67,6 @@ back_le Less e = cc
 back_le Equal e = refl
 back_le Greater e = refl
 
-pub is_less : (o : Ordering) → is_lt o ≡ true → o ≡ Less
-is_less Less e = refl
-is_less Equal e = cc
-is_less Greater e = cc
-
 -- a key past the greatest one
 past_one : (last q key : List ℕ) → is_lt (key_cmp last q) ≡ false → key_cmp last key ≡ Less → is_le (key_cmp key q) ≡ false
 past_one last q key least less = go (is_le (key_cmp key q)) refl

@@ -4,10 +4,10 @@ use Rattle.std.specs.Prelude.{if◌then◌else◌, is_some, is_none, Result, OnO
 use Rattle.std.specs.Option.{option_map_or}
 use Rattle.std.specs.FinMap.{get}
 use Rattle.std.proofs.lemmas.List.{set-get_or}
+use Rattle.gx_laws.proofs.ListLemmas.{no_flag}
 use Rattle.gx_device.specs.Content.{Moment, Content, Devices, Ticks, OnlyTime, Writes, IsAttached, IsOpened, IsMade, block_of, is_pending, with_named, zero_blocks}
 use Rattle.gx_memory_machine.specs.Log.{with_device, blocks_in}
 use Rattle.gx_memory_machine.specs.Trace.{blocks_given, is_there}
-use Rattle.gx_memory_machine.proofs.LogLemmas.{no_flag}
 
 -- a call takes its moment, or has none
 pub ticks : (none : Bool) (old new : Content) → new.now ≡ old.now → new.script ≡ old.script → new.aside ≡ old.aside

@@ -1,7 +1,6 @@
 -- One call more in a log.
-use Rattle.std.proofs.Common.{◌≡◌, inl, inr, ℕ, zero, suc, ◌+◌, ◌<◌, ◌≤◌, ◌^◌, Option, None, Some, Bool, false, List, [], ◌∷◌, ◌++◌, length, get_or, drop, set, replicate, refl, sym, ◌∙◌, ap, arith, length-append, length-drop}
-use Rattle.std.proofs.lemmas.List.{take-append-le, drop-append-le, take_all, length-replicate, get_or-replicate, get_or_past}
-use Rattle.std.proofs.lemmas.Bool.{cases_lt}
+use Rattle.std.proofs.Common.{◌≡◌, ℕ, zero, suc, ◌+◌, ◌<◌, ◌≤◌, ◌^◌, Option, None, Some, Bool, false, List, [], ◌∷◌, ◌++◌, length, drop, set, replicate, refl, sym, ◌∙◌, ap, arith, length-append, length-drop}
+use Rattle.std.proofs.lemmas.List.{take-append-le, drop-append-le, take_all, length-replicate}
 use Rattle.gx_memory_machine.specs.declared.trace.Step.{Step}
 use Rattle.gx_memory_machine.specs.declared.trace.Step.TheVariants.{Still, Write, Sync, Say, Open, Make}
 use Rattle.gx_device.specs.Content.{Moment, Devices, zero_blocks}
@@ -75,12 +74,6 @@ set_fill (suc n) (x ∷ d) below =
 -- a moment's parts, each as the machine keeps it
 pub cleared_room : (flags : List Bool) → length (replicate (length flags) false) ≡ length flags
 cleared_room flags = length-replicate (length flags) false
-
-pub no_flag : (n k : ℕ) → get_or (replicate n false) k false ≡ false
-no_flag n k = elim (cases_lt k n) [
-  | inl below ↦ get_or-replicate n k false false below
-  | inr past ↦ get_or_past (replicate n false) k false (omega (arith, length-replicate n false, past))
-]
 
 -- a call has been noted, after which another moment stands
 module _ (m now : Moment) (steps new_steps : List Step) (written new_written : List ℕ) (whole : IsTrace m steps written now) (s : Step)

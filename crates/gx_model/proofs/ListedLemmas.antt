@@ -1,6 +1,6 @@
 -- The listing of records in an order: a sort gives it, and there is one alone.
 use Rattle.std.proofs.Common.{◌≡◌, ℕ, zero, suc, ◌<◌, ◌≢◌, List, [], ◌∷◌, length, get_or, cond, Bool, true, false, refl, sym, ap, subst, ◌∙◌, arith}
-use Rattle.std.specs.Prelude.{T, ◌&&◌, filter, ◌⊎◌}
+use Rattle.std.specs.Prelude.{T, filter, ◌⊎◌}
 use Rattle.std.proofs.Common.{inl, inr, set}
 use Rattle.std.specs.List.{AllByRecursion, Contains, swap}
 use Rattle.std.specs.FinMap as fin
@@ -8,9 +8,12 @@ use Rattle.std.specs.FinMap.Entries.{below_all}
 use Rattle.std.proofs.lemmas.Bool.{cases_eq}
 use Rattle.std.proofs.lemmas.List.{get_or-set_same, get_or-set_other, length-set}
 use Rattle.std.proofs.lemmas.List.Edits.{swap_is, length-swap}
+use Rattle.gx_laws.proofs.ListLemmas.{all_filter, all_places}
+use Rattle.gx_laws.proofs.BoolLemmas.{first_of_both, second_of_both}
+use Rattle.gx_laws.proofs.OrderingLemmas.{is_less, second_equal}
 use Rattle.gx_values.specs.declared.values.Value.{Value}
 use Rattle.std.specs.List.Sorted.{IsSortedBy, IsPermutation}
-use Rattle.std.specs.Ordering.{is_lt, ordering_reverse, ordering_then}
+use Rattle.std.specs.Ordering.{is_lt, ordering_reverse}
 use Rattle.std.specs.declared.cmp.Ordering.{Ordering}
 use Rattle.std.specs.declared.cmp.Ordering.TheVariants.{Less, Equal, Greater}
 use Rattle.std.specs.Cmp.{IsTotalOrder, on_total, back_total, then_total, tied_itself}
@@ -28,10 +31,6 @@ turned_total false R o = o
 pub row_cmp_total : (o : OrderBy) → IsTotalOrder (row_cmp o)
 row_cmp_total o = then_total (turned_total o.desc _ (on_total (λ (r : Row). value_at r o.field) value_cmp_total)) (on_total (λ (r : Row). r.0) value_cmp_total)
 
-all_of : {A : Type 0} (P : A → Type 0) (d : A) (xs : List A) → ((i : ℕ) → i < length xs → P (get_or xs i d)) → AllByRecursion P xs
-all_of P d [] h = tt
-all_of P d (x ∷ xs) h = (h 0 (omega arith), all_of P d xs (λ i lt. h (suc i) (omega arith)))
-
 before : (r s : Ordering) → s ≡ ordering_reverse r → is_lt s ≡ false → r ≢ Equal → r ≡ Less
 before Less s e n t = refl
 before Equal s e n t = absurd (t refl)
@@ -45,7 +44,7 @@ NoTies {A} R xs = (i j : ℕ) (d : A) → i < j → j < length xs → R (get_or 
 pub sorted_ascends : {A : Type 0} (R : A → A → Ordering) → IsTotalOrder R → (xs : List A) → ((i j : ℕ) (d : A) → i < j → j < length xs → is_lt (R (get_or xs j d) (get_or xs i d)) ≡ false) → NoTies R xs → Ascends R xs
 sorted_ascends R o [] up apart = tt
 sorted_ascends {A} R o (x ∷ xs) up apart = (
-  all_of (λ (y : A). R x y ≡ Less) x xs (λ i lt. before (R x (get_or xs i x)) (R (get_or xs i x) x) (o.antisymm (get_or xs i x) x) (up 0 (suc i) x (omega arith) (omega arith)) (apart 0 (suc i) x (omega arith) (omega arith))),
+  all_places (λ (y : A). R x y ≡ Less) x xs (λ i lt. before (R x (get_or xs i x)) (R (get_or xs i x) x) (o.antisymm (get_or xs i x) x) (up 0 (suc i) x (omega arith) (omega arith)) (apart 0 (suc i) x (omega arith) (omega arith))),
   sorted_ascends R o xs (λ i j d lt h. up (suc i) (suc j) d (omega arith) (omega arith)) (λ i j d lt h. apart (suc i) (suc j) d (omega arith) (omega arith)),
 )
 
@@ -60,34 +59,14 @@ by_key a b = value_cmp a.0 b.0
 abbrev pub HasOnce : List Row → Type 0
 HasOnce xs = (i j : ℕ) (d : Row) → i < length xs → j < length xs → by_key (get_or xs i d) (get_or xs j d) ≡ Equal → i ≡ j
 
-first_of : (a b : Bool) → T (a && b) → T a
-first_of true b p = tt
-first_of false b p = absurd p
-
-second_of : (a b : Bool) → T (a && b) → T b
-second_of true b p = p
-second_of false b p = absurd p
-
-less_of : (r : Ordering) → T (is_lt r) → r ≡ Less
-less_of Less e = refl
-less_of Equal e = absurd e
-less_of Greater e = absurd e
-
 all_below : (x : Value) (xs : List Row) → T (below_all value_cmp x xs) → AllByRecursion (λ (y : Row). value_cmp x y.0 ≡ Less) xs
 all_below x [] h = tt
-all_below x (y ∷ xs) h = (less_of _ (first_of _ _ h), all_below x xs (second_of _ _ h))
+all_below x (y ∷ xs) h = (is_less _ (first_of_both _ _ h), all_below x xs (second_of_both _ _ h))
 
 -- the records of a map ascend by their keys
 ascends_of : (xs : List Row) → T (fin.is_sorted value_cmp xs) → Ascends by_key xs
 ascends_of [] h = tt
-ascends_of (x ∷ xs) h = (all_below x.0 xs (first_of _ _ h), ascends_of xs (second_of _ _ h))
-
-all_filter : (P : Row → Type 0) (p : Row → Bool) (xs : List Row) → AllByRecursion P xs → AllByRecursion P (filter p xs)
-all_filter P p [] h = tt
-all_filter P p (x ∷ xs) h = elim (p x) as (λ b. AllByRecursion P (cond b (x ∷ filter p xs) (filter p xs))) [
-  | true ↦ (h.0, all_filter P p xs h.1)
-  | false ↦ all_filter P p xs h.1
-]
+ascends_of (x ∷ xs) h = (all_below x.0 xs (first_of_both _ _ h), ascends_of xs (second_of_both _ _ h))
 
 ascends_filter : (p : Row → Bool) (xs : List Row) → Ascends by_key xs → Ascends by_key (filter p xs)
 ascends_filter p [] h = tt
@@ -150,14 +129,9 @@ once_swap l a b la lb once i j d lt lu e =
 once_permuted : (xs ys : List Row) → IsPermutation xs ys → HasOnce xs → HasOnce ys
 once_permuted xs ys p once = IsPermutation-keeps xs HasOnce once (λ l a b la lb h. once_swap l a b la lb h) ys p
 
-then_equal : (r s : Ordering) → ordering_then r s ≡ Equal → s ≡ Equal
-then_equal Less s e = cc
-then_equal Equal s e = e
-then_equal Greater s e = cc
-
 no_ties : (o : OrderBy) (xs : List Row) → HasOnce xs → NoTies (row_cmp o) xs
 no_ties o xs once i j d lt h e =
-    let same : i ≡ j = once i j d (omega arith) h (then_equal (turned o.desc (value_cmp (value_at (get_or xs i d) o.field) (value_at (get_or xs j d) o.field))) _ e) in
+    let same : i ≡ j = once i j d (omega arith) h (second_equal (turned o.desc (value_cmp (value_at (get_or xs i d) o.field) (value_at (get_or xs j d) o.field))) _ e) in
     absurd (omega arith)
 
 -- the records of a file that pass a test, sorted by an order, are listed in it

@@ -1,6 +1,7 @@
 -- Steps one after another go on, and lines have one play.
 use Rattle.std.proofs.Common.{◌≡◌, ℕ, ◌+◌, Bool, List, [], ◌∷◌, ◌++◌, length, Option, Some, None, Result, Ok, Err, refl, sym, ap, subst, ◌∙◌, arith, inl, inr}
 use Rattle.std.proofs.lemmas.List.{append_assoc}
+use Rattle.std.specs.Prelude.{is_some}
 use Rattle.gx_schema.specs.declared.schema.Schema.{Schema}
 use Rattle.gx_commands.specs.declared.command.Command.{Command}
 use Rattle.gx_commands.specs.declared.command.LineWhy.{LineWhy}
@@ -8,9 +9,10 @@ use Rattle.gx_commands.specs.Commands.{place_reason}
 use Rattle.gx_script.specs.Grammar.{IsLineOf}
 use Rattle.gx_commands.specs.Lines.{Lines, script_lines}
 use Rattle.gx_script.proofs.ReadingLaws.{one_reading, reading_of_line}
-use Rattle.gx_model.specs.Play.{Playing, End, stopped, end_text, is_inside, next_of, IsAnswered}
+use Rattle.gx_model.specs.Play.{Playing, End, stopped, end_text, is_inside, next_of, IsAnswered, working_after}
 use Rattle.gx_model.specs.Runs.{Step, Runs, IsBadLine, IsEnd, AreFirstLines, IsPlayFrom, IsPlayTextFrom}
 use Rattle.gx_model.proofs.AnswerLemmas.{answered_once}
+use Rattle.gx_model.specs.States.{State}
 
 -- ---- runs one behind the other
 
@@ -29,25 +31,25 @@ run_on schema p q r (line ∷ first) later text more (answer, rest, next, step, 
 
 -- ---- a line is good or bad, in one way
 
-abbrev command_or : Command → Result Command LineWhy → Command
+abbrev pub command_or : Command → Result Command LineWhy → Command
 command_or d (Ok c) = c
 command_or d (Err why) = d
 
-abbrev why_or : LineWhy → Result Command LineWhy → LineWhy
+abbrev pub why_or : LineWhy → Result Command LineWhy → LineWhy
 why_or d (Ok c) = d
 why_or d (Err why) = why
 
-abbrev some_or : LineWhy → Option LineWhy → LineWhy
+abbrev pub some_or : LineWhy → Option LineWhy → LineWhy
 some_or d None = d
 some_or d (Some why) = why
 
-good_not_bad : (c : Command) (why : LineWhy) → ◌≡◌ {A = Result Command LineWhy} (Ok c) (Err why) → ⊥
+pub good_not_bad : (c : Command) (why : LineWhy) → ◌≡◌ {A = Result Command LineWhy} (Ok c) (Err why) → ⊥
 good_not_bad c why e = cc
 
-none_not_some : (why : LineWhy) → ◌≡◌ {A = Option LineWhy} None (Some why) → ⊥
+pub none_not_some : (why : LineWhy) → ◌≡◌ {A = Option LineWhy} None (Some why) → ⊥
 none_not_some why e = cc
 
-command_once : (schema : Schema) (line : List ℕ) (c d : Command) → IsLineOf schema line c → IsLineOf schema line d → c ≡ d
+pub command_once : (schema : Schema) (line : List ℕ) (c d : Command) → IsLineOf schema line c → IsLineOf schema line d → c ≡ d
 command_once schema line c d x y = ap (command_or c) (one_reading schema line (Ok c) (Ok d) (reading_of_line schema line c x) (reading_of_line schema line d y))
 
 step_not_bad : (schema : Schema) (p : Playing) (line answer : List ℕ) (next : Playing) (why : LineWhy) → Step schema p line answer next → IsBadLine schema (is_inside p) line why → ⊥
@@ -55,7 +57,7 @@ step_not_bad schema p line answer next why step (inl read) = good_not_bad step.c
 step_not_bad schema p line answer next why step (inr bad) =
     none_not_some why (sym step.allowed ∙ ap (place_reason (is_inside p)) (command_once schema line step.command bad.0 step.means bad.1) ∙ bad.2)
 
-bad_once : (schema : Schema) (inside : Bool) (line : List ℕ) (why other : LineWhy) → IsBadLine schema inside line why → IsBadLine schema inside line other → why ≡ other
+pub bad_once : (schema : Schema) (inside : Bool) (line : List ℕ) (why other : LineWhy) → IsBadLine schema inside line why → IsBadLine schema inside line other → why ≡ other
 bad_once schema inside line why other (inl x) (inl y) = ap (why_or why) (one_reading schema line (Err why) (Err other) x y)
 bad_once schema inside line why other (inl x) (inr y) = absurd (good_not_bad y.0 why (one_reading schema line (Ok y.0) (Err why) (reading_of_line schema line y.0 y.1) x))
 bad_once schema inside line why other (inr x) (inl y) = absurd (good_not_bad x.0 other (one_reading schema line (Ok x.0) (Err other) (reading_of_line schema line x.0 x.1) y))
@@ -81,15 +83,15 @@ record IsRun (schema : Schema) (last : ℕ) (p : Playing) (all : Lines) (ran : L
   runs : Runs schema p ran text final
   ends : IsEnd schema final (last + length ran) next end
 
-abbrev head_or : List ℕ → List (List ℕ) → List ℕ
+abbrev pub head_or : List ℕ → List (List ℕ) → List ℕ
 head_or d [] = d
 head_or d (line ∷ lines) = line
 
-abbrev tail_of : List (List ℕ) → List (List ℕ)
+abbrev pub tail_of : List (List ℕ) → List (List ℕ)
 tail_of [] = []
 tail_of (line ∷ lines) = lines
 
-no_line : (line : List ℕ) (lines : List (List ℕ)) → ◌≡◌ {A = List (List ℕ)} (line ∷ lines) [] → ⊥
+pub no_line : (line : List ℕ) (lines : List (List ℕ)) → ◌≡◌ {A = List (List ℕ)} (line ∷ lines) [] → ⊥
 no_line line lines e = cc
 
 -- where no line ran, the end is that of the next one
@@ -108,12 +110,12 @@ none_once schema last p all (Err why) (Ok (Some line)) end close f g x y = absur
 none_once schema last p all (Err why) (Err other) end close f g x y = x ∙ ap (stopped (last + 1)) (ap (some_or why) (sym f.1 ∙ g.1)) ∙ sym y
 
 -- the lines behind the first of those that ran
-record AreLater (line : List ℕ) (all : Lines) (ran : List (List ℕ)) (next : Result (Option (List ℕ)) LineWhy) : Type 0 where
-  rest : List (List ℕ)
-  parts : all.lines ≡ line ∷ rest
-  first : AreFirstLines (record { lines = rest; stop = all.stop }) ran next
+pub record AreLater (line : List ℕ) (all : Lines) (ran : List (List ℕ)) (next : Result (Option (List ℕ)) LineWhy) : Type 0 where
+  pub rest : List (List ℕ)
+  pub parts : all.lines ≡ line ∷ rest
+  pub first : AreFirstLines (record { lines = rest; stop = all.stop }) ran next
 
-later_of : (line : List ℕ) (all : Lines) (ran : List (List ℕ)) (next : Result (Option (List ℕ)) LineWhy) → AreFirstLines all (line ∷ ran) next → AreLater line all ran next
+pub later_of : (line : List ℕ) (all : Lines) (ran : List (List ℕ)) (next : Result (Option (List ℕ)) LineWhy) → AreFirstLines all (line ∷ ran) next → AreLater line all ran next
 later_of line all ran (Ok (Some other)) h = record { rest = ran ++ other ∷ h.0; parts = h.1; first = (h.0, refl) }
 later_of line all ran (Ok None) h = record { rest = ran; parts = h.0; first = (refl, h.1) }
 later_of line all ran (Err why) h = record { rest = ran; parts = h.0; first = (refl, h.1) }
@@ -178,3 +180,7 @@ pub one_text : (schema : Schema) (start : Playing) (script a b : List ℕ)
 one_text schema start script a b p q =
     let same = play_once schema start (script_lines script) p.answers q.answers p.final q.final p.end q.end p.played q.played in
     p.is ∙ (λ i. same.0 i ++ end_text (same.2 i)) ∙ sym q.is
+
+pub some_after : (working : Option State) (s : State) → is_some (working_after working s) ≡ is_some working
+some_after None s = refl
+some_after (Some old) s = refl

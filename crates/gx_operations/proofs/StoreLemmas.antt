@@ -1,5 +1,6 @@
 -- The limit of the leaves of a store, and what the blocks hold after it is closed.
 use Rattle.std.proofs.Common.{◌≡◌, ◌+◌, List, ℕ, length, Some, sym, ap, subst, ◌∙◌}
+use Rattle.std.proofs.lemmas.Option.{same_Some}
 use Rattle.gx_device.specs.Content.{Content, device_at}
 use Rattle.gx_ports.specs.declared.kinds.LeafSpec.{LeafSpec}
 use Rattle.gx_ports.specs.declared.pages.Place.{Place}
@@ -12,7 +13,6 @@ use Rattle.gx_leaves.specs.Places.{specs_of}
 use Rattle.gx_leaves.specs.Wholeness.{limits_of}
 use Rattle.gx_store.specs.Device.{IsHeadOf, IsSettled, ground_on}
 use Rattle.gx_store.specs.Store.{OfBlocks}
-use Rattle.gx_store.proofs.AttachLemmas.{some_same}
 use Rattle.gx_types.specs.declared.built.Built.{Built}
 use Rattle.gx_model.specs.States.{State}
 use Rattle.gx_states.specs.Internal.{AreInternal}
@@ -52,5 +52,5 @@ pub limit_on : (device : List ℕ) (before : Content) (blocks : List (List ℕ))
     (places : List Place) (specs : List LeafSpec) → device_at before.now device ≡ Some blocks
     → OfBlocks device before (λ b. base ≡ ground_on b) → specs_of places ≡ specs → limits_of base places ≡ limits_on specs (length blocks)
 limit_on device before blocks base places specs there is specs_are =
-    let same : base ≡ ground_on blocks = is.2 ∙ ap ground_on (some_same is.0 blocks (sym is.1 ∙ there)) in
+    let same : base ≡ ground_on blocks = is.2 ∙ ap ground_on (same_Some is.0 blocks (sym is.1 ∙ there)) in
     λ i. record { pages = (same i).size; fixed = (same i).tables + root_pages (specs_are i); blocks = (same i).blocks }

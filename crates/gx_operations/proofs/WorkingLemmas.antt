@@ -1,6 +1,7 @@
 -- A device that is made, and the workload that is played on it.
 use Rattle.std.proofs.Common.{◌≡◌, ◌+◌, ℕ, true, not, List, length, replicate, Option, Some, None, Result, Ok, Err, refl, sym, ap, subst, ◌∙◌, inl, inr}
 use Rattle.std.specs.FinMap.{empty}
+use Rattle.std.proofs.lemmas.Option.{same_Some}
 use Rattle.gx_device.specs.Content.{Content, Shelf, Silent, device_at}
 use Rattle.gx_ports.specs.declared.kinds.LeafSpec.{LeafSpec}
 use Rattle.gx_ports.specs.LeafMaps.{LeafMap, Limits}
@@ -27,7 +28,6 @@ use Rattle.gx_ports.specs.Sheets.{Ground}
 use Rattle.gx_leaves.specs.Places.{specs_of}
 use Rattle.gx_leaves.specs.Wholeness.{limits_of}
 use Rattle.gx_store.specs.Device.{ground_on}
-use Rattle.gx_store.proofs.AttachLemmas.{some_same}
 use Rattle.gx_operations.specs.Settled.{IsSettledIn, limits_on}
 use Rattle.gx_operations.proofs.NameLemmas.{other_at}
 use Rattle.gx_operations.specs.Working.{IsSettledOf, HoldsFirst, IsPlayedOn, IsNewDevice, IsWorking}
@@ -54,7 +54,7 @@ module _ (x : Stored) (device : List ℕ) (count records : ℕ) (old mid new : C
     (made : OfBlocks device mid (IsMadeOn count x.schema_text x.equation_text x.built.specs))
     (named : mid.now.shelf.name ≡ Some device) (silent : Silent mid new) where
   here : made.0 ≡ mid.now.blocks
-  here = some_same made.0 mid.now.blocks (sym made.1 ∙ named_at mid.now device named)
+  here = same_Some made.0 mid.now.blocks (sym made.1 ∙ named_at mid.now device named)
 
   many : length mid.now.blocks ≡ count
   many = ap (λ (bs : List (List ℕ)). length bs) (sym here) ∙ made.2.count
@@ -79,7 +79,7 @@ module _ (x : Stored) (device : List ℕ) (count records : ℕ) (old mid new : C
   by_result (Ok line) same is = new_device (λ after. IsPlayedOn x count records after (Ok line)) same is
   by_result (Err ending.Full) same is = new_device (λ after. IsPlayedOn x count records after (Err ending.Full)) same is
   by_result (Err ending.NoMemory) same is = λ none blocks there.
-      subst (HoldsFirst x records) (some_same new.now.blocks blocks
+      subst (HoldsFirst x records) (same_Some new.now.blocks blocks
       (sym (named_at new.now device (ap (λ (h : Shelf). h.name) silent.shelf ∙ named)) ∙ there)) is
   by_result (Err ending.Fault) same is = tt
   by_result (Err (ending.Device why)) same is = absurd is

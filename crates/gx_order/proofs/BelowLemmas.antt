@@ -1,18 +1,14 @@
 -- Whether bytes stand before others.
-use Rattle.std.proofs.Common.{◌≡◌, ℕ, Bool, true, false, List, refl, sym, ap, ◌∙◌}
+use Rattle.std.proofs.Common.{◌≡◌, ℕ, Bool, true, false, List, sym, ap, ◌∙◌}
 use Rattle.std.specs.Cmp.Lexicographic.{slice_cmp}
 use Rattle.std.specs.Ordering.{nat_cmp, is_le, is_lt, ordering_reverse}
 use Rattle.std.specs.declared.cmp.Ordering.{Ordering}
 use Rattle.std.specs.declared.cmp.Ordering.TheVariants.{Less, Equal, Greater}
 use Rattle.std.proofs.lemmas.Cmp.{nat_list_cmp_total}
+use Rattle.gx_laws.proofs.OrderingLemmas.{less_from_lt}
 
 abbrev pub cmp : List ℕ → List ℕ → Ordering
 cmp = slice_cmp nat_cmp
-
-pub less_from_lt : (o : Ordering) → is_lt o ≡ true → o ≡ Less
-less_from_lt Less h = refl
-less_from_lt Equal h = absurd cc
-less_from_lt Greater h = absurd cc
 
 -- some bytes stand before others, or the others are them or stand before them
 pub below_is_less : (a b : List ℕ) (answer : Bool) → answer ≡ is_lt (cmp a b) → answer ≡ true

@@ -1,6 +1,5 @@
 -- The order of bytes, by the numbers that their first eight are.
 use Rattle.std.proofs.lemmas.Nat.{be_bytes_8}
-use Rattle.std.proofs.lemmas.Bool.Decides.{nat_tests}
 use Rattle.std.proofs.Common.{◌≡◌, ℕ, zero, suc, ◌+◌, ◌*◌, ◌/◌, ◌%◌, ◌^◌, ◌<◌, ◌≤◌, List, [], ◌∷◌, ◌++◌, length, take, drop, get_or, min, refl, sym, ap, ◌∙◌, arith, length-take, take-append-drop}
 use Rattle.std.specs.Prelude.{◌≢◌}
 use Rattle.std.specs.Ordering.{nat_cmp, ordering_then}
@@ -9,25 +8,10 @@ use Rattle.std.specs.declared.cmp.Ordering.TheVariants.{Less, Equal, Greater}
 use Rattle.std.specs.Cmp.{ranked}
 use Rattle.std.specs.Cmp.Lexicographic.{slice_cmp}
 use Rattle.std.specs.Int.{w64, to_be_bytes, from_be_bytes}
+use Rattle.gx_laws.proofs.NumberLemmas.{times_suc}
+use Rattle.gx_laws.proofs.OrderingLemmas.{last_one, cmp_less, cmp_equal, cmp_greater}
 
 -- ---- numbers
-
-pub last_one : (r : Ordering) → r ≡ ordering_then r Equal
-last_one Less = refl
-last_one Equal = refl
-last_one Greater = refl
-
-pub cmp_less : (x y : ℕ) → x < y → nat_cmp x y ≡ Less
-cmp_less x y h = grind (arith, nat_tests)
-
-pub cmp_equal : (x y : ℕ) → x ≡ y → nat_cmp x y ≡ Equal
-cmp_equal x y h = grind (arith, nat_tests)
-
-pub cmp_greater : (x y : ℕ) → y < x → nat_cmp x y ≡ Greater
-cmp_greater x y h = grind (arith, nat_tests)
-
-times_suc : (p m : ℕ) → suc p * m ≡ m + p * m
-times_suc p m = omega arith
 
 scaled : (m q p r s : ℕ) → q < p → r < m → q * m + r < p * m + s
 scaled m zero zero r s lt below = absurd (omega arith)
@@ -98,7 +82,7 @@ front_order (c ∷ a) (d ∷ b) x y e = elim (nat_cmp c d) as (λ o. ordering_th
   | Greater ↦ refl
 ]
 
-first_bytes : (n : ℕ) (l : List ℕ) → ((i : ℕ) → get_or l i 0 < 256) → (i : ℕ)
+pub first_bytes : (n : ℕ) (l : List ℕ) → ((i : ℕ) → get_or l i 0 < 256) → (i : ℕ)
     → get_or (take n l) i 0 < 256
 first_bytes zero l small i = omega arith
 first_bytes (suc n) [] small i = omega arith

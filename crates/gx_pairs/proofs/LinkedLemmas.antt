@@ -1,5 +1,5 @@
 -- What leaves hold of a stored link.
-use Rattle.std.proofs.Common.{◌≡◌, ◌<◌, ◌∙◌, ℕ, suc, Bool, true, false, List, [], ◌∷◌, length, Option, Some, None, refl, sym, ap, subst, arith}
+use Rattle.std.proofs.Common.{◌≡◌, ◌<◌, ◌∙◌, ℕ, suc, Bool, true, false, List, [], ◌∷◌, length, Option, Some, None, sym, ap, subst, arith}
 use Rattle.std.specs.Prelude.{not, ◌&&◌, nat_le, is_some, if◌then◌else◌}
 use Rattle.std.specs.Option.{option_map}
 use Rattle.std.specs.FinMap as fin
@@ -7,6 +7,7 @@ use Rattle.std.proofs.Math.Nat.{lt_of_not-le}
 use Rattle.std.proofs.lemmas.Bool.{true≢false}
 use Rattle.std.proofs.lemmas.Bool.Decides.{nat_tests}
 use Rattle.std.proofs.lemmas.List.{length-map}
+use Rattle.gx_laws.proofs.ResultLemmas.{none_of}
 use Rattle.gx_values.specs.declared.values.Value.{Value}
 use Rattle.gx_ports.specs.LeafMaps.{LeafMap}
 use Rattle.gx_gather.proofs.Lists.{none_some}
@@ -49,10 +50,6 @@ pub looked_up : {A B : Type 0} (f : A → B) (o : Option A) (found : Option B)
     → found ≡ option_map f o → found ≡ None → is_some o ≡ true → ⊥
 looked_up f None found is none there = true≢false (sym there)
 looked_up f (Some x) found is none there = none_some (f x) (sym none ∙ is)
-
-pub no_value : {A : Type 0} (o : Option A) → is_some o ≡ false → o ≡ None
-no_value None e = refl
-no_value (Some x) e = absurd (true≢false e)
 
 -- the members and the pairs of an owner are as many
 pub as_many : (link : Link) (owner : Value)
@@ -123,7 +120,7 @@ module _ (owners members : File) (link : Link) (owner member : Value) where
         ∷ (nat_le most_members (length (pairs_of link owner)), too_many_members) ∷ [])
 
     is_free : fin.get link member ≡ None
-    is_free = no_value (fin.get link member) (sym has_is ∙ no)
+    is_free = none_of (fin.get link member) (sym has_is ∙ no)
 
     may_connect : HasRoom link owner → connect_refusal owners members link owner member ≡ None
     may_connect room = for_room_alone

@@ -1,7 +1,7 @@
 -- The records of an owner's members, and the steps that finding them takes.
 use Rattle.std.proofs.Common.{[], ◌≡◌, ℕ, zero, suc, ◌+◌, ◌*◌, ◌<◌, ◌≤◌, List, ◌∷◌, ◌++◌, length, map, drop, get_or, cond, Bool, true, false, Option, Some, None, inl, inr, refl, sym, ap, subst, ◌∙◌, arith, append_assoc, append-nil}
 use Rattle.std.specs.Prelude.{T, filter, flat_map, ◌||◌, ◌==◌, not, is_some, IsTrue}
-use Rattle.std.specs.List.{AllByRecursion, list_any}
+use Rattle.std.specs.List.{list_any}
 use Rattle.std.specs.Option.{option_map}
 use Rattle.std.specs.declared.cmp.Ordering.TheVariants.{Less}
 use Rattle.std.specs.FinMap as fin
@@ -13,23 +13,23 @@ use Rattle.std.proofs.lemmas.List.{length-map, drop_all}
 use Rattle.std.proofs.lemmas.List.Elements.{filter-append}
 use Rattle.std.proofs.lemmas.List.Sorted.{IsPermutation-refl}
 use Rattle.std.proofs.lemmas.Map.Views.{Contains-from_any}
+use Rattle.gx_laws.proofs.BoolLemmas.{first_of_both, second_of_both}
 use Rattle.gx_values.specs.declared.values.Value.{Value}
 use Rattle.gx_values.specs.Values.{value_cmp}
-use Rattle.gx_values.proofs.OrderLemmas.{value_cmp_total, value_cmp_same}
+use Rattle.gx_values.proofs.OrderLemmas.{value_cmp_total, value_cmp_same, same_value, value_itself}
 use Rattle.gx_commands.specs.declared.command.Cond.{Cond}
 use Rattle.gx_mapping.specs.Rule.{In}
 use Rattle.gx_gather.proofs.Lists.{in_map, from_map, in_filter, filter_in, all_of, each_next, contains_in}
 use Rattle.gx_gather.proofs.Orders.{Ascends}
+use Rattle.gx_gather.proofs.Entries.{below_in, find_in, in_find}
 use Rattle.gx_model.specs.States.{File, Row}
 use Rattle.gx_model.specs.Found.{meets_conds, is_owner}
 use Rattle.gx_scan.specs.Files.{rec_of}
 use Rattle.gx_scan.specs.Records.{list_of_one}
 use Rattle.gx_scan.specs.Within.{row_of}
-use Rattle.gx_scan.proofs.FileLemmas.{below_in, find_in, in_find}
 use Rattle.gx_scan.proofs.ListingLemmas.{same_filter, filter_twice}
 use Rattle.gx_links.specs.Links.{Link, is_same, members_of}
-use Rattle.gx_links.proofs.MemberLemmas.{members_are, from_members, in_members, same_value, value_itself}
-use Rattle.gx_ports.proofs.KeyedLemmas.{first_of_both, second_of_both}
+use Rattle.gx_links.proofs.MemberLemmas.{members_are, from_members, in_members}
 use Rattle.gx_pairs.specs.Members.{is_member_of, is_chosen_of, AreMembersOf, member_rows, has_member, rows_at, AreThere}
 
 -- ---- rows in the order of their keys
@@ -149,12 +149,6 @@ pub last_row : (f : File) (p : Row → Bool) (keys : List Value) (i : ℕ) (befo
 last_row f p keys i before rows past so_far =
     sym (append-nil rows) ∙ ap (λ (ks : List Value). rows ++ filter p (flat_map (rows_at f) ks))
     (sym (drop_all i keys past)) ∙ so_far
-
--- one more row that fits
-pub all_more : {A : Type 0} (P : A → Type 0) (xs : List A) (x : A) → AllByRecursion P xs → P x
-    → AllByRecursion P (xs ++ x ∷ [])
-all_more P [] x all p = (p, tt)
-all_more P (y ∷ xs) x all p = (all.0, all_more P xs x all.1 p)
 
 -- ---- rows that are kept
 

@@ -2,6 +2,7 @@
 use Rattle.std.proofs.lemmas.Bool.Decides.{nat_tests}
 use Rattle.std.proofs.Common.{inl, ◌≡◌, ℕ, List, [], ◌∷◌, get_or, cond, Bool, true, false, Option, Some, None, refl, sym, ap, subst, ◌∙◌, arith}
 use Rattle.std.specs.Prelude.{nat_eq}
+use Rattle.gx_laws.proofs.NumberLemmas.{equal_from_nat_eq}
 use Rattle.gx_values.specs.declared.values.Value.{Value}
 use Rattle.gx_values.specs.declared.records.Form.{Form}
 use Rattle.gx_values.specs.declared.records.Rec.{Rec}
@@ -20,9 +21,6 @@ whole_there at bounds p n r is child copied = ap Some copied ∙ sym (same_numbe
     same_number : (a b : ℕ) (o : Option Rec) → a ≡ b → cond (nat_eq a b) o None ≡ o
     same_number a b o e = grind (arith, nat_tests)
 
-equal : (a b : ℕ) → nat_eq a b ≡ true → a ≡ b
-equal a b e = grind (arith, nat_tests)
-
 unequal : (a b : ℕ) → nat_eq a b ≡ false → a ≡ b → ⊥
 unequal a b e same = grind (arith, nat_tests)
 
@@ -34,7 +32,7 @@ gathered_one form at bounds key p ps found req is found_is = subst (IsGathered (
     by_test : (b : Bool) → b ≡ nat_eq (child_of bounds (value_at at p.rec)) p.child → IsGathered (partition_rule form at bounds) key ps (cond b (Some p.rec) None)
     by_test true e =
         let of = req.each p (subst (In p) (sym is) (inl refl)) in
-        let child = equal (child_of bounds (value_at at p.rec)) p.child (sym e) in
+        let child = equal_from_nat_eq (child_of bounds (value_at at p.rec)) p.child (sym e) in
         (of.fits, whole_key form.keys key p.rec.key req.key_fits of.fits.key of.under, (λ i. record { child = child i; rec = p.rec } ∷ []) ∙ sym is)
     by_test false e = λ r is_r key_r same.
         let part : partition_part at bounds r ≡ p = ap (λ (l : List Part). get_or l 0 p) (same ∙ is) in

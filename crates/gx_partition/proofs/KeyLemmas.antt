@@ -6,7 +6,8 @@ use Rattle.std.specs.Ordering.{nat_cmp, ordering_then}
 use Rattle.std.specs.declared.cmp.Ordering.{Ordering}
 use Rattle.std.specs.declared.cmp.Ordering.TheVariants.{Less, Equal, Greater}
 use Rattle.std.specs.Cmp.Lexicographic.{slice_cmp}
-use Rattle.gx_order.proofs.OrderLemmas.{bytes_order, cmp_less, front_order}
+use Rattle.gx_laws.proofs.OrderingLemmas.{cmp_less}
+use Rattle.gx_order.proofs.OrderLemmas.{bytes_order, front_order}
 
 then_then : (a b c : Ordering) → ordering_then a (ordering_then b c) ≡ ordering_then (ordering_then a b) c
 then_then Less b c = refl

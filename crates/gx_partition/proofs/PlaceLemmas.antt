@@ -7,13 +7,13 @@ use Rattle.std.specs.declared.cmp.Ordering.{Ordering}
 use Rattle.std.specs.declared.cmp.Ordering.TheVariants.{Less, Equal, Greater}
 use Rattle.gx_values.specs.declared.values.Kind.{Kind}
 use Rattle.gx_values.specs.declared.values.Value.{Value}
-use Rattle.gx_values.specs.declared.records.Field.{Field}
 use Rattle.gx_values.specs.declared.records.Form.{Form}
 use Rattle.gx_values.specs.declared.records.Rec.{Rec}
-use Rattle.gx_values.specs.Values.{value_cmp, Fits, AreFit, AreSized}
+use Rattle.gx_values.specs.Values.{value_cmp, Fits, AreSized}
 use Rattle.gx_values.proofs.CopyLemmas.{fit_sized}
 use Rattle.gx_values.proofs.OrderLemmas.{value_cmp_total, value_cmp_same}
 use Rattle.gx_mapping.specs.Rule.{IsOf}
+use Rattle.gx_mapping.proofs.FieldLemmas.{values_count}
 use Rattle.gx_partition.specs.declared.place.Where.{Where}
 use Rattle.gx_partition.specs.declared.place.Where.TheVariants.{Key, Rest}
 use Rattle.gx_partition.specs.Places.{IsPlace, IsInRecord}
@@ -61,12 +61,6 @@ pub all_sized : (k : Kind) (vs : List Value) → AllByRecursion (Fits k) vs → 
 all_sized k [] all = tt
 all_sized k (v ∷ vs) all = (fit_sized k v all.0, all_sized k vs all.1)
 
-as_many : (fs : List Field) (vs : List Value) → AreFit fs vs → length vs ≡ length fs
-as_many [] [] fit = refl
-as_many (f ∷ fs) (v ∷ vs) fit = ap suc (as_many fs vs fit.1)
-as_many [] (v ∷ vs) fit = absurd fit
-as_many (f ∷ fs) [] fit = absurd fit
-
 pub in_record : (at : Where) (form : Form) (r : Rec) → IsPlace at form → IsOf form r → IsInRecord at r
-in_record (Key i) form r place is = omega (arith, place, as_many form.keys r.key is.key)
-in_record (Rest i) form r place is = omega (arith, place, as_many form.fields r.fields is.fields)
+in_record (Key i) form r place is = omega (arith, place, values_count form.keys r.key is.key)
+in_record (Rest i) form r place is = omega (arith, place, values_count form.fields r.fields is.fields)

@@ -8,7 +8,7 @@ use Rattle.gx_values.specs.declared.records.Field.{Field}
 use Rattle.gx_values.specs.declared.records.Form.{Form}
 use Rattle.gx_values.specs.declared.records.Rec.{Rec}
 use Rattle.gx_values.specs.declared.keys.Span.{Span}
-use Rattle.gx_values.specs.Values.{value_cmp, Fits, AreFit}
+use Rattle.gx_values.specs.Values.{value_cmp, Fits, AreFit, no_field, no_value}
 use Rattle.gx_values.specs.Keys.{bytes_of, key_of, is_inside}
 use Rattle.gx_mapping.specs.declared.parts.Part.{Part}
 use Rattle.gx_mapping.specs.Rule.{IsOf, is_field}
@@ -17,7 +17,7 @@ use Rattle.gx_mapping.proofs.RuleLemmas.{the_one, sorted_one}
 use Rattle.gx_mapping.proofs.FieldLemmas.{has_value}
 use Rattle.gx_partition.specs.declared.place.Where.{Where}
 use Rattle.gx_partition.specs.declared.place.Where.TheVariants.{Key, Rest}
-use Rattle.gx_partition.specs.Places.{no_field, no_value, value_at, kind_at}
+use Rattle.gx_partition.specs.Places.{value_at, kind_at}
 use Rattle.gx_partition.specs.Bounds.{IsPartition, child_of, lower_of, upper_of, ends_before, begins_after}
 use Rattle.gx_partition.specs.RangeLaws.{upper_above, lower_at_most, child_small, fits_at, lower_fits, before_span, behind_span}
 use Rattle.gx_partition.specs.Rules.{partition_part, partition_rule, is_outside}

@@ -1,21 +1,14 @@
 -- Where the field of a partition stands.
-use Rattle.std.specs.Prelude.{◌<◌, pos, [], length, slice_index_or}
+use Rattle.std.specs.Prelude.{◌<◌, length, slice_index_or}
 use Rattle.gx_values.specs.declared.values.Kind.{Kind}
 use Rattle.gx_values.specs.declared.values.Kind.TheVariants as kind
 use Rattle.gx_values.specs.declared.values.Value.{Value}
 use Rattle.gx_values.specs.declared.values.Value.TheVariants as value
-use Rattle.gx_values.specs.declared.records.Field.{Field}
 use Rattle.gx_values.specs.declared.records.Form.{Form}
 use Rattle.gx_values.specs.declared.records.Rec.{Rec}
+use Rattle.gx_values.specs.Values.{no_field, no_value}
 use Rattle.gx_partition.specs.declared.place.Where.{Where}
 use Rattle.gx_partition.specs.declared.place.Where.TheVariants.{Key, Rest}
-
--- what stands in the place of a field or a value that isn't there
-abbrev pub no_field : Field
-no_field = record { name = []; kind = kind.Int }
-
-abbrev pub no_value : Value
-no_value = value.Int (pos 0)
 
 -- the field is one of the form
 abbrev pub IsPlace : Where → Form → Type 0

@@ -2,24 +2,17 @@
 use Rattle.std.proofs.Common.{◌≡◌, ℕ, zero, suc, ◌+◌, ◌-◌, ◌<◌, ◌≤◌, List, [], ◌∷◌, length, take, get_or, set, refl, sym, ap, subst, ◌∙◌, arith}
 use Rattle.std.specs.Prelude.{slice_set}
 use Rattle.std.specs.List.{AllByRecursion}
-use Rattle.gx_values.specs.declared.values.Kind.{Kind}
 use Rattle.gx_values.specs.declared.values.Kind.TheVariants as kind
 use Rattle.gx_values.specs.declared.values.Value.{Value}
 use Rattle.gx_values.specs.declared.values.Value.TheVariants as value
-use Rattle.gx_values.specs.Values.{Fits, IsSized, AreSized}
+use Rattle.gx_values.specs.Values.{IsSized, AreSized}
+use Rattle.gx_values.proofs.CopyLemmas.{fit_sized}
 use Rattle.gx_schema.specs.declared.schema.FileDef.{FileDef}
 use Rattle.gx_schema.specs.Lookups.{field_at}
 use Rattle.gx_commands.specs.declared.command.Change.{Change}
 use Rattle.gx_commands.specs.Commands.{IsChangeOf}
 use Rattle.gx_model.specs.Commands.{changed}
 use Rattle.gx_plain.specs.Plain.{AreSizedChanges}
-
-pub fit_sized : (k : Kind) (v : Value) → Fits k v → IsSized v
-fit_sized kind.Int (value.Int n) h = h
-fit_sized (kind.Text most) (value.Int n) h = absurd h
-fit_sized (kind.Bytes most) (value.Int n) h = absurd h
-fit_sized k (value.Text text) h = tt
-fit_sized k (value.Bytes bytes) h = tt
 
 pub sized_changes : (file : FileDef) (cs : List Change) → AllByRecursion (IsChangeOf file) cs → AreSizedChanges cs
 sized_changes file [] all = tt

@@ -19,7 +19,7 @@ use Rattle.gx_play.specs.declared.play.Answers.{Answers}
 use Rattle.gx_play.specs.declared.play.Answers.TheVariants as answers
 use Rattle.gx_play.specs.Answering.{beside, with_answers}
 use Rattle.gx_play.specs.Plays.{IsCommandPlayed, IsLinePlayed, IsCommandGivenUp, IsGivenUp, IsPlayedUp, IsPlayedTo, KeepsPlayed, CountsFailed, is_play_fault}
-use Rattle.gx_play.proofs.SayLemmas.{begins_same, begins_then}
+use Rattle.gx_device.proofs.PrefixLemmas.{prefix_same, prefix_twice}
 
 -- the engine stands so with answers beside it
 pub at_beside : {S : Type 0} (g : Ghosts S) (to : Answers) (p : Playing) (e : Engine S) (out : List ℕ)
@@ -40,7 +40,7 @@ keeps_same g to e ready = record {
   limit = refl;
   head = refl;
   rest = record { shelf = refl; script = refl; aside = refl };
-  begins = λ told. begins_same _ _ refl;
+  begins = λ told. prefix_same _ _ refl;
   silent = λ kept. record { said = refl; shelf = refl; script = refl; aside = refl };
 }
 
@@ -53,7 +53,7 @@ keeps_then g to a b c p q = record {
   limit = q.limit ∙ p.limit;
   head = q.head ∙ p.head;
   rest = record { shelf = q.rest.shelf ∙ p.rest.shelf; script = q.rest.script ∙ p.rest.script; aside = q.rest.aside ∙ p.rest.aside };
-  begins = λ told. begins_then _ _ _ (p.begins told) (q.begins told);
+  begins = λ told. prefix_twice _ _ _ (p.begins told) (q.begins told);
   silent = λ kept.
       let x = p.silent kept in
       let y = q.silent kept in

@@ -1,7 +1,7 @@
 -- The loop over the lines of a script.
-use Rattle.std.proofs.Common.{◌≡◌, ℕ, ◌+◌, ◌≤◌, List, [], ◌∷◌, ◌++◌, length, take, Bool, true, false, IsTrue, Result, Ok, Err, Option, Some, None, refl, sym, ap, subst, ◌∙◌, arith, inl, inr}
-use Rattle.std.specs.Prelude.{nat_lt, ◌==◌, ◌≢◌, ◌⊎◌, if◌then◌else◌, IsErrAnd, IsSome}
-use Rattle.std.proofs.lemmas.List.{append-nil, append_assoc, length-take, length-append, take_all}
+use Rattle.std.proofs.Common.{◌≡◌, ℕ, ◌+◌, ◌≤◌, List, [], ◌∷◌, ◌++◌, length, take, Bool, false, IsTrue, Result, Ok, Err, Option, Some, None, refl, sym, ap, subst, ◌∙◌, arith, inl, inr}
+use Rattle.std.specs.Prelude.{◌≢◌, ◌⊎◌, IsErrAnd, IsSome}
+use Rattle.std.proofs.lemmas.List.{append-nil, append_assoc, length-append, take_all}
 use Rattle.std.proofs.Math.Seq.{take-append-add}
 use Rattle.gx_device.specs.Faults.{Rose}
 use Rattle.gx_schema.specs.declared.schema.Schema.{Schema}
@@ -10,7 +10,7 @@ use Rattle.gx_commands.specs.declared.command.Command.TheVariants as command
 use Rattle.gx_commands.specs.declared.command.LineWhy.{LineWhy}
 use Rattle.gx_commands.specs.declared.command.LineWhy.TheVariants as why
 use Rattle.gx_commands.specs.Commands.{place_reason}
-use Rattle.gx_commands.specs.Lines.{Lines, Parts, with_line, no_lines, with_byte, parts_of, without_cr, last_line, up_to_limit, lines_within, longest_line, longest_script, script_lines, stopped as stopped_lines}
+use Rattle.gx_commands.specs.Lines.{Lines, with_line, no_lines, stopped as stopped_lines}
 use Rattle.gx_script.specs.Grammar.{IsLineOf}
 use Rattle.gx_ports.specs.LeafMaps.{Limits}
 use Rattle.gx_ports.specs.Calls.{Keeps}
@@ -61,7 +61,7 @@ one_more schema start p ran answers line command answer runs means placed answer
     (answer, [], next_of schema p command, step, (refl, refl), refl))
 
 -- the lines of which one more ran
-parts_more : (all before left : Lines) (ran : List (List ℕ)) (line : List ℕ) → all.lines ≡ ran ++ before.lines
+pub parts_more : (all before left : Lines) (ran : List (List ℕ)) (line : List ℕ) → all.lines ≡ ran ++ before.lines
     → before ≡ with_line line left → all.lines ≡ (ran ++ line ∷ []) ++ left.lines
 parts_more all before left ran line parts before_is =
     parts ∙ ap (λ (ls : Lines). ran ++ ls.lines) before_is ∙ sym (append_assoc ran (line ∷ []) left.lines)
@@ -338,54 +338,6 @@ at_line g start all before left number line (play_end.Stop s) result old e new s
     before_is so ready result_is bad up =
     subst (λ r. IsPlayedTo g start all old new r) (sym result_is)
     (at_cut g start all before left number line s old e new schema_is built_is limit_is before_is so ready (up s refl))
-
--- ---- how many lines there are
-
-with_byte_few : (b : ℕ) (ended : List (List ℕ)) (rest : List ℕ) → length (with_byte b ended rest).ended ≡ length ended
-with_byte_few b [] rest = refl
-with_byte_few b (line ∷ lines) rest = refl
-
-parts_or : (t : Bool) (a c : Parts) (n : ℕ) → length a.ended ≤ n → length c.ended ≤ n → length (if t then a else c).ended ≤ n
-parts_or true a c n le other = le
-parts_or false a c n le other = other
-
-parts_few : (bs : List ℕ) → length (parts_of bs).ended ≤ length bs
-parts_few [] = omega arith
-parts_few (b ∷ bs) =
-    parts_or (b == 10) (record { ended = [] ∷ (parts_of bs).ended; rest = (parts_of bs).rest })
-    (with_byte b (parts_of bs).ended (parts_of bs).rest) (length (b ∷ bs)) (omega (arith, parts_few bs))
-    (omega (arith, parts_few bs, with_byte_few b (parts_of bs).ended (parts_of bs).rest))
-
-lines_or : (t : Bool) (a c : Lines) (n : ℕ) → length a.lines ≤ n → length c.lines ≤ n → length (if t then a else c).lines ≤ n
-lines_or true a c n le other = le
-lines_or false a c n le other = other
-
-last_few : (rest : List ℕ) (longer : Bool) → length (last_line rest longer).lines ≤ 1
-last_few rest true = omega arith
-last_few [] false = omega arith
-last_few (b ∷ bs) false = omega arith
-
-limit_few : (ended : List (List ℕ)) (rest : List ℕ) (longer : Bool) → length (up_to_limit ended rest longer).lines ≤ length ended + 1
-limit_few [] rest longer =
-    lines_or (nat_lt longest_line (length rest)) (stopped_lines why.TooLong) (last_line rest longer) 1 (omega arith) (last_few rest longer)
-limit_few (line ∷ lines) rest longer =
-    lines_or (nat_lt longest_line (length line)) (stopped_lines why.TooLong)
-    (with_line (without_cr line) (up_to_limit lines rest longer)) (length (line ∷ lines) + 1) (omega arith)
-    (omega (arith, limit_few lines rest longer))
-
-pub few_lines : (script : List ℕ) → length (script_lines script).lines ≤ 16777217
-unfolding lines_within longest_script
-few_lines script =
-    omega (
-      arith,
-      limit_few (parts_of (take 16777216 script)).ended (parts_of (take 16777216 script)).rest
-          (nat_lt 16777216 (length script)),
-      parts_few (take 16777216 script),
-      taken,
-    )
-  where
-    taken : length (take 16777216 script) ≤ 16777216
-    taken = subst (λ n. n ≤ 16777216) (sym (length-take 16777216 script)) (omega arith)
 
 -- the same for the end that is answered
 pub at_line_end : {S : Type 0} (g : Ghosts S) (start : Playing) (all left : Lines) (number : ℕ) (end : PlayEnd)

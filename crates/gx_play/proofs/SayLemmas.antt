@@ -1,6 +1,6 @@
 -- A piece that is said part by part.
 use Rattle.std.proofs.Common.{◌≡◌, ℕ, zero, suc, ◌+◌, ◌-◌, List, [], ◌∷◌, ◌++◌, length, take, drop, refl, sym, ap, ◌∙◌, arith, append_assoc}
-use Rattle.std.proofs.lemmas.List.{append-nil, drop-drop, take_all, length-drop}
+use Rattle.std.proofs.lemmas.List.{drop-drop, take_all, length-drop}
 use Rattle.gx_device.specs.Quiet.{IsPrefix}
 use Rattle.gx_ports.specs.Calls.{Talks}
 use Rattle.gx_ports.specs.declared.view.View.{Ghosts}
@@ -25,12 +25,6 @@ rest_more piece rest done n is =
     take_all (length rest - n) (drop n rest) (omega (arith, length-drop n rest)) ∙ ap (drop n) is ∙ drop-drop n done piece
 
 -- ---- what was said before stays in front
-
-pub begins_same : (xs ys : List ℕ) → ys ≡ xs → IsPrefix xs ys
-begins_same xs ys same = ([], same ∙ sym (append-nil xs))
-
-pub begins_then : (xs ys zs : List ℕ) → IsPrefix xs ys → IsPrefix ys zs → IsPrefix xs zs
-begins_then xs ys zs p q = (p.0 ++ q.0, q.1 ∙ ap (λ (t : List ℕ). t ++ q.0) p.1 ∙ append_assoc xs p.0 q.0)
 
 -- a front of a piece was said behind it
 pub begins_front : (xs ys zs piece : List ℕ) → ys ≡ xs → ((n : ℕ) × (zs ≡ ys ++ take n piece)) → IsPrefix xs zs

@@ -1,12 +1,14 @@
 -- What calls of pages keep, one after the other, and how a call ends that hands on how another one ended.
-use Rattle.std.proofs.Common.{◌≡◌, ℕ, ◌≤◌, Ok, Err, refl, sym, ap, subst, ◌∙◌}
+use Rattle.std.proofs.Common.{◌≡◌, ℕ, ◌≤◌, Ok, Err, refl, sym, ap, subst, ◌∙◌, slice_get, []}
 use Rattle.std.specs.Prelude.{Result}
 use Rattle.std.specs.Result.{IsErrAnd}
+use Rattle.std.specs.Option.{unwrap_or}
+use Rattle.std.proofs.lemmas.Option.{unwrap_or-slice_get}
 use Rattle.gx_device.specs.Faults.{Rose}
 use Rattle.gx_ports.specs.declared.page_view.PageView.{Ghosts}
 use Rattle.gx_ports.specs.declared.stop.Stop.{Stop}
-use Rattle.gx_ports.specs.Files.{EndsFile}
-use Rattle.gx_ports.specs.Sheets.{IsHome}
+use Rattle.gx_ports.specs.Files.{EndsFile, OthersStay}
+use Rattle.gx_ports.specs.Sheets.{IsHome, Sheets, Ground, bytes_at}
 use Rattle.gx_ports.specs.PageCalls.{KeepsPages, ReadsPages}
 
 module _ {S : Type 0} (g : Ghosts S) where
@@ -62,3 +64,20 @@ ends_as g sound other start now new result faults ground to ends = record {
   };
   home = λ block is. subst (λ x. IsHome x block) ground (ends.home block is);
 }
+
+-- ---- what stays of sheets
+
+pub bytes_same : (old new : Sheets) (q : ℕ) → slice_get new.bytes q ≡ slice_get old.bytes q → bytes_at new q ≡ bytes_at old q
+bytes_same old new q e = sym (unwrap_or-slice_get new.bytes q []) ∙ ap (λ o. unwrap_or o []) e ∙ unwrap_or-slice_get old.bytes q []
+
+pub others_itself : (ground : Ground) (owner : ℕ) (s : Sheets) → OthersStay ground owner s s
+others_itself ground owner s other d n = record { owned = λ q. (λ h. h, λ h. h); bytes = λ q past is. refl }
+
+pub others_joined : (ground : Ground) (owner : ℕ) (s t u : Sheets) → OthersStay ground owner s t → OthersStay ground owner t u → OthersStay ground owner s u
+others_joined ground owner s t u a b other d z =
+    let x = a other d z in
+    let y = b other d z in
+    record {
+      owned = λ q. (λ o. (y.owned q).0 ((x.owned q).0 o), λ o. (x.owned q).1 ((y.owned q).1 o));
+      bytes = λ q past o. y.bytes q past ((x.owned q).0 o) ∙ x.bytes q past o;
+    }

@@ -1,11 +1,15 @@
 -- Pages and their owners.
-use Rattle.std.specs.Prelude.{◌≡◌, ◌≢◌, ℕ, ◌+◌, ◌*◌, ◌<◌, ◌≤◌, List, length, slice_set, slice_get, Some}
+use Rattle.std.specs.Prelude.{◌≡◌, ◌≢◌, ℕ, ◌+◌, ◌*◌, ◌<◌, ◌≤◌, List, length, slice_set, slice_get, slice_index_or, Some, []}
 use Rattle.gx_ports.specs.declared.pages.TheConstants.{OWNERS}
 
 -- for each page the number of its owner, 0 where it is free, and its bytes
 pub record Sheets : Type 0 where
   pub owners : List ℕ
   pub bytes : List (List ℕ)
+
+-- the bytes of a page
+abbrev pub bytes_at : Sheets → ℕ → List ℕ
+bytes_at sheets page = slice_index_or sheets.bytes page []
 
 -- what no call of pages changes
 pub record Ground : Type 0 where

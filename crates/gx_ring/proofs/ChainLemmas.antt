@@ -4,15 +4,17 @@ use Rattle.std.specs.FinMap as fin
 use Rattle.std.specs.List.{sum_by}
 use Rattle.std.proofs.lemmas.List.Sums.{sum_by-cons}
 use Rattle.std.specs.declared.cmp.Ordering.TheVariants.{Less}
+use Rattle.std.proofs.lemmas.Option.{same_Some}
 use Rattle.gx_values.specs.declared.values.Value.{Value}
 use Rattle.gx_values.specs.declared.records.Rec.{Rec}
 use Rattle.gx_values.specs.Values.{value_cmp}
-use Rattle.gx_values.proofs.OrderLemmas.{value_cmp_total}
+use Rattle.gx_values.proofs.OrderLemmas.{value_cmp_total, value_cases}
 use Rattle.gx_mapping.specs.Rule.{In}
-use Rattle.gx_gather.proofs.Lists.{in_left, in_right, in_cases, all_at, all_of, some_same}
+use Rattle.gx_mapping.proofs.RuleLemmas.{all_in}
+use Rattle.gx_gather.proofs.Lists.{in_left, in_right, in_cases, all_of}
 use Rattle.gx_gather.proofs.Orders.{Ascends, not_before_itself, ascends_append}
 use Rattle.gx_links.specs.Links.{Link, members_of}
-use Rattle.gx_links.proofs.MemberLemmas.{value_cases, in_members, from_members, members_ascend, members_are, new_here, still_there, from_insert, others_stay}
+use Rattle.gx_links.proofs.MemberLemmas.{in_members, from_members, members_ascend, members_are, new_here, still_there, from_insert, others_stay}
 use Rattle.gx_ring.specs.Ring.{first, chain_rec, chain, key_value}
 use Rattle.gx_ring.specs.RingLaws.{tells, in_chain, owned_in_chain}
 
@@ -55,16 +57,16 @@ chain_rest weight o (u ∷ us) ys =
 -- no other member is p
 apart_before : (us : List Value) (p : Value) (ys : List Value) → Ascends value_cmp (us ++ p ∷ ys) → (x : Value) → In x us → x ≢ p
 apart_before [] p ys up x k e = k
-apart_before (u ∷ us) p ys up x (inl is) e = not_before_itself value_cmp_total u (subst (λ z. value_cmp u z ≡ Less) (sym e ∙ is) (all_at _ (us ++ p ∷ ys) p up.0 (in_right p us (p ∷ ys) (inl refl))))
+apart_before (u ∷ us) p ys up x (inl is) e = not_before_itself value_cmp_total u (subst (λ z. value_cmp u z ≡ Less) (sym e ∙ is) (all_in _ (us ++ p ∷ ys) p up.0 (in_right p us (p ∷ ys) (inl refl))))
 apart_before (u ∷ us) p ys up x (inr k) e = apart_before us p ys up.1 x k e
 
 apart_behind : (us : List Value) (p : Value) (ys : List Value) → Ascends value_cmp (us ++ p ∷ ys) → (x : Value) → In x ys → x ≢ p
-apart_behind [] p ys up x k e = not_before_itself value_cmp_total p (subst (λ z. value_cmp p z ≡ Less) e (all_at _ ys x up.0 k))
+apart_behind [] p ys up x k e = not_before_itself value_cmp_total p (subst (λ z. value_cmp p z ≡ Less) e (all_in _ ys x up.0 k))
 apart_behind (u ∷ us) p ys up x k e = apart_behind us p ys up.1 x k e
 
 front_ascends : (us ys : List Value) → Ascends value_cmp (us ++ ys) → Ascends value_cmp us
 front_ascends [] ys up = tt
-front_ascends (u ∷ us) ys up = (all_of _ us (λ y h. all_at _ (us ++ ys) y up.0 (in_left y us ys h)), front_ascends us ys up.1)
+front_ascends (u ∷ us) ys up = (all_of _ us (λ y h. all_in _ (us ++ ys) y up.0 (in_left y us ys h)), front_ascends us ys up.1)
 
 rest_ascends : (us ys : List Value) → Ascends value_cmp (us ++ ys) → Ascends value_cmp ys
 rest_ascends [] ys up = up
@@ -101,7 +103,7 @@ module _ (link : Link) (o m : Value) (free : fin.get link m ≡ None) where
       where
         across : (us : List Value) → Ascends value_cmp (us ++ ys) → (x y : Value) → In x us → In y ys → value_cmp x y ≡ Less
         across [] a x y h k = absurd h
-        across (u ∷ us) a x y (inl e) k = ap (λ z. value_cmp z y) e ∙ all_at _ (us ++ ys) y a.0 (in_right y us ys k)
+        across (u ∷ us) a x y (inl e) k = ap (λ z. value_cmp z y) e ∙ all_in _ (us ++ ys) y a.0 (in_right y us ys k)
         across (u ∷ us) a x y (inr h) k = across us a.1 x y h k
 
         between : (x y : Value) → In x fs → In y (m ∷ ys) → value_cmp x y ≡ Less
@@ -124,7 +126,7 @@ module _ (link : Link) (o m : Value) (free : fin.get link m ≡ None) where
       | inl is ↦ here (in_cases r (linked o us p) (chain_rec o p (Some m) ∷ chain_rec o m (first ys) ∷ chain o ys) (subst (In r) (split o us p (m ∷ ys)) (subst (λ ms. In r (chain o ms)) now (subst (λ z. In r (chain z (members_of (fin.insert link m o) z))) is h))))
       | inr ne ↦ (
           let old : In r (chain x (members_of link x)) = subst (λ ms. In r (chain x ms)) (others_stay link o m free x ne) h in
-          inr (inr ((x, old), λ e. ne (some_same x o (sym (owned_in_chain link x r old) ∙ ap (fin.get link) e ∙ owner_of_p)))))
+          inr (inr ((x, old), λ e. ne (same_Some x o (sym (owned_in_chain link x r old) ∙ ap (fin.get link) e ∙ owner_of_p)))))
     ]
       where
         at : In r (linked o us p ++ chain_rec o p (first ys) ∷ chain o ys) → IsChained link r

@@ -1,20 +1,22 @@
 -- The records of the two nodes as sets, and what a member that comes or goes makes of them.
 use Rattle.std.proofs.Common.{◌≡◌, ◌≢◌, ℕ, List, [], ◌∷◌, ◌++◌, ◌⊎◌, Option, Some, None, inl, inr, refl, sym, ap, subst, ◌∙◌, get_or}
 use Rattle.std.specs.FinMap as fin
+use Rattle.std.proofs.lemmas.Option.{same_Some}
 use Rattle.gx_values.specs.declared.values.Value.{Value}
 use Rattle.gx_values.specs.declared.records.Form.{Form}
 use Rattle.gx_values.specs.declared.records.Rec.{Rec}
+use Rattle.gx_values.proofs.OrderLemmas.{value_cases}
+use Rattle.gx_values.specs.Values.{no_value}
 use Rattle.gx_mapping.specs.Rule.{Rule, In, IsOf}
 use Rattle.gx_gather.specs.Gather.{part_for}
-use Rattle.gx_gather.proofs.Lists.{some_same, none_some}
+use Rattle.gx_gather.proofs.Lists.{none_some}
 use Rattle.gx_stack.specs.Tree.{Tree, tree_form}
 use Rattle.gx_stack.specs.Internal.{IsSet, IsChange, changed}
 use Rattle.gx_stack.proofs.Without.{from_without, to_without}
 use Rattle.gx_links.specs.Links.{Link, members_of, IsLink}
 use Rattle.gx_links.specs.Rows.{node_rows, two_forms, RowLaws, owner_kind, member_kind}
-use Rattle.gx_links.proofs.MemberLemmas.{value_cases, others_stay}
+use Rattle.gx_links.proofs.MemberLemmas.{others_stay}
 use Rattle.gx_links.proofs.RowLemmas.{in_node_rows, from_node_rows, node_set}
-use Rattle.gx_links.specs.Kinds.{no_value}
 use Rattle.gx_ring.specs.Ring.{first, head_rec, chain_rec, head_if, chain, ring_rows, IsRing, key_value}
 use Rattle.gx_ring.specs.RingLaws.{IsHead, head_row, chain_row, row_cases, tells_key, key_in_chain, owned_in_chain, ring_row_laws}
 use Rattle.gx_ring.proofs.ChainLemmas.{IsChained, there_behind, chain_behind, behind_chain, heads_behind, chain_front, front_chain}
@@ -104,7 +106,7 @@ module _ {M : Type 0} (rule : M → Rule) (heads nexts : Tree M) (valid : IsRing
     where
       go : {o n : Value} (ms : List Value) → Some n ≡ first ms → h ≡ head_rec o n → IsHead o ms h
       go [] e is = absurd (none_some _ (sym e))
-      go {o} {n} (x ∷ ms) e is = record { member = x; others = ms; members = refl; is = is ∙ ap (head_rec o) (some_same n x e) }
+      go {o} {n} (x ∷ ms) e is = record { member = x; others = ms; members = refl; is = is ∙ ap (head_rec o) (same_Some n x e) }
 
   chained_key : (link : Link) (r : Rec) → IsChained link r → r.key ≡ key_value r ∷ []
   chained_key link r (o, h) = key_in_chain o (members_of link o) r h
@@ -251,7 +253,7 @@ module _ {M : Type 0} (rule : M → Rule) (heads nexts : Tree M) (valid : IsRing
         where
           go : (zs : List Value) → first zs ≡ Some n → IsHead o zs (head_rec o n)
           go [] f = absurd (none_some n f)
-          go (z ∷ zs) f = record { member = z; others = zs; members = refl; is = ap (head_rec o) (sym (some_same z n f)) }
+          go (z ∷ zs) f = record { member = z; others = zs; members = refl; is = ap (head_rec o) (sym (same_Some z n f)) }
 
       none_before : first ys ≡ None → (h : Rec) → In h (head_rows link) → h.key ≢ o ∷ []
       none_before e h k is =

@@ -8,13 +8,13 @@ use Rattle.gx_values.specs.declared.values.Kind.{Kind}
 use Rattle.gx_values.specs.declared.values.Kind.TheVariants as kind
 use Rattle.gx_values.specs.declared.values.Value.{Value}
 use Rattle.gx_values.specs.declared.records.Rec.{Rec}
-use Rattle.gx_values.specs.Values.{Fits}
+use Rattle.gx_values.specs.Values.{Fits, no_value}
 use Rattle.gx_ports.specs.LeafMaps.{LeafMap}
 use Rattle.gx_mapping.specs.Rule.{Rule, In, IsOf}
 use Rattle.gx_gather.proofs.Lists.{in_left, in_right}
 use Rattle.gx_stack.specs.Tree.{Tree, leaves_of, tree_form, entries_of, entry_total}
 use Rattle.gx_stack.specs.Internal.{HasSet}
-use Rattle.gx_links.specs.Kinds.{AreOfKinds, no_value}
+use Rattle.gx_links.specs.Kinds.{AreOfKinds}
 use Rattle.gx_links.specs.Links.{Link, members_of, IsLink}
 use Rattle.gx_links.specs.Linksets.{HasLink, AreMembers, IsOwner}
 use Rattle.gx_links.specs.Rows.{IsHeldLink, owner_entries, two_nodes, owner_kind, member_kind}

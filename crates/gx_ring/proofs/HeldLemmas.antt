@@ -4,6 +4,7 @@ use Rattle.std.specs.List.{flat_map, sum_by}
 use Rattle.std.proofs.lemmas.List.Sums.{sum_by-cons}
 use Rattle.std.specs.FinMap as fin
 use Rattle.std.specs.declared.cmp.Ordering.TheVariants.{Less}
+use Rattle.std.proofs.lemmas.Option.{same_Some}
 use Rattle.gx_values.specs.declared.values.Value.{Value}
 use Rattle.gx_values.specs.declared.records.Rec.{Rec}
 use Rattle.gx_values.specs.Values.{value_cmp}
@@ -12,7 +13,7 @@ use Rattle.gx_ports.specs.LeafMaps.{LeafMap}
 use Rattle.gx_mapping.specs.declared.parts.Part.{Part}
 use Rattle.gx_mapping.specs.Rule.{Rule, In}
 use Rattle.gx_gather.specs.Gather.{part_for}
-use Rattle.gx_gather.proofs.Lists.{in_left, in_right, none_some, some_same}
+use Rattle.gx_gather.proofs.Lists.{in_left, in_right, none_some}
 use Rattle.gx_gather.proofs.Orders.{not_before_itself}
 use Rattle.gx_stack.specs.Tree.{Tree, leaves_of, entries_of, kid_entries, IsValid}
 use Rattle.gx_stack.specs.Internal.{changed, entries_if}
@@ -187,7 +188,7 @@ module _ {M : Type 0} (rule : M → Rule) (heads nexts : Tree M) where
       go zs None e = omega arith
       go [] (Some x) e = absurd (none_some x (sym e))
       go (z ∷ zs) (Some x) e =
-          let same : length (entries_of rule heads (head_rec o x)) ≡ length (entries_of rule heads (head_rec o z)) = ap (λ y. length (entries_of rule heads (head_rec o y))) (some_same x z e) in
+          let same : length (entries_of rule heads (head_rec o x)) ≡ length (entries_of rule heads (head_rec o z)) = ap (λ y. length (entries_of rule heads (head_rec o y))) (same_Some x z e) in
           let this : length (entries_if rule heads (head_if o (Some x))) ≡ length (entries_of rule heads (head_rec o x)) = refl in
           omega (arith, same, this, entries_length o z zs)
   went_entries ms o m (Some p) next at =

@@ -7,11 +7,13 @@ use Rattle.std.specs.declared.cmp.Ordering.{Ordering}
 use Rattle.std.specs.declared.cmp.Ordering.TheVariants.{Less, Equal, Greater}
 use Rattle.std.proofs.lemmas.Bool.{true≢false, cases_lt, lt-ltb, le-ltb}
 use Rattle.std.specs.FinMap as fin
+use Rattle.std.proofs.lemmas.Option.{same_Some}
 use Rattle.gx_values.specs.declared.values.Value.{Value}
 use Rattle.gx_values.specs.Values.{value_cmp}
 use Rattle.gx_values.proofs.OrderLemmas.{value_cmp_total, value_cmp_same}
 use Rattle.gx_mapping.specs.Rule.{In}
-use Rattle.gx_gather.proofs.Lists.{all_at, none_some, some_same}
+use Rattle.gx_mapping.proofs.RuleLemmas.{all_in}
+use Rattle.gx_gather.proofs.Lists.{none_some}
 use Rattle.gx_gather.proofs.Orders.{Ascends}
 use Rattle.gx_links.specs.Links.{Link, members_of}
 use Rattle.gx_links.proofs.MemberLemmas.{from_members, members_ascend}
@@ -73,7 +75,7 @@ upper_in (y ∷ ms) m x up new h = go (is_ge (value_cmp y m)) refl (λ k. upper_
 
     go : (b : Bool) → is_ge (value_cmp y m) ≡ b → (In x (drop (place_of ms m) ms) → value_cmp m x ≡ Less) → In x (drop (cond (not b) (suc (place_of ms m)) 0) (y ∷ ms)) → value_cmp m x ≡ Less
     go true e more (inl is) = ap (value_cmp m) is ∙ over e
-    go true e more (inr k) = value_cmp_total.trans m y x (over e) (all_at _ ms x up.0 k)
+    go true e more (inr k) = value_cmp_total.trans m y x (over e) (all_in _ ms x up.0 k)
     go false e more k = more k
 
 -- ---- the last and the first of some
@@ -91,7 +93,7 @@ last_none (x ∷ y ∷ xs) e = absurd (some_there (y ∷ xs) (last_none (y ∷ x
 
 pub last_some : (xs : List Value) (p : Value) → last xs ≡ Some p → (us : List Value) × (xs ≡ us ++ p ∷ [])
 last_some [] p e = absurd (none_some p e)
-last_some (x ∷ []) p e = ([], ap (λ z. z ∷ []) (some_same x p e))
+last_some (x ∷ []) p e = ([], ap (λ z. z ∷ []) (same_Some x p e))
 last_some (x ∷ y ∷ xs) p e = (let r = last_some (y ∷ xs) p (sym (last_more x y xs) ∙ e) in (x ∷ r.0, ap (λ zs. x ∷ zs) r.1))
 
 pub get_first : (xs : List Value) → slice_get xs 0 ≡ first xs

@@ -7,18 +7,18 @@ use Rattle.gx_values.specs.declared.records.Rec.{Rec}
 use Rattle.gx_values.specs.declared.keys.Span.{Span}
 use Rattle.gx_values.specs.Values.{values_cmp, Fits}
 use Rattle.gx_values.specs.Keys.{key_of, is_inside}
+use Rattle.gx_values.proofs.OrderLemmas.{same_value, value_itself}
 use Rattle.gx_ports.specs.LeafMaps.{LeafMap}
 use Rattle.gx_mapping.specs.Rule.{Rule, In, IsOf}
+use Rattle.gx_mapping.proofs.RuleLemmas.{all_in, values_cmp_total}
 use Rattle.gx_gather.specs.Gather.{rec_cmp}
-use Rattle.gx_gather.proofs.Lists.{all_at}
-use Rattle.gx_gather.proofs.Orders.{values_total, not_before_itself, ascends}
+use Rattle.gx_gather.proofs.Orders.{not_before_itself, ascends}
 use Rattle.gx_stack.specs.Tree.{Tree, tree_form, entry_total}
 use Rattle.gx_stack.specs.Internal.{IfThere, entries_if}
 use Rattle.gx_stack.specs.Selected.{IsFound, IsSelection}
 use Rattle.gx_links.specs.Kinds.{kinds_of, first_kind, AreOfKinds}
 use Rattle.gx_links.specs.Links.{is_same}
 use Rattle.gx_links.proofs.KindLemmas.{fit_kinds}
-use Rattle.gx_links.proofs.MemberLemmas.{same_value, value_itself}
 use Rattle.gx_ring.specs.Reads.{IsFoundAt, IsRecordAt}
 
 one_of : (k : Kind) (vs : List Value) → AreOfKinds (k ∷ []) vs → (x : Value) × (vs ≡ x ∷ []) × Fits k x
@@ -53,7 +53,7 @@ module _ {M : Type 0} (rule : M → Rule) (t : Tree M) (one : kinds_of (tree_for
       let a = key_there r (fit r (inl refl)) (sel.sound r (inl refl)).1 in
       let b = key_there s (fit s (inr (inl refl))) (sel.sound s (inr (inl refl))).1 in
       let up = (ascends rec_cmp (r ∷ s ∷ rs) sel.in_order).0 in
-      absurd (not_before_itself values_total (v ∷ []) (subst (λ ks. values_cmp ks (v ∷ []) ≡ Less) a (subst (λ ks. values_cmp r.key ks ≡ Less) b (all_at (λ q. rec_cmp r q ≡ Less) (s ∷ rs) s up (inl refl)))))
+      absurd (not_before_itself values_cmp_total (v ∷ []) (subst (λ ks. values_cmp ks (v ∷ []) ≡ Less) a (subst (λ ks. values_cmp r.key ks ≡ Less) b (all_in (λ q. rec_cmp r q ≡ Less) (s ∷ rs) s up (inl refl)))))
 
   pub record_there : (whole : Type 0) (maps : List LeafMap) (before steps : ℕ) (found : List Rec) (result : Option Rec) → IsFound rule t whole maps span before steps [] found → result ≡ slice_get found 0 → IsRecordAt rule t whole maps v before steps result
   record_there whole maps before steps found result is e = subst (IsRecordAt rule t whole maps v before steps) (sym (e ∙ ap (λ rs. slice_get rs 0) is.appended)) (record {

@@ -7,19 +7,19 @@ use Rattle.std.specs.FinMap as fin
 use Rattle.gx_values.specs.declared.values.Kind.{Kind}
 use Rattle.gx_values.specs.declared.values.Value.{Value}
 use Rattle.gx_values.specs.declared.records.Rec.{Rec}
-use Rattle.gx_values.specs.Values.{value_cmp, Fits, IsSized}
+use Rattle.gx_values.specs.Values.{value_cmp, Fits, IsSized, no_value}
 use Rattle.gx_values.proofs.CopyLemmas.{fit_sized}
 use Rattle.gx_values.proofs.OrderLemmas.{value_cmp_total}
 use Rattle.gx_ports.specs.LeafMaps.{LeafMap}
 use Rattle.gx_mapping.specs.declared.parts.Part.{Part}
 use Rattle.gx_mapping.specs.Rule.{Rule, In, IsOf, part_cmp}
 use Rattle.gx_mapping.specs.Laws.{MappingLaws}
+use Rattle.gx_mapping.proofs.RuleLemmas.{all_in}
 use Rattle.gx_gather.specs.Gather.{rec_cmp, part_for}
-use Rattle.gx_gather.proofs.Lists.{in_map, from_map, all_at, all_of}
+use Rattle.gx_gather.proofs.Lists.{in_map, from_map, all_of}
 use Rattle.gx_gather.proofs.Orders.{Ascends, ascends, not_before_itself}
 use Rattle.gx_stack.specs.Tree.{Tree, tree_form}
 use Rattle.gx_stack.specs.Held.{AreHeld}
-use Rattle.gx_links.specs.Kinds.{no_value}
 use Rattle.gx_links.specs.Links.{Link, members_of}
 use Rattle.gx_links.specs.Rows.{RowsApart, RowLaws, IsHeldLink, two_forms, two_nodes, owner_kind, member_kind}
 use Rattle.gx_links.specs.Pairs.{AreRows, ArePairs, IsTold, two_parts}
@@ -41,7 +41,7 @@ chain_distinct o (m ∷ ms) up = (
       let r = from_map (part_for 1) q (chain o ms) h in
       not_tied (part_for 1 (chain_rec o m (first ms))) q (λ child key.
       let same : key_value r.0 ≡ m = sym (ap (λ (p : Part). key_value p.rec) r.2) ∙ sym (ap (λ ks. get_or ks 0 no_value) key) ∙ tells o m (first ms) in
-      not_before_itself value_cmp_total m (subst (λ v. value_cmp m v ≡ Less) same (all_at (λ y. value_cmp m y ≡ Less) ms (key_value r.0) up.0 (in_chain o ms r.0 r.1))))),
+      not_before_itself value_cmp_total m (subst (λ v. value_cmp m v ≡ Less) same (all_in (λ y. value_cmp m y ≡ Less) ms (key_value r.0) up.0 (in_chain o ms r.0 r.1))))),
   chain_distinct o ms up.1,
 )
 

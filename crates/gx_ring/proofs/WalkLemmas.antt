@@ -2,12 +2,13 @@
 use Rattle.std.proofs.Common.{◌≡◌, ◌≤◌, ◌+◌, ◌*◌, ℕ, suc, List, [], ◌∷◌, ◌++◌, length, Option, Some, None, inl, inr, refl, sym, ap, subst, ◌∙◌, append_assoc, length-append, arith}
 use Rattle.std.proofs.Math.Nat.{suc-mul}
 use Rattle.std.proofs.lemmas.List.Sums.{sum_by-cons}
+use Rattle.std.proofs.lemmas.Option.{same_Some}
 use Rattle.gx_values.specs.declared.values.Value.{Value}
 use Rattle.gx_values.specs.declared.records.Rec.{Rec}
 use Rattle.gx_values.specs.Values.{Fits}
 use Rattle.gx_ports.specs.LeafMaps.{LeafMap}
 use Rattle.gx_mapping.specs.Rule.{Rule, In}
-use Rattle.gx_gather.proofs.Lists.{in_right, in_cases, some_same, none_some}
+use Rattle.gx_gather.proofs.Lists.{in_right, in_cases, none_some}
 use Rattle.gx_stack.specs.Tree.{Tree, leaves_of, entries_of, entry_total}
 use Rattle.gx_stack.specs.Internal.{IfThere, HasSet}
 use Rattle.gx_links.specs.Links.{members_of, most_members}
@@ -148,9 +149,9 @@ module _ {M : Type 0} (rule : M → Rule) (heads nexts : Tree M) (valid : IsRing
         go o all [] split few e more = absurd (none_some next (sym e))
         go o all (y ∷ rest) split few e more = record {
           rest = rest;
-          split = split ∙ sym (append_assoc step.passed (at ∷ []) (y ∷ rest)) ∙ ap (λ z. (step.passed ++ at ∷ []) ++ z ∷ rest) (sym (some_same next y e));
+          split = split ∙ sym (append_assoc step.passed (at ∷ []) (y ∷ rest)) ∙ ap (λ z. (step.passed ++ at ∷ []) ++ z ∷ rest) (sym (same_Some next y e));
           few_steps =
-              let same : entry_total rule nexts (chain o (next ∷ rest)) ≡ entry_total rule nexts (chain o (y ∷ rest)) = ap (λ z. entry_total rule nexts (chain o (z ∷ rest))) (some_same next y e) in
+              let same : entry_total rule nexts (chain o (next ∷ rest)) ≡ entry_total rule nexts (chain o (y ∷ rest)) = ap (λ z. entry_total rule nexts (chain o (z ∷ rest))) (same_Some next y e) in
               let longer : length (step.passed ++ at ∷ []) * length (leaves_of nexts) ≡ length step.passed * length (leaves_of nexts) + length (leaves_of nexts) = ap (λ n. n * length (leaves_of nexts)) (let e : length (step.passed ++ at ∷ []) ≡ suc (length step.passed) = omega (arith, length-append step.passed (at ∷ [])) in e) ∙ suc-mul (length step.passed) (length (leaves_of nexts)) in
               let this : entry_total rule nexts (chain o (at ∷ y ∷ rest)) ≡ length (entries_of rule nexts (chain_rec o at (first (y ∷ rest)))) + entry_total rule nexts (chain o (y ∷ rest)) = sum_by-cons (λ r. length (entries_of rule nexts r)) (chain_rec o at (first (y ∷ rest))) (chain o (y ∷ rest)) in
               omega (arith, few, more, same, longer, this);

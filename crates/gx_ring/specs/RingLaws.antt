@@ -2,24 +2,26 @@
 use Rattle.std.proofs.Common.{◌≡◌, ◌<◌, ℕ, suc, pos, List, [], ◌∷◌, ◌⊎◌, inl, inr, Option, Some, None, refl, sym, ap, subst, ◌∙◌, get_or, true, arith}
 use Rattle.std.specs.FinMap as fin
 use Rattle.std.specs.declared.cmp.Ordering.TheVariants.{Less}
+use Rattle.std.proofs.lemmas.Option.{same_Some}
 use Rattle.gx_values.specs.declared.values.Kind.{Kind}
 use Rattle.gx_values.specs.declared.values.Kind.TheVariants as kind
 use Rattle.gx_values.specs.declared.values.Value.{Value}
 use Rattle.gx_values.specs.declared.values.Value.TheVariants as value
 use Rattle.gx_values.specs.declared.records.Form.{Form}
 use Rattle.gx_values.specs.declared.records.Rec.{Rec}
-use Rattle.gx_values.specs.Values.{value_cmp, Fits}
+use Rattle.gx_values.specs.Values.{value_cmp, Fits, no_value}
 use Rattle.gx_values.specs.Keys.{bytes_of}
 use Rattle.gx_values.proofs.KeyLemmas.{fit_bytes}
 use Rattle.gx_values.proofs.OrderLemmas.{value_cmp_total}
 use Rattle.gx_mapping.specs.declared.parts.Part.{Part}
 use Rattle.gx_mapping.specs.Rule.{Rule, In, IsOf}
 use Rattle.gx_mapping.specs.Laws.{MappingLaws}
+use Rattle.gx_mapping.proofs.RuleLemmas.{all_in}
 use Rattle.gx_gather.specs.Gather.{part_for}
-use Rattle.gx_gather.proofs.Lists.{in_each, from_each, in_map, from_map, all_at, some_same, none_some}
+use Rattle.gx_gather.proofs.Lists.{in_each, from_each, in_map, from_map, none_some}
 use Rattle.gx_gather.proofs.Orders.{Ascends, not_before_itself}
 use Rattle.gx_stack.specs.Tree.{Tree, tree_form}
-use Rattle.gx_links.specs.Kinds.{kinds_of, no_value}
+use Rattle.gx_links.specs.Kinds.{kinds_of}
 use Rattle.gx_links.specs.Links.{Link, members_of, owners_of}
 use Rattle.gx_links.specs.Linksets.{LinksetLaws}
 use Rattle.gx_links.specs.Rows.{link_parts, two_forms, RowLaws, IsHeldLink, two_nodes, owner_kind, member_kind}
@@ -80,13 +82,13 @@ chain_once o (m ∷ ms) up r s (inl a) (inr k) e =
     ap (λ ks. get_or ks 0 no_value) (sym e) ∙ ap key_value a ∙ tells o m (first ms) in
     absurd (not_before_itself value_cmp_total m
     (subst (λ z. value_cmp m z ≡ Less) same
-    (all_at _ ms (key_value s) up.0 (in_chain o ms s k))))
+    (all_in _ ms (key_value s) up.0 (in_chain o ms s k))))
 chain_once o (m ∷ ms) up r s (inr h) (inl b) e =
     let same : key_value r ≡ m =
     ap (λ ks. get_or ks 0 no_value) e ∙ ap key_value b ∙ tells o m (first ms) in
     absurd (not_before_itself value_cmp_total m
     (subst (λ z. value_cmp m z ≡ Less) same
-    (all_at _ ms (key_value r) up.0 (in_chain o ms r h))))
+    (all_in _ ms (key_value r) up.0 (in_chain o ms r h))))
 chain_once o (m ∷ ms) up r s (inr h) (inr k) e = chain_once o ms up.1 r s h k e
 
 -- ---- the rows of one owner
@@ -156,7 +158,7 @@ pub chained_once : (link : Link) (o q : Value) (r s : Rec) → In r (chain o (me
     → In s (chain q (members_of link q)) → r.key ≡ s.key → r ≡ s
 chained_once link o q r s h k e =
     let owners : q ≡ o =
-    some_same q o
+    same_Some q o
     (sym (owned_in_chain link q s k) ∙ ap (λ ks. fin.get link (get_or ks 0 no_value))
     (sym e) ∙ owned_in_chain link o r h) in
     chain_once o (members_of link o) (members_ascend link o) r s h
@@ -241,7 +243,7 @@ module _ (owner member : Kind) (heads nexts : Form) (head_keys : kinds_of heads.
     where
       first_in : (xs : List Value) (x : Value) → first xs ≡ Some x → In x xs
       first_in [] x is = absurd (none_some x is)
-      first_in (y ∷ xs) x is = inl (sym (some_same y x is))
+      first_in (y ∷ xs) x is = inl (sym (same_Some y x is))
   fits_in_chain o (m ∷ ms) r fit_o fit_ms (inr h) =
       fits_in_chain o ms r fit_o (λ x k. fit_ms x (inr k)) h
 

@@ -4,7 +4,7 @@ ghost use Rattle.gx_values.specs.declared.values.Value.TheVariants as value;
 ghost use Rattle.gx_values.specs.Keys.{bytes_of};
 ghost use Rattle.std.specs.Option.{option_map};
 ghost use Rattle.gx_stack.specs.Internal.{IfThere};
-ghost use Rattle.gx_links.specs.Kinds.{no_value};
+ghost use Rattle.gx_values.specs.Values.{no_value};
 ghost use Rattle.gx_ring.specs.Ring.{head_rec, chain_rec, head_if};
 ghost use Rattle.gx_ring.specs.Records.{IsKeyValue, IsBehind};
 ghost use Rattle.gx_values.specs.Keys.{IsKeyKind};

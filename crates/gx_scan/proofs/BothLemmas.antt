@@ -6,6 +6,8 @@ use Rattle.std.specs.List.{AllByRecursion}
 use Rattle.std.specs.Option.{option_map}
 use Rattle.std.proofs.lemmas.List.{take_all, take_more, drop_all, length-map}
 use Rattle.std.proofs.lemmas.List.Sorted.{IsPermutation-refl}
+use Rattle.std.proofs.lemmas.Option.{same_Some}
+use Rattle.gx_laws.proofs.ListLemmas.{turned_at}
 use Rattle.gx_values.specs.declared.values.Code.{Code}
 use Rattle.gx_values.specs.declared.values.Value.{Value}
 use Rattle.gx_values.specs.declared.values.Value.TheVariants as value
@@ -20,7 +22,7 @@ use Rattle.gx_ports.specs.LeafMaps.{LeafMap, map_at, entry_of, selected, counted
 use Rattle.gx_actual.specs.Bodies.{body_of}
 use Rattle.gx_split.specs.Groups.{chosen, defaults_of}
 use Rattle.gx_split.specs.GroupLaws.{fit_length}
-use Rattle.gx_gather.proofs.Lists.{some_same, none_some, bool_cases}
+use Rattle.gx_gather.proofs.Lists.{none_some, bool_cases}
 use Rattle.gx_stack.specs.Tree.{Tree, leaves_of}
 use Rattle.gx_types.specs.declared.any.AnyMapping.{AnyMapping}
 use Rattle.gx_model.specs.States.{File, Row}
@@ -32,7 +34,7 @@ use Rattle.gx_scan.proofs.CodeLemmas.{nothing_stored}
 use Rattle.gx_scan.specs.Records.{list_of_one}
 use Rattle.gx_scan.specs.Steps.{HaveAtMost, rows_inside}
 use Rattle.gx_scan.proofs.GroupLemmas.{firsts_stored, others_stored, rows_split_inside, steps_inside}
-use Rattle.gx_scan.proofs.JoinLemmas.{joined_at, chosen_next, not_at, defaults_there}
+use Rattle.gx_scan.proofs.JoinLemmas.{joined_at, chosen_next, defaults_there}
 use Rattle.gx_scan.proofs.KeyLemmas.{one_at_key, row_found, steps_at_key}
 use Rattle.gx_scan.proofs.StepLemmas.{counted_most}
 
@@ -77,7 +79,7 @@ split_at fields mask vs i f b fit lt long item at =
       others = chosen_next (map not mask) vs i d (not b)
           (omega (arith, lt, long, length-map mask not))
           (omega (arith, long, many, length-map mask not))
-          (not_at mask i b (omega (arith, lt, long)) at)
+          (turned_at mask i b (omega (arith, lt, long)) at)
           ∙ not_cond b v (chosen (drop (i + 1) (map not mask)) (drop (i + 1) vs));
       more = take_more vs i d (omega (arith, lt, many));
     }
@@ -117,7 +119,7 @@ module _ (g : Groups) (fields : List Field) (r : Row) (es : List Entry)
       ∷ map (λ (q : Row). entry_of (other_stored g q)) (cond b (r ∷ []) [])) e
 
   pub first_read : (e : Entry) → slice_get es 0 ≡ Some e → e.body ≡ (first_stored g r).1
-  first_read e at = ap (λ (x : Entry). x.body) (some_same e (entry_of (first_stored g r))
+  first_read e at = ap (λ (x : Entry). x.body) (same_Some e (entry_of (first_stored g r))
       (sym at ∙ ap (λ (l : List Entry). slice_get l 0) is))
 
   pub others_read : (e : Entry) → slice_get es 1 ≡ Some e
@@ -125,7 +127,7 @@ module _ (g : Groups) (fields : List Field) (r : Row) (es : List Entry)
   others_read e at = elim (bool_cases (has g fields r)) [
     | inl some ↦ (
       some,
-      ap (λ (x : Entry). x.body) (some_same e (entry_of (other_stored g r))
+      ap (λ (x : Entry). x.body) (same_Some e (entry_of (other_stored g r))
           (sym at ∙ ap (λ (l : List Entry). slice_get l 1) (some_others true some))),
     )
     | inr none ↦ absurd (none_some e

@@ -11,11 +11,11 @@ use Rattle.gx_values.specs.declared.values.Kind.TheVariants as kind
 use Rattle.gx_values.specs.declared.values.Value.{Value}
 use Rattle.gx_values.specs.declared.values.Value.TheVariants as value
 use Rattle.gx_values.specs.declared.records.Field.{Field}
-use Rattle.gx_values.specs.Values.{Fits, AreFit}
+use Rattle.gx_values.specs.Values.{Fits, AreFit, no_value}
 use Rattle.gx_actual.specs.Bodies.{field_bytes, body_of}
 use Rattle.gx_mapping.proofs.FieldLemmas.{fit_length}
 use Rattle.gx_encode.specs.Codes.{code_of, IsCodable}
-use Rattle.gx_encode.specs.Forms.{changed, no_value}
+use Rattle.gx_encode.specs.Forms.{changed}
 use Rattle.gx_encode.specs.Rules.{coded}
 use Rattle.gx_encode.specs.PackLaws.{short_pack}
 use Rattle.gx_encode.specs.Runs.{runs_of, joined, AreShort, IsCoded}

@@ -10,12 +10,13 @@ use Rattle.std.proofs.lemmas.Bool.{eq-eqb, ne_eqb}
 use Rattle.std.proofs.lemmas.List.{length-map, get_or-map}
 use Rattle.std.proofs.lemmas.List.Sorted.{IsPermutation-refl}
 use Rattle.std.proofs.lemmas.List.Sums.{sum_by-cons}
+use Rattle.std.proofs.lemmas.Option.{same_Some}
 use Rattle.gx_values.specs.declared.values.Value.{Value}
 use Rattle.gx_values.specs.declared.records.Field.{Field}
 use Rattle.gx_values.specs.declared.records.Form.{Form}
 use Rattle.gx_values.specs.declared.records.Rec.{Rec}
 use Rattle.gx_values.specs.declared.keys.Span.{Span}
-use Rattle.gx_values.specs.Values.{value_cmp, Fits, AreFit}
+use Rattle.gx_values.specs.Values.{value_cmp, Fits, AreFit, no_field, no_value}
 use Rattle.gx_values.specs.Keys.{bytes_of}
 use Rattle.gx_values.proofs.OrderLemmas.{value_cmp_same}
 use Rattle.gx_schema.specs.declared.schema.FileDef.{FileDef}
@@ -24,7 +25,8 @@ use Rattle.gx_ports.specs.declared.leaves.Entry.{Entry}
 use Rattle.gx_ports.specs.LeafMaps.{LeafMap, map_at, entry_of, selected}
 use Rattle.gx_mapping.specs.declared.parts.Part.{Part}
 use Rattle.gx_mapping.specs.Rule.{Rule, In, IsOf}
-use Rattle.gx_split.specs.Forms.{no_field, no_value, column_form}
+use Rattle.gx_mapping.proofs.RuleLemmas.{all_in}
+use Rattle.gx_split.specs.Forms.{column_form}
 use Rattle.gx_split.specs.GroupLaws.{fit_length}
 use Rattle.gx_split.specs.TransposeRules.{column_part, columns, transpose_rule}
 use Rattle.gx_stack.specs.declared.entries.LeafEntry.{LeafEntry}
@@ -32,8 +34,9 @@ use Rattle.gx_stack.specs.Tree.{Tree, Kids, layer, kid, no_kids, kid_count, leav
 use Rattle.gx_stack.specs.Internal.{IsUnion, parts_for, child_records, AreInternal}
 use Rattle.gx_stack.specs.Internal.{IsInternal as IsHeld}
 use Rattle.gx_stack.proofs.Children.{union_from_internal}
-use Rattle.gx_gather.proofs.Lists.{in_left, in_right, in_map, from_map, in_filter, all_at, all_of, in_contains, some_same, none_some}
+use Rattle.gx_gather.proofs.Lists.{in_left, in_right, in_map, from_map, in_filter, all_of, in_contains, none_some}
 use Rattle.gx_gather.proofs.Orders.{Ascends}
+use Rattle.gx_gather.proofs.Entries.{find_in}
 use Rattle.gx_types.specs.declared.any.AnyMapping.{AnyMapping}
 use Rattle.gx_types.specs.Any.{any_rule}
 use Rattle.gx_model.specs.States.{File, Row, IsRowOf}
@@ -44,7 +47,7 @@ use Rattle.gx_scan.specs.Steps.{HaveAtMost, is_key_inside, rows_inside}
 use Rattle.gx_scan.specs.Entries.{ArePlaces, entry_of_row}
 use Rattle.gx_scan.specs.Stored.{HaveCodes}
 use Rattle.gx_scan.specs.Columns.{AreColumns, ArePlacesOfKids, AreColumnEntries, column_row, column_entry}
-use Rattle.gx_scan.proofs.FileLemmas.{find_in, set_of}
+use Rattle.gx_scan.proofs.FileLemmas.{set_of}
 use Rattle.gx_scan.proofs.EntryLemmas.{filter_map, map_joined, span_entries}
 use Rattle.gx_scan.proofs.GroupLemmas.{alone_coded, alone_some, alone_entries}
 use Rattle.gx_scan.proofs.KeyLemmas.{one_at_key, row_found, steps_at_key}
@@ -235,7 +238,7 @@ module _ (file : FileDef) (t : Tree AnyMapping) (ps : List Place) (leaves : ℕ)
   held = subst (λ t. IsHeld any_rule t (records_of f) maps) are.tree is.held
 
   pub row_fit : (r : Row) → In r all_rows → IsRowOf file r
-  row_fit r h = all_at (IsRowOf file) all_rows r is.fit h
+  row_fit r h = all_in (IsRowOf file) all_rows r is.fit h
 
   row_of_tree : (r : Row) → In r all_rows → IsOf form (rec_of r)
   row_of_tree r h = subst (λ form. IsOf form (rec_of r)) (sym tree.form)
@@ -425,7 +428,7 @@ module _ (file : FileDef) (t : Tree AnyMapping) (ps : List Place) (leaves : ℕ)
       pub body_found : (vs : List Value) → fin.get f k ≡ Some vs → (e : Entry)
           → slice_get es 0 ≡ Some e → e.body ≡ (column_entry p c (k, vs)).1
       body_found vs found e at = ap (λ (x : Entry). x.body)
-          (some_same e (entry_of (column_entry p c (k, vs)))
+          (same_Some e (entry_of (column_entry p c (k, vs)))
           (sym at ∙ ap (λ (l : List Entry). slice_get l 0) (one_found vs found)))
 
       -- where nothing is found there is no record

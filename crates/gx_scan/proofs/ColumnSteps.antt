@@ -5,11 +5,13 @@ use Rattle.std.specs.List.{AllByRecursion}
 use Rattle.std.proofs.lemmas.Grind.{flat_map-append}
 use Rattle.std.proofs.lemmas.List.{length-map, take_all, take_more}
 use Rattle.std.proofs.lemmas.List.Elements.{filter-append}
+use Rattle.std.proofs.lemmas.Option.{same_Some}
+use Rattle.gx_laws.proofs.ListLemmas.{get_or_any}
 use Rattle.gx_values.specs.declared.values.Code.{Code}
 use Rattle.gx_values.specs.declared.values.Value.{Value}
 use Rattle.gx_values.specs.declared.records.Field.{Field}
 use Rattle.gx_values.specs.declared.records.Form.{Form}
-use Rattle.gx_values.specs.Values.{Fits, AreFit}
+use Rattle.gx_values.specs.Values.{Fits, AreFit, no_field, no_value}
 use Rattle.gx_values.specs.Keys.{bytes_of, IsKeyKind, AreKeyFields}
 use Rattle.gx_schema.specs.declared.schema.FileDef.{FileDef}
 use Rattle.gx_schema.specs.Lookups.{data_fields}
@@ -19,7 +21,6 @@ use Rattle.gx_ports.specs.Calls.{ReadsMaps}
 use Rattle.gx_ports.specs.declared.view.View.{Ghosts}
 use Rattle.gx_actual.specs.Bodies.{field_bytes, body_of}
 use Rattle.gx_mapping.specs.Rule.{Rule}
-use Rattle.gx_split.specs.Forms.{no_field, no_value}
 use Rattle.gx_split.specs.GroupLaws.{fit_length}
 use Rattle.gx_split.specs.TransposeRules.{transpose_rule, form_of, rule_of}
 use Rattle.gx_split.specs.declared.layer.Transpose.{Transpose}
@@ -30,7 +31,7 @@ use Rattle.gx_stack.specs.Tree.{tree_form, IsValid}
 use Rattle.gx_stack.specs.Seen.{tree_of, kids_from}
 use Rattle.gx_stack.proofs.PassLemmas.{Passes}
 use Rattle.gx_stack.proofs.Seen.{seen_layer, layer_form, count_kids, child_there, child_valid}
-use Rattle.gx_gather.proofs.Lists.{some_same, none_some}
+use Rattle.gx_gather.proofs.Lists.{none_some}
 use Rattle.gx_types.specs.declared.any.AnyMapping.{AnyMapping}
 use Rattle.gx_types.specs.declared.any.AnyMapping.TheVariants as any
 use Rattle.gx_types.specs.Any.{any_rule}
@@ -42,7 +43,7 @@ use Rattle.gx_scan.specs.Columns.{AreColumns, ArePlacesOfKids, AreColumnEntries,
 use Rattle.gx_scan.proofs.BothLemmas.{stored_front}
 use Rattle.gx_scan.proofs.CodeLemmas.{nothing_stored}
 use Rattle.gx_scan.proofs.ColumnLemmas.{place_at, places_many, value_fits}
-use Rattle.gx_scan.proofs.PlaceLemmas.{kids_many, get_or_any}
+use Rattle.gx_scan.proofs.PlaceLemmas.{kids_many}
 use Rattle.gx_scan.proofs.ScanLemmas.{row_of}
 
 -- ---- the places of the children, one after the other
@@ -145,7 +146,7 @@ field_fits fields fs vs i f same fit lt item =
 get_mapped : {A B : Type 0} (f : A → B) (xs : List A) (i : ℕ) (x : A) → slice_get xs i ≡ Some x
     → slice_get (map f xs) i ≡ Some (f x)
 get_mapped f [] i x h = absurd (none_some x h)
-get_mapped f (y ∷ xs) zero x h = ap (λ z. Some (f z)) (some_same y x h)
+get_mapped f (y ∷ xs) zero x h = ap (λ z. Some (f z)) (same_Some y x h)
 get_mapped f (y ∷ xs) (suc i) x h = get_mapped f xs i x h
 
 -- the entry of a record in a column

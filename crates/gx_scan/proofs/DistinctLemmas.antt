@@ -3,8 +3,9 @@ use Rattle.std.proofs.Common.{[], ◌≡◌, ℕ, zero, suc, ◌<◌, ◌≤◌,
 use Rattle.std.specs.Prelude.{filter}
 use Rattle.std.specs.List.Sorted.{IsPermutation}
 use Rattle.std.proofs.lemmas.List.Sorted.{IsPermutation-refl, IsPermutation-sym, IsPermutation-trans, IsPermutation-cons, IsPermutation-middle}
+use Rattle.gx_laws.proofs.NumberLemmas.{nat_cases}
 use Rattle.gx_mapping.specs.Rule.{In}
-use Rattle.gx_gather.proofs.Lists.{in_left, in_right, in_cases, in_filter, nat_cases}
+use Rattle.gx_gather.proofs.Lists.{in_left, in_right, in_cases, in_filter, in_or_not}
 
 abbrev pub AreDistinct : {A : Type 0} → List A → Type 0
 AreDistinct [] = Unit {0}
@@ -67,16 +68,6 @@ distinct_filter {A = A} p (x ∷ xs) d = go (p x) (distinct_filter p xs d.1)
     go false rest = rest
 
 -- ---- numbers below another one
-
-in_or_not : (n : ℕ) (xs : List ℕ) → In n xs ⊎ (In n xs → ⊥)
-in_or_not n [] = inr (λ h. h)
-in_or_not n (x ∷ xs) = elim (nat_cases n x) [
-  | inl e ↦ inl (inl e)
-  | inr ne ↦ elim (in_or_not n xs) [
-    | inl h ↦ inl (inr h)
-    | inr absent ↦ inr (λ h. elim h [ inl e ↦ ne e | inr k ↦ absent k ])
-  ]
-]
 
 below_last : (n x : ℕ) → x < suc n → (x ≡ n → ⊥) → x < n
 below_last n x lt ne = elim (nat_cases x n) [ inl e ↦ absurd (ne e) | inr other ↦ omega (arith, lt, other) ]

@@ -1,5 +1,5 @@
 -- What is read of the entries of records.
-use Rattle.std.proofs.Common.{[], ◌≡◌, ℕ, zero, suc, ◌+◌, ◌*◌, ◌<◌, ◌≤◌, List, ◌∷◌, ◌++◌, length, take, drop, get_or, map, cond, Bool, true, false, Option, Some, refl, sym, ap, subst, ◌∙◌, arith, append-nil, length-append}
+use Rattle.std.proofs.Common.{[], ◌≡◌, ℕ, zero, suc, ◌+◌, ◌*◌, ◌<◌, ◌≤◌, List, ◌∷◌, ◌++◌, length, take, drop, get_or, map, cond, Bool, true, false, Option, Some, refl, ap, subst, ◌∙◌, arith, append-nil, length-append}
 use Rattle.std.proofs.lemmas.List.{length-map}
 use Rattle.std.proofs.Math.Seq.{drop-append-add}
 use Rattle.std.specs.Prelude.{filter}
@@ -12,12 +12,12 @@ use Rattle.gx_values.specs.declared.values.Value.{Value}
 use Rattle.gx_values.specs.declared.values.Value.TheVariants as value
 use Rattle.gx_values.specs.declared.records.Field.{Field}
 use Rattle.gx_values.specs.declared.records.Rec.{Rec}
-use Rattle.gx_values.specs.Values.{Fits, AreFit}
-use Rattle.gx_values.specs.Keys.{bytes_of, is_inside, IsKeyKind}
+use Rattle.gx_values.specs.Values.{Fits, AreFit, no_field}
+use Rattle.gx_values.specs.Keys.{bytes_of, is_inside}
 use Rattle.gx_values.specs.Written.{AreRead, IsRead}
-use Rattle.gx_values.proofs.OrderLemmas.{value_prefix_free}
+use Rattle.gx_values.proofs.OrderLemmas.{same_by_bytes}
 use Rattle.gx_schema.specs.declared.schema.FileDef.{FileDef}
-use Rattle.gx_schema.specs.Lookups.{no_field, key_kind, data_fields}
+use Rattle.gx_schema.specs.Lookups.{key_kind, data_fields}
 use Rattle.gx_ports.specs.declared.leaves.Entry.{Entry}
 use Rattle.gx_ports.specs.LeafMaps.{LeafMap, entry_of, selected}
 use Rattle.gx_actual.specs.Bodies.{field_bytes, body_of}
@@ -29,11 +29,6 @@ use Rattle.gx_scan.specs.Entries.{wrapped, entry_of_row, IsStoredRow}
 
 -- ---- one record
 
--- one more that fits
-pub all_more : {A : Type 0} (P : A → Type 0) (xs : List A) (x : A) → AllByRecursion P xs → P x → AllByRecursion P (xs ++ x ∷ [])
-all_more P [] x all p = (p, tt)
-all_more P (y ∷ xs) x all p = (all.0, all_more P xs x all.1 p)
-
 first_kind : (fs : List Field) (d : Field) → 0 < length fs → d ≡ get_or fs 0 d → d.kind ≡ (get_or fs 0 no_field).kind
 first_kind [] d some is = absurd (omega arith)
 first_kind (f ∷ fs) d some is = ap (λ (g : Field). g.kind) is
@@ -44,14 +39,11 @@ kind_is file d is at = first_kind file.fields d is.keyed at
 pub key_fits : (file : FileDef) (k : Kind) (bytes : List ℕ) (key : Value) → k ≡ key_kind file → IsRead bytes_of k bytes (Some key) → Fits (key_kind file) key
 key_fits file k bytes key same read = subst (λ (j : Kind). Fits j key) same read.0
 
-pub same_key : (k : Kind) (v w : Value) → IsKeyKind k → Fits k v → Fits k w → bytes_of v ≡ bytes_of w → v ≡ w
-same_key k v w key f g e = (value_prefix_free k key v w [] [] f g (append-nil (bytes_of v) ∙ e ∙ sym (append-nil (bytes_of w)))).0
-
 pub key_read : (file : FileDef) (k : Kind) (bytes : List ℕ) (key : Value) (r : Row)
     → IsStorable file → k ≡ key_kind file → bytes ≡ bytes_of r.0
     → IsRead bytes_of k bytes (Some key) → IsRowOf file r → key ≡ r.0
 key_read file k bytes key r is same be read fit =
-    same_key (key_kind file) key r.0 is.key (key_fits file k bytes key same read) fit.0
+    same_by_bytes (key_kind file) key r.0 is.key (key_fits file k bytes key same read) fit.0
     (read.1 ∙ be)
 
 -- what is read of a record's entry is the record

@@ -1,85 +1,38 @@
 -- The records of a file as a set of records, and what a selection of them finds.
-use Rattle.std.proofs.Common.{[], ◌≡◌, ℕ, ◌<◌, List, ◌∷◌, ◌++◌, ◌⊎◌, length, take, get_or, cond, Bool, true, false, Option, Some, None, inl, inr, refl, sym, ap, subst, ◌∙◌, arith, append-nil, length-append}
-use Rattle.std.specs.Prelude.{T, ◌≢◌}
+use Rattle.std.proofs.Common.{[], ◌≡◌, ℕ, ◌<◌, List, ◌∷◌, ◌++◌, length, take, get_or, Option, Some, None, inl, inr, refl, sym, ap, subst, ◌∙◌, arith, append-nil, length-append}
 use Rattle.std.specs.Option.{option_map}
-use Rattle.std.specs.Ordering.{is_eq, eq_by_cmp, ordering_reverse}
-use Rattle.std.specs.declared.cmp.Ordering.{Ordering}
-use Rattle.std.specs.declared.cmp.Ordering.TheVariants.{Less, Equal, Greater}
-use Rattle.std.specs.Cmp.{IsTotalOrder, tied_itself}
+use Rattle.std.specs.Ordering.{is_eq, eq_by_cmp}
 use Rattle.std.specs.FinMap as fin
-use Rattle.std.specs.FinMap.Entries.{below_all}
-use Rattle.std.proofs.lemmas.Bool.{true≢false, false_from_ne_true}
+use Rattle.std.proofs.lemmas.Option.{same_Some}
 use Rattle.gx_values.specs.declared.values.Value.{Value}
 use Rattle.gx_values.specs.declared.records.Field.{Field}
 use Rattle.gx_values.specs.declared.records.Rec.{Rec}
 use Rattle.gx_values.specs.declared.keys.Span.{Span}
-use Rattle.gx_values.specs.Values.{value_cmp, Fits, AreFit}
+use Rattle.gx_values.specs.Values.{value_cmp, Fits, AreFit, no_field}
 use Rattle.gx_values.specs.Keys.{bytes_of, key_of, is_inside, IsKeyKind, AreKeyFields}
-use Rattle.gx_values.proofs.OrderLemmas.{inside_one, key_order, keys_prefix, value_cmp_total, value_cmp_same}
+use Rattle.gx_values.proofs.OrderLemmas.{inside_one, key_order, keys_prefix, value_cmp_total, value_cmp_same, same_value, value_itself}
 use Rattle.gx_schema.specs.declared.schema.FileDef.{FileDef}
-use Rattle.gx_schema.specs.Lookups.{no_field, key_kind}
+use Rattle.gx_schema.specs.Lookups.{key_kind}
 use Rattle.gx_mapping.specs.Rule.{In, IsOf}
+use Rattle.gx_mapping.proofs.RuleLemmas.{all_in}
 use Rattle.gx_stack.specs.Internal.{IsSet}
 use Rattle.gx_gather.specs.Gather.{rec_cmp}
 use Rattle.gx_stack.specs.Selected.{IsKeySpan, IsSelection}
-use Rattle.gx_stack.proofs.LeafRead.{is_less}
-use Rattle.gx_gather.proofs.Lists.{in_map, from_map, all_at, some_same, none_some, bool_cases}
+use Rattle.gx_gather.proofs.Lists.{in_map, from_map}
 use Rattle.gx_gather.proofs.Orders.{Ascends, ascends, ascends_unique, rec_total}
+use Rattle.gx_gather.proofs.Entries.{find_in, in_find}
 use Rattle.gx_typing.specs.Dues.{file_form}
 use Rattle.gx_model.specs.States.{File, Row, IsRowOf, IsFileOf}
 use Rattle.gx_scan.specs.Files.{rec_of, records_of}
-use Rattle.gx_ports.proofs.KeyedLemmas.{first_of_both, second_of_both}
 use Rattle.gx_scan.specs.Records.{record_at, list_of_one}
 
 -- ---- orders
-
-is_equal : (r : Ordering) → is_eq r ≡ true → r ≡ Equal
-is_equal Less e = cc
-is_equal Equal e = refl
-is_equal Greater e = cc
-
-pub same_value : (k q : Value) → eq_by_cmp value_cmp k q ≡ true → k ≡ q
-same_value k q e = value_cmp_same k q (is_equal (value_cmp k q) e)
-
-pub value_itself : (k : Value) → eq_by_cmp value_cmp k k ≡ true
-value_itself k = ap is_eq (tied_itself value_cmp_total k)
-
-pub other_value : (k q : Value) → k ≢ q → eq_by_cmp value_cmp k q ≡ false
-other_value k q ne = false_from_ne_true _ (λ e. ne (same_value k q e))
-
-pub value_cases : (k q : Value) → (k ≡ q) ⊎ (k ≢ q)
-value_cases k q = elim (bool_cases (eq_by_cmp value_cmp k q)) [
-  | inl e ↦ inl (same_value k q e)
-  | inr e ↦ inr (λ is. true≢false (sym (value_itself k) ∙ ap (eq_by_cmp value_cmp k) is ∙ e))
-]
 
 -- keys of one value
 pub one_key : (k q : Value) → k ∷ [] ≡ q ∷ [] → k ≡ q
 one_key k q e = ap (λ (l : List Value). get_or l 0 k) e
 
 -- ---- rows and look-ups
-
-pub below_in : {K X : Type 0} (R : K → K → Ordering) (x : K) (es : List (K × X)) (r : K × X) → T (below_all R x es) → In r es → R x r.0 ≡ Less
-below_in R x [] r h there = absurd there
-below_in {K} {X} R x (s ∷ es) r h (inl same) = subst (λ (q : K × X). R x q.0 ≡ Less) (sym same) (is_less _ (first_of_both _ _ h))
-below_in R x (s ∷ es) r h (inr there) = below_in R x es r (second_of_both _ _ h) there
-
-module _ {K X : Type 0} {R : K → K → Ordering} where
-  pub find_in : fin.IsAntisymmetric R → (k : K) (v : X) (es : List (K × X)) → fin.find R k es ≡ Some v → In (k, v) es
-  find_in same k v [] e = none_some v e
-  find_in same k v (r ∷ es) e = go (eq_by_cmp R k r.0) refl e (λ f. find_in same k v es f)
-    where
-      go : (b : Bool) → eq_by_cmp R k r.0 ≡ b → cond b (Some r.1) (fin.find R k es) ≡ Some v → (fin.find R k es ≡ Some v → In (k, v) es) → In (k, v) (r ∷ es)
-      go true t f more = inl (λ i. (same k r.0 (is_equal (R k r.0) t) i, sym (some_same r.1 v f) i))
-      go false t f more = inr (more f)
-
-  pub in_find : IsTotalOrder R → (r : K × X) (es : List (K × X)) → T (fin.is_sorted R es) → In r es → fin.find R r.0 es ≡ Some r.1
-  in_find total r [] h there = absurd there
-  in_find total r (s ∷ es) h (inl same) =
-      ap (λ b. cond b (Some s.1) (fin.find R r.0 es)) (subst (λ (q : K × X). eq_by_cmp R r.0 q.0 ≡ true) same (ap is_eq (tied_itself total r.0))) ∙ ap (λ (q : K × X). Some q.1) (sym same)
-  in_find total r (s ∷ es) h (inr there) =
-      let above : R r.0 s.0 ≡ Greater = total.antisymm r.0 s.0 ∙ ap ordering_reverse (below_in R s.0 es r (first_of_both _ _ h) there) in
-      ap (λ o. cond (is_eq o) (Some s.1) (fin.find R r.0 es)) above ∙ in_find total r es (second_of_both _ _ h) there
 
 -- a record of the file, as a look-up finds it
 pub record IsThere (f : File) (q : Rec) : Type 0 where
@@ -113,12 +66,12 @@ row_fits file r keyed fit = record { key = key_fits file.fields r.0 keyed fit.0;
 
 pub set_of : (file : FileDef) (f : File) → 0 < length file.fields → IsFileOf file f → IsSet (file_form file) (records_of f)
 set_of file f keyed fit = record {
-  fits = λ q h. let r = from_map rec_of q (fin.entries f) h in subst (IsOf (file_form file)) (sym r.2) (row_fits file r.0 keyed (all_at (IsRowOf file) (fin.entries f) r.0 fit r.1));
+  fits = λ q h. let r = from_map rec_of q (fin.entries f) h in subst (IsOf (file_form file)) (sym r.2) (row_fits file r.0 keyed (all_in (IsRowOf file) (fin.entries f) r.0 fit r.1));
   one = λ q s h i e.
       let a = in_there f q h in
       let b = in_there f s i in
       let keys : a.key ≡ b.key = one_key a.key b.key (sym (ap (λ (x : Rec). x.key) a.is) ∙ e ∙ ap (λ (x : Rec). x.key) b.is) in
-      let values : a.values ≡ b.values = some_same a.values b.values (sym a.found ∙ ap (fin.get f) keys ∙ b.found) in
+      let values : a.values ≡ b.values = same_Some a.values b.values (sym a.found ∙ ap (fin.get f) keys ∙ b.found) in
       a.is ∙ (λ j. rec_of (keys j, values j)) ∙ sym b.is;
 }
 

@@ -21,6 +21,7 @@ use Rattle.gx_schema.specs.Lookups.{key_kind, data_fields}
 use Rattle.gx_ports.specs.declared.leaves.Entry.{Entry}
 use Rattle.gx_ports.specs.LeafMaps.{LeafMap, map_at, entry_of, selected}
 use Rattle.gx_mapping.specs.Rule.{Rule, In, IsOf}
+use Rattle.gx_mapping.proofs.RuleLemmas.{all_in}
 use Rattle.gx_split.specs.Groups.{chosen}
 use Rattle.gx_split.specs.GroupLaws.{chosen_fit}
 use Rattle.gx_split.specs.Forms.{segment_form}
@@ -37,8 +38,9 @@ use Rattle.gx_stack.specs.Tree.{Tree, layer, kid, no_kids, leaves_of, tree_form,
 use Rattle.gx_stack.specs.Internal.{IsUnion, parts_for, child_records}
 use Rattle.gx_stack.specs.Internal.{IsInternal as IsHeld}
 use Rattle.gx_stack.proofs.Children.{union_from_internal}
-use Rattle.gx_gather.proofs.Lists.{in_left, in_right, in_map, from_map, in_each, from_each, in_filter, filter_in, all_at, all_of}
+use Rattle.gx_gather.proofs.Lists.{in_left, in_right, in_map, from_map, in_each, from_each, in_filter, filter_in, all_of}
 use Rattle.gx_gather.proofs.Orders.{Ascends, ascends_filter, ascends_unique}
+use Rattle.gx_gather.proofs.Entries.{find_in, in_find}
 use Rattle.gx_types.specs.declared.any.AnyMapping.{AnyMapping}
 use Rattle.gx_types.specs.Any.{any_rule}
 use Rattle.gx_model.specs.States.{File, Row, IsRowOf}
@@ -49,7 +51,7 @@ use Rattle.gx_scan.specs.Steps.{HaveAtMost, is_key_inside, rows_inside}
 use Rattle.gx_scan.specs.Entries.{below, entry_of_row, data_leaves, IsAlone, ArePlaces}
 use Rattle.gx_scan.specs.Groups.{AreGroups, ArePlain, IsSplitRow, group_row, has_others, first_entry, other_entry, first_stored, other_stored}
 use Rattle.gx_scan.specs.Stored.{HaveCodes}
-use Rattle.gx_scan.proofs.FileLemmas.{find_in, in_find, set_of}
+use Rattle.gx_scan.proofs.FileLemmas.{set_of}
 use Rattle.gx_scan.proofs.EntryLemmas.{filter_map, map_joined, span_entries}
 use Rattle.gx_scan.proofs.ListingLemmas.{filter_twice, same_filter}
 use Rattle.gx_scan.proofs.PlaceLemmas.{kids_many, Pair, pair_cmp, key_cmp, entries_ascend, entry_key, data_in}
@@ -326,7 +328,7 @@ module _ (file : FileDef) (t : Tree AnyMapping) (g : Groups) (leaves : ℕ) (map
       storable.keyed is.fit).fits (rec_of r) (in_map rec_of r all_rows h))
 
   key_of_row : (r : Row) → In r all_rows → Fits (key_kind file) r.0
-  key_of_row r h = (all_at (IsRowOf file) all_rows r is.fit h).0
+  key_of_row r h = (all_in (IsRowOf file) all_rows r is.fit h).0
 
   first_form : tree_form any_rule are.first ≡ segment_form mask (tree_form any_rule t) 0
   first_form = valid.1.0 ∙ ap (λ (rule : Rule). rule.kid_form 0) are.splits
@@ -449,7 +451,7 @@ module _ (file : FileDef) (t : Tree AnyMapping) (g : Groups) (leaves : ℕ) (map
 
   pub rows_fit_inside : (span : Span) → AllByRecursion (IsRowOf file) (rows_inside span f)
   rows_fit_inside span = all_of (IsRowOf file) (rows_inside span f)
-      (λ r h. all_at (IsRowOf file) all_rows r is.fit (in_filter (is_key_inside span) r all_rows
+      (λ r h. all_in (IsRowOf file) all_rows r is.fit (in_filter (is_key_inside span) r all_rows
       h).0)
 
   first_coded : (r : Row) → In r all_rows → HaveCodes g.first.codes (chosen mask r.1)
@@ -471,7 +473,7 @@ module _ (file : FileDef) (t : Tree AnyMapping) (g : Groups) (leaves : ℕ) (map
   pub rows_split_inside : (span : Span) → AllByRecursion (IsSplitRow file g) (rows_inside span f)
   rows_split_inside span = all_of (IsSplitRow file g) (rows_inside span f) (λ r h.
       let there = (in_filter (is_key_inside span) r all_rows h).0 in
-      (all_at (IsRowOf file) all_rows r is.fit there, first_coded r there, other_coded r there))
+      (all_in (IsRowOf file) all_rows r is.fit there, first_coded r there, other_coded r there))
 
   pub rows_order_inside : (span : Span) → Ascends key_cmp (rows_inside span f)
   rows_order_inside span = ascends_filter key_cmp (is_key_inside span) all_rows rows_order

@@ -12,6 +12,7 @@ use Rattle.std.proofs.lemmas.Bool.{true≢false}
 use Rattle.std.proofs.lemmas.List.{length-map, length-drop, take_more, drop_more}
 use Rattle.std.proofs.lemmas.Grind.{flat_map-append}
 use Rattle.std.proofs.lemmas.Option.{slice_get_within, get_or_from_slice_get}
+use Rattle.gx_laws.proofs.ListLemmas.{turned_at}
 use Rattle.gx_values.specs.declared.values.Value.{Value}
 use Rattle.gx_values.specs.declared.values.Value.TheVariants as value
 use Rattle.gx_values.specs.declared.records.Field.{Field}
@@ -25,7 +26,8 @@ use Rattle.gx_ports.specs.declared.leaves.Entry.{Entry}
 use Rattle.gx_ports.specs.LeafMaps.{entry_of}
 use Rattle.gx_actual.specs.Bodies.{field_bytes, body_of}
 use Rattle.gx_mapping.specs.Rule.{In}
-use Rattle.gx_gather.proofs.Lists.{from_map, in_filter, all_at, all_of}
+use Rattle.gx_mapping.proofs.RuleLemmas.{all_in}
+use Rattle.gx_gather.proofs.Lists.{from_map, in_filter, all_of}
 use Rattle.gx_gather.proofs.Orders.{Ascends, not_before_itself}
 use Rattle.gx_split.specs.Groups.{chosen, defaults_of, are_default}
 use Rattle.gx_split.specs.GroupLaws.{fit_length, chosen_fit, only_defaults}
@@ -75,12 +77,6 @@ chosen_next {A} mask xs i d b lt same at =
     ap (λ n. cond b (get_or xs i d ∷ chosen (drop n mask) (drop n xs)) (chosen (drop n mask) (drop n
     xs))) next)
 
-pub not_at : (mask : List Bool) (i : ℕ) (b : Bool) → i < length mask → b ≡ get_or mask i false
-    → not b ≡ get_or (map not mask) i false
-not_at [] i b lt at = absurd (omega arith)
-not_at (m ∷ mask) zero b lt at = ap not at
-not_at (m ∷ mask) (suc i) b lt at = not_at mask i b (omega arith) at
-
 body_cond : (b : Bool) (v : Value) (vs : List Value)
     → body_of (cond b (v ∷ vs) vs) ≡ cond b (field_bytes v ++ body_of vs) (body_of vs)
 body_cond true v vs = refl
@@ -128,7 +124,7 @@ joined_at fields mask vs i f b fit lt long item at =
         long,
         length-map mask not,
       )) (omega (arith, long, many, length-map mask not))
-          (not_at mask i b (omega (arith, lt, long)) at))
+          (turned_at mask i b (omega (arith, lt, long)) at))
           ∙ body_cond_not b v (chosen (drop (i + 1) (map not mask)) (drop (i + 1) vs));
       more = ap body_of (take_more vs i none (omega (arith, lt, many)))
           ∙ flat_map-append field_bytes (take i vs) (v ∷ [])
@@ -153,7 +149,7 @@ pub defaults_next : (fields : List Field) (mask : List Bool) (i : ℕ) (f : Fiel
 defaults_next fields mask i f b lt long item at =
     ap (λ (fs : List Field). body_of (defaults_of fs))
     (chosen_next (map not mask) fields i f (not b) (omega (arith, lt, long, length-map mask not))
-    (omega (arith, long, length-map mask not)) (not_at mask i b (omega (arith, lt, long)) at)
+    (omega (arith, long, length-map mask not)) (turned_at mask i b (omega (arith, lt, long)) at)
     ∙ ap (λ (g : Field). cond (not b) (g ∷ chosen (drop (i + 1) (map not mask)) (drop (i + 1)
     fields)) (chosen (drop (i + 1) (map not mask)) (drop (i + 1) fields))) (sym item))
     ∙ defaults_cond b f (chosen (drop (i + 1) (map not mask)) (drop (i + 1) fields))
@@ -234,7 +230,7 @@ module _ (g : Groups) (fields : List Field) (others : List Entry) (at : ℕ) (r 
       → AllByRecursion (λ (q : Row). bytes_of q.0 ≢ bytes_of r.0) rs → e.key ≡ bytes_of r.0 → ⊥
   no_later has e h differ key =
       let q = later_there has e h in
-      all_at (λ (q : Row). bytes_of q.0 ≢ bytes_of r.0) rs q.0 differ q.1 (sym (ap (λ (x : Entry).
+      all_in (λ (q : Row). bytes_of q.0 ≢ bytes_of r.0) rs q.0 differ q.1 (sym (ap (λ (x : Entry).
       x.key) q.2) ∙ key)
 
   pub defaults_there : has_others g.mask.now fields r ≡ false → AreFit fields r.1
@@ -287,7 +283,7 @@ differ_later file rs i r kind fits order fit at =
     let f = drop_fits (IsRowOf file) rs (i + 1) fits in
     all_of (λ (q : Row). bytes_of q.0 ≢ bytes_of r.0) later (λ q h same.
     let less : slice_cmp nat_cmp (bytes_of r.0) (bytes_of q.0) ≡ Less =
-    key_order (key_kind file) r.0 q.0 kind fit.0 (all_at (IsRowOf file) later q f h).0
-    ∙ all_at (λ (q : Row). key_cmp r q ≡ Less) later q a.0 h in
+    key_order (key_kind file) r.0 q.0 kind fit.0 (all_in (IsRowOf file) later q f h).0
+    ∙ all_in (λ (q : Row). key_cmp r q ≡ Less) later q a.0 h in
     not_before_itself nat_list_cmp_total (bytes_of r.0) (ap (slice_cmp nat_cmp (bytes_of r.0)) (sym
     same) ∙ less))

@@ -14,20 +14,22 @@ use Rattle.gx_values.specs.declared.records.Rec.{Rec}
 use Rattle.gx_values.specs.declared.keys.Span.{Span}
 use Rattle.gx_values.specs.Values.{value_cmp, Fits}
 use Rattle.gx_values.specs.Keys.{bytes_of, is_inside, IsKeyKind}
-use Rattle.gx_values.proofs.OrderLemmas.{inside_one, key_order, value_cmp_total, value_cmp_same}
+use Rattle.gx_values.proofs.OrderLemmas.{inside_one, key_order, value_cmp_total, value_cmp_same, same_value, value_itself}
 use Rattle.gx_schema.specs.declared.schema.FileDef.{FileDef}
 use Rattle.gx_schema.specs.Lookups.{key_kind}
 use Rattle.gx_commands.specs.declared.command.Cond.{Cond}
 use Rattle.gx_mapping.specs.Rule.{In}
-use Rattle.gx_gather.proofs.Lists.{in_map, from_map, in_filter, filter_in, all_at}
+use Rattle.gx_mapping.proofs.RuleLemmas.{all_in}
+use Rattle.gx_gather.proofs.Lists.{in_map, from_map, in_filter, filter_in}
 use Rattle.gx_gather.proofs.Orders.{Ascends, ascends_filter, ascends_unique}
+use Rattle.gx_gather.proofs.Entries.{find_in, in_find}
 use Rattle.gx_model.specs.States.{File, Row, IsRowOf, IsFileOf}
 use Rattle.gx_model.specs.Found.{meets_conds}
 use Rattle.gx_scan.specs.Files.{rec_of}
 use Rattle.gx_scan.specs.Records.{record_at, list_of_one}
 use Rattle.gx_scan.specs.Within.{row_of, is_within, AreAdded}
 use Rattle.gx_scan.specs.Steps.{is_key_inside, rows_inside}
-use Rattle.gx_scan.proofs.FileLemmas.{same_value, value_itself, find_in, in_find, some_in, in_one}
+use Rattle.gx_scan.proofs.FileLemmas.{some_in, in_one}
 use Rattle.gx_scan.proofs.ListingLemmas.{filter_twice}
 use Rattle.gx_scan.proofs.PlaceLemmas.{key_cmp, entries_ascend}
 
@@ -76,7 +78,7 @@ module _ (file : FileDef) (f : File) (k : Value) (span : Span) (kind : IsKeyKind
       (one_ascends (record_at f k))
       (λ r h.
       let kept = in_filter (is_key_inside span) r (fin.entries f) h in
-      let fit_r = (all_at (IsRowOf file) (fin.entries f) r fits kept.0).0 in
+      let fit_r = (all_in (IsRowOf file) (fin.entries f) r fits kept.0).0 in
       let same : k ≡ r.0 = same_value k r.0 (sym (inside_is r.0 fit_r) ∙ kept.1) in
       let found : fin.get f k ≡ Some r.1 = ap (fin.get f) same ∙ fin.get-entries f r.0 ∙ in_find value_cmp_total r (fin.entries f) (fin.entries_sorted f) kept.0 in
       subst (λ (x : Row). In x (row_at f k)) (λ i. (same i, r.1)) (in_map row_of (rec_of (k, r.1)) (list_of_one (record_at f k)) (some_in f k r.1 found)))

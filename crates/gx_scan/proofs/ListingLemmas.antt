@@ -8,12 +8,12 @@ use Rattle.std.proofs.lemmas.List.{take_all, take_more, map-append}
 use Rattle.std.proofs.lemmas.List.Sorted.{IsPermutation-refl, IsPermutation-trans, IsPermutation-append_left, IsPermutation-filter_both}
 use Rattle.gx_mapping.specs.Rule.{In}
 use Rattle.gx_stack.specs.Tree.{Tree}
-use Rattle.gx_gather.proofs.Lists.{in_filter, in_map, in_get_or}
+use Rattle.gx_gather.proofs.Lists.{in_filter, in_map, in_get_or, IsOnce}
 use Rattle.gx_types.specs.declared.any.AnyMapping.{AnyMapping}
 use Rattle.gx_model.specs.States.{File, Row}
 use Rattle.gx_scan.specs.declared.places.Place.{Place}
 use Rattle.gx_scan.specs.Entries.{leaf_of, rows_at}
-use Rattle.gx_scan.proofs.PlaceLemmas.{number, IsOnce}
+use Rattle.gx_scan.proofs.PlaceLemmas.{number}
 
 -- ---- filters
 

@@ -29,7 +29,7 @@ use Rattle.gx_stack.specs.declared.node.LeafNode.{LeafNode}
 use Rattle.gx_stack.specs.declared.node.Node.TheVariants as nodes
 use Rattle.gx_stack.specs.Tree.{Tree, leaves_of, IsValid}
 use Rattle.gx_stack.specs.Seen.{tree_of}
-use Rattle.gx_gather.proofs.Lists.{in_filter}
+use Rattle.gx_gather.proofs.Lists.{in_filter, IsOnce}
 use Rattle.gx_stack.proofs.Seen.{child_there, child_valid}
 use Rattle.gx_types.specs.declared.any.AnyMapping.{AnyMapping}
 use Rattle.gx_types.specs.declared.any.AnyMapping.TheVariants as any
@@ -43,7 +43,7 @@ use Rattle.gx_scan.specs.Records.{list_of_one}
 use Rattle.gx_scan.specs.Steps.{HaveAtMost, is_key_inside, rows_inside}
 use Rattle.gx_scan.proofs.KeyLemmas.{one_at_key, steps_at_key, row_found}
 use Rattle.gx_scan.proofs.ListingLemmas.{none_chosen, place_chosen, all_chosen}
-use Rattle.gx_scan.proofs.PlaceLemmas.{number, IsOnce, data_once, data_few, leaf_there, none_placed, kid_placed, layer_placed, kids_many, leaf_placed, wrapped_passes}
+use Rattle.gx_scan.proofs.PlaceLemmas.{number, data_once, data_few, leaf_there, none_placed, kid_placed, layer_placed, kids_many, leaf_placed, wrapped_passes}
 use Rattle.gx_scan.proofs.ScanLemmas.{row_of}
 use Rattle.gx_scan.proofs.StepLemmas.{whole_most}
 

@@ -39,6 +39,7 @@ use Rattle.gx_ports.specs.declared.leaves.Entry.{Entry}
 use Rattle.gx_ports.specs.LeafMaps.{LeafMap, map_at, entry_of, selected, counted}
 use Rattle.gx_mapping.specs.declared.parts.Part.{Part}
 use Rattle.gx_mapping.specs.Rule.{Rule, In}
+use Rattle.gx_mapping.proofs.RuleLemmas.{all_in}
 use Rattle.gx_stack.specs.declared.entries.LeafEntry.{LeafEntry}
 use Rattle.gx_stack.specs.declared.node.Node.{Node}
 use Rattle.gx_stack.specs.declared.node.LayerNode.{LayerNode}
@@ -51,8 +52,9 @@ use Rattle.gx_stack.specs.Tree.{Tree, Kids, leaf, layer, kid, no_kids, leaves_of
 use Rattle.gx_stack.proofs.Children.{union_from_internal}
 use Rattle.gx_stack.proofs.Seen.{seen_layer, seen_leaf, layer_form, child_valid}
 use Rattle.gx_stack.proofs.Selects.{le_longer, front_longer}
-use Rattle.gx_gather.proofs.Lists.{in_map, from_map, in_each, from_each, in_filter, all_at, all_of}
+use Rattle.gx_gather.proofs.Lists.{in_map, from_map, in_each, from_each, in_filter, all_of}
 use Rattle.gx_gather.proofs.Orders.{Ascends, ascends_append, ascends_unique}
+use Rattle.gx_gather.proofs.Entries.{find_in, in_find}
 use Rattle.gx_types.specs.declared.any.AnyMapping.{AnyMapping}
 use Rattle.gx_types.specs.declared.any.AnyMapping.TheVariants as any
 use Rattle.gx_types.specs.Any.{any_rule}
@@ -63,7 +65,7 @@ use Rattle.gx_scan.specs.Files.{rec_of, records_of, IsStorable, IsTreeFor, IsInt
 use Rattle.gx_scan.specs.Pieces.{ArePieces, numbered_entries, piece_entries}
 use Rattle.gx_scan.specs.Records.{list_of_one}
 use Rattle.gx_scan.specs.Steps.{HaveAtMost, is_key_inside, rows_inside}
-use Rattle.gx_scan.proofs.FileLemmas.{find_in, in_find, row_fits, span_of_key}
+use Rattle.gx_scan.proofs.FileLemmas.{row_fits, span_of_key}
 use Rattle.gx_scan.proofs.KeyLemmas.{one_at_key, steps_at_key, row_found}
 use Rattle.gx_scan.proofs.PlaceLemmas.{Pair, pair_cmp, key_cmp, entries_ascend, kids_many}
 use Rattle.gx_scan.proofs.StepLemmas.{counted_most}
@@ -273,8 +275,8 @@ cut_ascend k size (r ∷ rs) key fit order =
     (cut_ascend k size rs key fit.1 order.1)
     (λ e g h i.
     let q = from_each (piece_entries size) g rs i in
-    record_before k size r q.0 e g key fit.0.0 (all_at (IsCut k) rs q.0 fit.1 q.1).0
-    (all_at (λ (x : Row). key_cmp r x ≡ Less) rs q.0 order.0 q.1) h q.2)
+    record_before k size r q.0 e g key fit.0.0 (all_in (IsCut k) rs q.0 fit.1 q.1).0
+    (all_in (λ (x : Row). key_cmp r x ≡ Less) rs q.0 order.0 q.1) h q.2)
 
 -- ---- the entries that pass a test, where those of each record pass it or not
 
@@ -317,7 +319,7 @@ module _ (file : FileDef) (t : Tree AnyMapping) (p : Pieces) (leaves : ℕ) (map
 
   row_cut : (r : Row) → In r all_rows → IsCut (key_kind file) r
   row_cut r h =
-      let fit = all_at (IsRowOf file) all_rows r is.fit h in
+      let fit = all_in (IsRowOf file) all_rows r is.fit h in
       let narrow : field_widths (data_fields file) ≤ 65535 =
       subst (λ (form : Form). field_widths form.fields ≤ 65535) tree.form are.narrow in
       (fit.0, omega (arith, narrow, body_width (data_fields file) r.1 fit.1))
@@ -373,7 +375,7 @@ module _ (file : FileDef) (t : Tree AnyMapping) (p : Pieces) (leaves : ℕ) (map
 
   pub rows_fit_inside : (span : Span) → AllByRecursion (IsRowOf file) (rows_inside span f)
   rows_fit_inside span = all_of (IsRowOf file) (rows_inside span f)
-      (λ r h. all_at (IsRowOf file) all_rows r is.fit (in_filter (is_key_inside span) r all_rows
+      (λ r h. all_in (IsRowOf file) all_rows r is.fit (in_filter (is_key_inside span) r all_rows
       h).0)
 
   -- a span lets the pieces of a record through where it lets its key through
@@ -382,7 +384,7 @@ module _ (file : FileDef) (t : Tree AnyMapping) (p : Pieces) (leaves : ℕ) (map
       → is_inside span.lo span.hi e.0 ≡ is_key_inside span r
   piece_inside span whole r e h i =
       let x = record_key p.size r e i in
-      let fit = (row_fits file r storable.keyed (all_at (IsRowOf file) all_rows r is.fit h)).key in
+      let fit = (row_fits file r storable.keyed (all_in (IsRowOf file) all_rows r is.fit h)).key in
       let alone : bytes_of r.0 ≡ bytes_of r.0 ++ [] = sym (append-nil (bytes_of r.0)) in
       ap (is_inside span.lo span.hi) x.1
       ∙ (λ j. le_longer span.lo (bytes_of r.0) x.0 (λ rest same. whole.lo_whole (r.0 ∷ []) rest fit

@@ -6,12 +6,16 @@ use Rattle.std.specs.List.{flat_map, AllByRecursion}
 use Rattle.std.specs.Option.{option_map}
 use Rattle.std.specs.FinMap as fin
 use Rattle.std.specs.FinMap.Entries.{below_all}
-use Rattle.std.specs.Prelude.{T, filter, Bool, if◌then◌else◌, Option, None, Result, Ok, Err, IfOk, IfSome}
+use Rattle.std.specs.Prelude.{T, Bool, if◌then◌else◌, Option, None, Result, Ok, Err, IfOk, IfSome}
 use Rattle.std.specs.Ordering.{nat_cmp}
 use Rattle.std.specs.declared.cmp.Ordering.{Ordering}
 use Rattle.std.specs.declared.cmp.Ordering.TheVariants.{Less}
 use Rattle.std.specs.Cmp.Lexicographic.{slice_cmp, nat_list_cmp_total}
 use Rattle.std.proofs.lemmas.Cmp.{on_total}
+use Rattle.std.proofs.lemmas.Option.{same_Some}
+use Rattle.gx_laws.proofs.ListLemmas.{get_or_any}
+use Rattle.gx_laws.proofs.BoolLemmas.{first_of_both, second_of_both}
+use Rattle.gx_laws.proofs.OrderingLemmas.{is_less}
 use Rattle.gx_values.specs.declared.values.Kind.{Kind}
 use Rattle.gx_values.specs.declared.values.Kind.TheVariants as kind
 use Rattle.gx_values.specs.declared.values.Code.{Code}
@@ -25,9 +29,9 @@ use Rattle.gx_values.proofs.OrderLemmas.{key_order}
 use Rattle.gx_schema.specs.declared.schema.FileDef.{FileDef}
 use Rattle.gx_schema.specs.Lookups.{key_kind}
 use Rattle.gx_ports.specs.LeafMaps.{LeafMap, map_at}
-use Rattle.gx_ports.proofs.KeyedLemmas.{first_of_both, second_of_both}
 use Rattle.gx_mapping.specs.declared.parts.Part.{Part}
 use Rattle.gx_mapping.specs.Rule.{Rule, In, IsOf}
+use Rattle.gx_mapping.proofs.RuleLemmas.{all_in}
 use Rattle.gx_stack.specs.declared.entries.LeafEntry.{LeafEntry}
 use Rattle.gx_stack.specs.declared.node.Node.{Node}
 use Rattle.gx_stack.specs.declared.node.LeafNode.{LeafNode}
@@ -41,11 +45,11 @@ use Rattle.gx_encode.proofs.GatherLemmas.{fits_at}
 use Rattle.gx_stack.specs.Tree.{Tree, Kids, leaf, layer, kid, no_kids, leaves_of, kids_leaves, tree_form, entries_of, kid_entries, entry_in, leaf_body, IsBytesUpTo, IsLeafData, IsLeafForm, IsValid, AreValid}
 use Rattle.gx_stack.specs.Seen.{tree_of, kids_from}
 use Rattle.gx_stack.specs.Internal.{IsUnion}
-use Rattle.gx_gather.proofs.Lists.{in_left, in_right, in_cases, in_map, from_map, in_each, from_each, in_filter, filter_in, all_at, all_of, some_same}
+use Rattle.gx_gather.proofs.Lists.{in_left, in_right, in_cases, in_map, from_map, in_each, from_each, in_filter, filter_in, all_of, once_joined, IsOnce}
 use Rattle.gx_gather.proofs.Orders.{Ascends, ascends_filter, ascends_unique}
+use Rattle.gx_gather.proofs.Entries.{find_in, in_find}
 use Rattle.gx_stack.proofs.Seen.{seen_layer, seen_leaf, layer_form, count_kids, child_there, child_valid, kid_entries_at}
 use Rattle.gx_stack.proofs.Unique.{entry_leaf, kid_leaf}
-use Rattle.gx_stack.proofs.LeafRead.{is_less}
 use Rattle.gx_types.specs.declared.any.AnyMapping.{AnyMapping}
 use Rattle.gx_types.specs.declared.any.AnyMapping.TheVariants as any
 use Rattle.gx_types.specs.Passing.{PassesOne, PassesWhole}
@@ -56,23 +60,12 @@ use Rattle.gx_scan.specs.declared.places.Above.{Above}
 use Rattle.gx_scan.specs.Files.{rec_of, records_of, IsStorable, IsTreeFor}
 use Rattle.gx_scan.specs.Stored.{stored_values, stored_rec, HaveCodes, IsWithCode}
 use Rattle.gx_scan.specs.Entries.{wrapped, below, entry_of_row, IsStoredRow, IsPassed, PassesOn, data_leaves, kids_data, IsAlone, ArePlaces, ArePlacesBelow, IsPlaceOf, first_leaf, leaf_of, rows_at}
-use Rattle.gx_scan.proofs.FileLemmas.{find_in, in_find, set_of}
+use Rattle.gx_scan.proofs.FileLemmas.{set_of}
 
 abbrev pub number : Place → ℕ
 number p = p.leaf
 
 -- ---- the leaves of a tree, each once
-
-abbrev pub IsOnce : List ℕ → Type 0
-IsOnce [] = Unit {0}
-IsOnce (x ∷ xs) = (In x xs → ⊥) × IsOnce xs
-
-once_joined : (xs ys : List ℕ) → IsOnce xs → IsOnce ys → ((n : ℕ) → In n xs → In n ys → ⊥) → IsOnce (xs ++ ys)
-once_joined [] ys a b h = b
-once_joined (x ∷ xs) ys a b h = (
-  λ i. elim (in_cases x xs ys i) [ inl k ↦ a.0 k | inr k ↦ h x (inl refl) k ],
-  once_joined xs ys a.1 b (λ n i k. h n (inr i) k),
-)
 
 module _ {M : Type 0} (rule : M → Rule) where
   mutual
@@ -398,11 +391,6 @@ kids_more rest ks i k l read =
     ap (λ xs. kids_data rest (kids_from (map tree_of xs))) (take_more ks i k l) ∙ kids_last rest (take i ks) (get_or ks i k)
     ∙ (λ j. kids_data rest (kids_from (map tree_of (take i ks))) ++ (if rest (many j) then data_leaves (tree_of (sym read j)) else []))
 
-pub get_or_any : {A : Type 0} (xs : List A) (i : ℕ) (d e : A) → i < length xs → get_or xs i d ≡ get_or xs i e
-get_or_any [] i d e l = absurd (omega arith)
-get_or_any (x ∷ xs) zero d e l = refl
-get_or_any (x ∷ xs) (suc i) d e l = get_or_any xs i d e (omega arith)
-
 below_cases : (c i : ℕ) → c < i + 1 → (c < i) ⊎ (c ≡ i)
 below_cases zero zero l = inr refl
 below_cases zero (suc i) l = inl (omega arith)
@@ -549,11 +537,6 @@ rows_ascend file n cs [] key fits h = tt
 rows_ascend file n cs (r ∷ rs) key fits h =
     (rows_below file n cs r rs key fits.0 fits.1 h.0, rows_ascend file n cs rs key fits.1 h.1)
 
-pub filter_fits : (P : Row → Type 0) (test : Row → Bool) (rs : List Row) → AllByRecursion P rs
-    → AllByRecursion P (filter test rs)
-filter_fits P test rs fit =
-    all_of P (filter test rs) (λ r h. all_at P rs r fit (in_filter test r rs h).0)
-
 wrapped_key : (n : ℕ) (r : Rec) → (wrapped n r).key ≡ r.key
 wrapped_key zero r = refl
 wrapped_key (suc n) r = wrapped_key n r
@@ -647,13 +630,13 @@ module _ (file : FileDef) (t : Tree AnyMapping) (leaves : ℕ) (maps : List Leaf
       subst (λ (x : Pair). In x (fin.entries m)) (sym row.2) (find_in (fin.slice_cmp-IsAntisymmetric fin.nat_cmp-IsAntisymmetric) (bytes_of r.0) le.body (fin.entries m) found)
 
   pub rows_fit : (n : ℕ) → AllByRecursion (IsRowOf file) (rows_at t n f)
-  rows_fit n = all_of (IsRowOf file) (rows_at t n f) (λ r h. all_at (IsRowOf file) (fin.entries f) r fit (in_filter (λ (r : Row). nat_eq (leaf_of t r) n) r (fin.entries f) h).0)
+  rows_fit n = all_of (IsRowOf file) (rows_at t n f) (λ r h. all_in (IsRowOf file) (fin.entries f) r fit (in_filter (λ (r : Row). nat_eq (leaf_of t r) n) r (fin.entries f) h).0)
 
   pub rows_stored : (p : Place) → IsPlaceOf t p
       → AllByRecursion (IsStoredRow file p.codes) (rows_at t p.leaf f)
   rows_stored p at = all_of (IsStoredRow file p.codes) (rows_at t p.leaf f) (λ r h.
       let kept = in_filter (λ (r : Row). nat_eq (leaf_of t r) p.leaf) r (fin.entries f) h in (
-        all_at (IsRowOf file) (fin.entries f) r fit kept.0,
+        all_in (IsRowOf file) (fin.entries f) r fit kept.0,
         row_codes p at r kept.0
             (eqb-true _ _ kept.1),
       ))
@@ -675,4 +658,4 @@ module _ (file : FileDef) (t : Tree AnyMapping) (leaves : ℕ) (maps : List Leaf
 pub places_lent : {A B : Type 0} (f : A → List Place) (g : B → List Place) (P : List Place → Type 0) (o : Option A) (p : Option B) → option_map f o ≡ option_map g p → IfSome p (λ y. P (g y)) → IfSome o (λ x. P (f x))
 places_lent f g P None p same are = tt
 places_lent f g P (Some x) None same are = cc
-places_lent f g P (Some x) (Some y) same are = subst P (sym (some_same (f x) (g y) same)) are
+places_lent f g P (Some x) (Some y) same are = subst P (sym (same_Some (f x) (g y) same)) are

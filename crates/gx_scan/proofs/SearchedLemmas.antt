@@ -8,22 +8,24 @@ use Rattle.std.specs.FinMap as fin
 use Rattle.std.specs.FinMap.Entries.{below_all}
 use Rattle.std.proofs.lemmas.Bool.{true≢false, eqb-true, eq-eqb}
 use Rattle.std.proofs.lemmas.Result.{on_ok_weaker}
+use Rattle.gx_laws.proofs.NumberLemmas.{nat_cases}
+use Rattle.gx_laws.proofs.BoolLemmas.{first_of_both, second_of_both}
 use Rattle.gx_values.specs.declared.values.Value.{Value}
 use Rattle.gx_values.specs.declared.records.Rec.{Rec}
 use Rattle.gx_values.specs.declared.keys.Span.{Span}
 use Rattle.gx_values.specs.Values.{value_cmp, Fits}
 use Rattle.gx_values.specs.Keys.{bytes_of, key_of, is_inside}
+use Rattle.gx_values.proofs.OrderLemmas.{same_value, value_itself}
 use Rattle.gx_schema.specs.declared.schema.FileDef.{FileDef}
 use Rattle.gx_schema.specs.Lookups.{key_kind}
 use Rattle.gx_ports.specs.declared.stop.Stop.{Stop}
 use Rattle.gx_ports.specs.declared.view.View.{Ghosts}
 use Rattle.gx_ports.specs.LeafMaps.{LeafMap}
-use Rattle.gx_ports.proofs.KeyedLemmas.{first_of_both, second_of_both}
 use Rattle.gx_mapping.specs.declared.parts.Part.{Part}
 use Rattle.gx_mapping.specs.Rule.{In, IsOf}
 use Rattle.gx_mapping.specs.Searched.{IsAlone}
-use Rattle.gx_mapping.proofs.RuleLemmas.{the_one}
-use Rattle.gx_gather.proofs.Lists.{in_filter, all_at, all_of, nat_cases}
+use Rattle.gx_mapping.proofs.RuleLemmas.{the_one, all_in}
+use Rattle.gx_gather.proofs.Lists.{in_filter, all_of}
 use Rattle.gx_stack.specs.declared.node.Node.{Node}
 use Rattle.gx_stack.specs.declared.node.LayerNode.{LayerNode}
 use Rattle.gx_stack.specs.declared.node.Node.TheVariants as nodes
@@ -42,7 +44,7 @@ use Rattle.gx_scan.specs.Files.{rec_of, records_of, IsStorable, IsTreeFor}
 use Rattle.gx_scan.specs.Files as files
 use Rattle.gx_scan.specs.Search.{Finds}
 use Rattle.gx_scan.specs.Searched.{IsPart, HasInside}
-use Rattle.gx_scan.proofs.FileLemmas.{inside_key, row_fits, same_value, value_itself}
+use Rattle.gx_scan.proofs.FileLemmas.{inside_key, row_fits}
 
 -- ---- a tree itself, and one below another
 
@@ -205,13 +207,13 @@ module _ (n : Node AnyMapping) (l : LayerNode AnyMapping) (is : n ≡ nodes.Laye
 
       row_of_form : (r : Row) → In r (fin.entries f) → IsOf (any_rule l.mapping).form (rec_of r)
       row_of_form r h = subst (λ fm. IsOf fm (rec_of r)) (sym form ∙ layer_form any_rule n l is)
-          (row_fits file r keyed (all_at (IsRowOf file) (fin.entries f) r held.fit h))
+          (row_fits file r keyed (all_in (IsRowOf file) (fin.entries f) r held.fit h))
 
       kid_part : IsPart file span (tree_of n) (tree_of k) maps f
       kid_part = record {
         part = part_of;
         held = record {
-          fit = all_of (IsRowOf file) (fin.entries part_of) (λ r h. all_at (IsRowOf file) (fin.entries f) r held.fit (in_part r h).0);
+          fit = all_of (IsRowOf file) (fin.entries part_of) (λ r h. all_in (IsRowOf file) (fin.entries f) r held.fit (in_part r h).0);
           held = subst (λ rs. IsInternal any_rule (tree_of k) rs maps)
               (child_rows l.mapping passes c (fin.entries f) ∙ ap (λ (es : List Row). map rec_of es) (sym part_entries))
               (child_internal any_rule n l is c k (records_of f) maps kid_there read held.held);

@@ -8,14 +8,13 @@ use Rattle.std.specs.Ordering.{ordering_then}
 use Rattle.std.specs.declared.cmp.Ordering.TheVariants.{Less, Equal}
 use Rattle.std.specs.FinMap as fin
 use Rattle.gx_values.specs.declared.records.Rec.{Rec}
-use Rattle.gx_values.specs.declared.records.Form.{Form}
 use Rattle.gx_values.specs.declared.keys.Span.{Span}
 use Rattle.gx_values.specs.Values.{value_cmp}
 use Rattle.gx_values.specs.Keys.{bytes_of, key_of, is_inside}
 use Rattle.gx_mapping.specs.Rule.{In}
 use Rattle.gx_commands.specs.declared.command.Cond.{Cond}
 use Rattle.gx_gather.specs.Gather.{rec_cmp}
-use Rattle.gx_stack.specs.Selected.{IsKeySpan, IsSelection}
+use Rattle.gx_stack.specs.Selected.{IsSelection}
 use Rattle.gx_gather.proofs.Lists.{in_map, from_map, in_filter, filter_in}
 use Rattle.gx_gather.proofs.Orders.{Ascends, ascends, ascends_filter, ascends_unique, rec_total}
 use Rattle.gx_model.specs.States.{File, Row}
@@ -81,12 +80,6 @@ all_inside lo hi key l h = (λ i. is_inside (l i) (h i) key) ∙ each key
     each : (key : List ℕ) → is_inside [] [] key ≡ true
     each [] = refl
     each (x ∷ key) = refl
-
-pub ends_empty : (form : Form) (span : Span) → span.lo ≡ [] → span.hi ≡ [] → IsKeySpan form span
-ends_empty form span l h = record {
-  lo_whole = λ key rest fits e. nothing_left (key_of key) rest (sym l ∙ e);
-  hi_whole = λ key rest fits e. nothing_left (key_of key) rest (sym h ∙ e);
-}
 
 pub second_alone : (a b : Bool) → (b ≡ true → a ≡ true) → (a && b) ≡ b
 second_alone a true h = ap (λ (x : Bool). x && true) (h refl)

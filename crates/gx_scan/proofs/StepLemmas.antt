@@ -16,10 +16,11 @@ use Rattle.gx_schema.specs.declared.schema.FileDef.{FileDef}
 use Rattle.gx_schema.specs.Lookups.{field_at}
 use Rattle.gx_ports.specs.LeafMaps.{counted}
 use Rattle.gx_mapping.specs.Rule.{In, IsOf}
+use Rattle.gx_mapping.proofs.RuleLemmas.{all_in}
 use Rattle.gx_stack.specs.Tree.{Tree, entries_of, entry_total, tree_form, leaves_of, IsValid}
 use Rattle.gx_stack.specs.Indexed.{AreKeysOf}
 use Rattle.gx_stack.specs.Selected.{IsSelection}
-use Rattle.gx_gather.proofs.Lists.{from_map, all_at}
+use Rattle.gx_gather.proofs.Lists.{from_map, IsOnce}
 use Rattle.gx_types.specs.declared.any.AnyMapping.{AnyMapping}
 use Rattle.gx_types.specs.Any.{any_rule}
 use Rattle.gx_typing.specs.Dues.{file_form}
@@ -35,7 +36,7 @@ use Rattle.gx_scan.specs.Steps.{HaveAtMost, rows_inside, rows_with}
 use Rattle.gx_scan.proofs.DistinctLemmas.{AreDistinct, few_below}
 use Rattle.gx_scan.proofs.FileLemmas.{row_fits}
 use Rattle.gx_scan.proofs.ListingLemmas.{same_filter, filter_true}
-use Rattle.gx_scan.proofs.PlaceLemmas.{IsOnce, leaves_once}
+use Rattle.gx_scan.proofs.PlaceLemmas.{leaves_once}
 use Rattle.gx_scan.proofs.SelectLemmas.{selected_is}
 use Rattle.gx_scan.proofs.WhereLemmas.{IsNamed, found_where, rows_found}
 
@@ -73,7 +74,7 @@ pub whole_most : (file : FileDef) (t : Tree AnyMapping) (f : File) (most : ℕ) 
 whole_most file t f most places [] are form keyed fit few there = omega arith
 whole_most file t f most places (r ∷ rs) are form keyed fit few there =
     let here = there r (inl refl) in
-    let fits : IsOf (tree_form any_rule t) (rec_of r) = subst (λ (x : Form). IsOf x (rec_of r)) (sym form) (row_fits file r keyed (all_at (IsRowOf file) (fin.entries f) r fit here)) in
+    let fits : IsOf (tree_form any_rule t) (rec_of r) = subst (λ (x : Form). IsOf x (rec_of r)) (sym form) (row_fits file r keyed (all_in (IsRowOf file) (fin.entries f) r fit here)) in
     let stands = are.stand (rec_of r) fits tt in
     let one : 1 ≤ most = omega (arith, few r here, ap length stands.3.first) in
     omega (arith, one, whole_most file t f most places rs are form keyed fit few (λ q h. there q (inr h)))

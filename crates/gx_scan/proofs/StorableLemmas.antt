@@ -9,8 +9,8 @@ use Rattle.gx_values.specs.declared.values.Kind.{Kind}
 use Rattle.gx_values.specs.declared.values.Kind.TheVariants as kind
 use Rattle.gx_values.specs.declared.records.Field.{Field}
 use Rattle.gx_values.specs.Keys.{width_of, IsKeyKind, AreKeyFields}
+use Rattle.gx_values.specs.Values.{no_field}
 use Rattle.gx_schema.specs.declared.schema.FileDef.{FileDef}
-use Rattle.gx_schema.specs.Lookups.{no_field}
 use Rattle.gx_schema.specs.Names.{has_field}
 use Rattle.gx_mapping.specs.Rule.{is_field, first_in}
 use Rattle.gx_schema.specs.Rules.{IsKind, AreFields}

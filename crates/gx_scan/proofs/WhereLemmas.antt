@@ -1,5 +1,5 @@
 -- The records of a file whose keys an index gives.
-use Rattle.std.proofs.Common.{[], ◌≡◌, ℕ, zero, suc, ◌+◌, ◌<◌, ◌≤◌, List, ◌∷◌, ◌++◌, length, map, drop, get_or, Bool, true, false, Option, Some, inl, inr, refl, sym, ap, subst, ◌∙◌, arith, append_assoc, append-nil}
+use Rattle.std.proofs.Common.{[], ◌≡◌, ℕ, zero, suc, ◌+◌, ◌<◌, ◌≤◌, List, ◌∷◌, ◌++◌, length, map, drop, get_or, Bool, true, Option, Some, inl, inr, refl, sym, ap, subst, ◌∙◌, arith, append_assoc, append-nil}
 use Rattle.std.specs.Prelude.{filter, flat_map, ◌&&◌, pos}
 use Rattle.std.specs.Option.{option_map}
 use Rattle.std.specs.declared.cmp.Ordering.TheVariants.{Less}
@@ -7,6 +7,9 @@ use Rattle.std.specs.FinMap as fin
 use Rattle.std.specs.List.Sorted.{IsPermutation}
 use Rattle.std.proofs.lemmas.List.{drop_all}
 use Rattle.std.proofs.lemmas.List.Elements.{filter-append}
+use Rattle.std.proofs.lemmas.Option.{same_Some}
+use Rattle.gx_laws.proofs.ListLemmas.{get_or_any}
+use Rattle.gx_laws.proofs.BoolLemmas.{both_parts}
 use Rattle.gx_values.specs.declared.values.Kind.{Kind}
 use Rattle.gx_values.specs.declared.values.Kind.TheVariants as kind
 use Rattle.gx_values.specs.declared.values.Value.{Value}
@@ -15,20 +18,21 @@ use Rattle.gx_values.specs.declared.records.Field.{Field}
 use Rattle.gx_values.specs.declared.records.Form.{Form}
 use Rattle.gx_values.specs.declared.records.Rec.{Rec}
 use Rattle.gx_values.specs.declared.keys.Span.{Span}
-use Rattle.gx_values.specs.Values.{value_cmp}
+use Rattle.gx_values.specs.Values.{value_cmp, no_field}
 use Rattle.gx_values.specs.Keys.{bytes_of, is_inside, IsKeyKind, AreKeyFields}
 use Rattle.gx_values.specs.Spans.{IsSpanKind, IsValueSpan}
 use Rattle.gx_values.proofs.OrderLemmas.{value_cmp_total}
 use Rattle.gx_schema.specs.declared.schema.FileDef.{FileDef}
-use Rattle.gx_schema.specs.Lookups.{no_field, field_at, data_fields}
+use Rattle.gx_schema.specs.Lookups.{field_at, data_fields}
 use Rattle.gx_commands.specs.declared.command.Cond.{Cond}
 use Rattle.gx_actual.specs.Bodies.{IsShort}
 use Rattle.gx_actual.proofs.BodyLemmas.{item_short}
 use Rattle.gx_mapping.specs.Rule.{In, is_field, first_in, kind_in}
 use Rattle.gx_mapping.proofs.FieldLemmas.{first_kind, first_value}
+use Rattle.gx_mapping.proofs.RuleLemmas.{all_in}
 use Rattle.gx_stack.specs.Tree.{Tree, tree_form}
 use Rattle.gx_stack.specs.Indexed.{is_where, is_value_inside, AreUnderOwnKeys, AreKeysOf}
-use Rattle.gx_gather.proofs.Lists.{in_map, from_map, in_filter, filter_in, all_at, some_same, each_next}
+use Rattle.gx_gather.proofs.Lists.{in_map, from_map, in_filter, filter_in, each_next}
 use Rattle.gx_gather.proofs.Orders.{Ascends, not_before_itself}
 use Rattle.gx_types.specs.declared.any.AnyMapping.{AnyMapping}
 use Rattle.gx_types.specs.Any.{any_rule}
@@ -42,7 +46,7 @@ use Rattle.gx_scan.specs.Where.{AreNamed, is_found_by, AreAddedWhere, rows_at_ke
 use Rattle.gx_scan.proofs.DistinctLemmas.{AreDistinct, same_items, distinct_filter}
 use Rattle.gx_scan.proofs.FileLemmas.{in_there}
 use Rattle.gx_scan.proofs.ListingLemmas.{same_filter}
-use Rattle.gx_scan.proofs.PlaceLemmas.{key_cmp, entries_ascend, get_or_any}
+use Rattle.gx_scan.proofs.PlaceLemmas.{key_cmp, entries_ascend}
 use Rattle.gx_scan.proofs.SelectLemmas.{second_alone}
 
 -- ---- fields by their names
@@ -80,7 +84,7 @@ pub span_named : (file : FileDef) (t : Tree AnyMapping) (field : ℕ) (span : Sp
 span_named file t field span kind form is spans e =
     let name = (field_at file field).name in
     let same = sym (kind_named file field is) ∙ ap (λ (x : Form). kind_in x.fields name) (sym form) ∙ e in
-    subst (λ (k : Kind). IsValueSpan k span) (some_same (field_at file field).kind kind same) spans
+    subst (λ (k : Kind). IsValueSpan k span) (same_Some (field_at file field).kind kind same) spans
 
 where_is : (file : FileDef) (t : Tree AnyMapping) (field : ℕ) (span : Span) (x : Row) → tree_form any_rule t ≡ file_form file → IsNamed file field → IsRowOf file x → is_where (tree_form any_rule t) (field_at file field).name span (rec_of x) ≡ is_inside span.lo span.hi (bytes_of (value_at x field))
 where_is file t field span x form is fit =
@@ -138,11 +142,7 @@ rows_found f (r ∷ rs) there = λ i. record_there f r (there r (inl refl)) i ++
 
 distinct_rows : (rs : List Row) → Ascends key_cmp rs → AreDistinct rs
 distinct_rows [] up = tt
-distinct_rows (r ∷ rs) up = (λ h. not_before_itself value_cmp_total r.0 (all_at (λ y. key_cmp r y ≡ Less) rs r up.0 h), distinct_rows rs up.1)
-
-parts : (a b : Bool) → (a && b) ≡ true → (a ≡ true) × (b ≡ true)
-parts true b h = (refl, h)
-parts false b h = absurd cc
+distinct_rows (r ∷ rs) up = (λ h. not_before_itself value_cmp_total r.0 (all_in (λ y. key_cmp r y ≡ Less) rs r up.0 h), distinct_rows rs up.1)
 
 -- the records at the keys that an index gives, where they meet the conditions
 pub found_where : (file : FileDef) (t : Tree AnyMapping) (field : ℕ) (span : Span) (conds : List Cond) (f : File) (steps_before steps : ℕ) (keys : List (List Value)) (before now : List Row) → tree_form any_rule t ≡ file_form file → IsNamed file field → IsFileOf file f → AreKeysOf any_rule t (field_at file field).name span (records_of f) steps_before steps keys → now ≡ before ++ filter (meets_conds conds) (flat_map (rows_at_key f) keys) → AreAddedWhere field span conds f before now
@@ -152,10 +152,10 @@ found_where file t field span conds f steps_before steps keys before now form na
     let recs = are.recs in
     let there : (r : Rec) → In r recs → In r (records_of f) = λ r h. (are.sound r h).0 in
     let rows : flat_map (rows_at_key f) keys ≡ map row_of recs = ap (flat_map (rows_at_key f)) are.same ∙ rows_found f recs there in
-    let test : (x : Row) → In x (fin.entries f) → is_where (tree_form any_rule t) (field_at file field).name span (rec_of x) ≡ inside x = λ x h. where_is file t field span x form named (all_at (IsRowOf file) (fin.entries f) x fits h) in
+    let test : (x : Row) → In x (fin.entries f) → is_where (tree_form any_rule t) (field_at file field).name span (rec_of x) ≡ inside x = λ x h. where_is file t field span x form named (all_in (IsRowOf file) (fin.entries f) x fits h) in
     let to : (x : Row) → In x (filter (is_found_by field span conds) (fin.entries f)) → In x (filter meets (map row_of recs)) = λ x h.
     let kept = in_filter (is_found_by field span conds) x (fin.entries f) h in
-    let two = parts (inside x) (meets x) kept.1 in
+    let two = both_parts (inside x) (meets x) kept.1 in
     filter_in meets x (map row_of recs) (in_map row_of (rec_of x) recs (are.complete (rec_of x) (in_map rec_of x (fin.entries f) kept.0) (test x kept.0 ∙ two.0))) two.1 in
     let from : (x : Row) → In x (filter meets (map row_of recs)) → In x (filter (is_found_by field span conds) (fin.entries f)) = λ x h.
     let kept = in_filter meets x (map row_of recs) h in

@@ -3,7 +3,6 @@ use Rattle.std.specs.Prelude.{[], ◌≡◌, ℕ, ◌<◌, List, ◌∷◌, leng
 use Rattle.gx_ports.specs.declared.leaves.Entry.{Entry}
 use Rattle.gx_ports.specs.LeafMaps.{entry_of}
 use Rattle.gx_mapping.specs.Rule.{In}
-use Rattle.gx_split.specs.Forms.{no_value}
 use Rattle.gx_split.specs.TransposeRules.{transpose_rule}
 use Rattle.gx_stack.specs.Tree.{Tree, Kids, layer, kid, no_kids, tree_form}
 use Rattle.gx_types.specs.declared.any.AnyMapping.{AnyMapping}
@@ -11,6 +10,7 @@ use Rattle.gx_types.specs.Any.{any_rule}
 use Rattle.gx_model.specs.States.{Row}
 use Rattle.gx_scan.specs.declared.places.Place.{Place}
 use Rattle.gx_scan.specs.Entries.{ArePlaces, entry_of_row}
+use Rattle.gx_values.specs.Values.{no_value}
 
 -- the records of each child stand whole in one leaf, at the place of its number
 abbrev pub ArePlacesOfKids : Kids AnyMapping → List Place → Type 0

@@ -4,8 +4,9 @@ use Rattle.std.specs.Prelude.{[], ◌≡◌, ◌≢◌, ℕ, zero, suc, List, �
 use Rattle.gx_values.specs.declared.values.Code.{Code}
 use Rattle.gx_values.specs.declared.values.Value.{Value}
 use Rattle.gx_values.specs.declared.records.Rec.{Rec}
+use Rattle.gx_values.specs.Values.{no_value}
 use Rattle.gx_encode.specs.Codes.{IsCodable}
-use Rattle.gx_encode.specs.Forms.{changed, no_value}
+use Rattle.gx_encode.specs.Forms.{changed}
 use Rattle.gx_encode.specs.Rules.{coded}
 
 -- the code of a field, if it has one

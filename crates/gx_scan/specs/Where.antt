@@ -6,8 +6,9 @@ use Rattle.gx_values.specs.declared.values.Value.{Value}
 use Rattle.gx_values.specs.declared.values.Value.TheVariants as value
 use Rattle.gx_values.specs.declared.keys.Span.{Span}
 use Rattle.gx_values.specs.Keys.{bytes_of, is_inside}
+use Rattle.gx_values.specs.Values.{no_field}
 use Rattle.gx_schema.specs.declared.schema.FileDef.{FileDef}
-use Rattle.gx_schema.specs.Lookups.{no_field, data_fields}
+use Rattle.gx_schema.specs.Lookups.{data_fields}
 use Rattle.gx_commands.specs.declared.command.Cond.{Cond}
 use Rattle.gx_mapping.specs.Rule.{is_field, first_in}
 use Rattle.gx_model.specs.States.{File, Row}

@@ -3,14 +3,13 @@
 ghost use Rattle.std.specs.Prelude.{◌≡◌, ◌<◌, ◌≤◌, ◌+◌, ◌++◌, ◌∷◌, [], ℕ, List, length, map, true, Some, slice_get, get_or, IfOk, IfSome, IsSomeAnd};
 ghost use Rattle.std.specs.List.{AllByRecursion, sum_by};
 ghost use Rattle.gx_values.specs.declared.values.Value.{Value as FieldValue};
-ghost use Rattle.gx_values.specs.Values.{Fits};
+ghost use Rattle.gx_values.specs.Values.{Fits, no_value};
 ghost use Rattle.gx_values.specs.Keys.{bytes_of};
 ghost use Rattle.gx_schema.specs.Lookups.{data_fields};
 ghost use Rattle.gx_ports.specs.Calls.{ReadsMaps};
 ghost use Rattle.gx_ports.specs.LeafMaps.{entry_of, selected, map_at};
 ghost use Rattle.gx_mapping.specs.Rule.{In};
 ghost use Rattle.gx_actual.specs.Bodies.{body_of, IsShort};
-ghost use Rattle.gx_split.specs.Forms.{no_value};
 ghost use Rattle.gx_stack.specs.Seen.{tree_of};
 ghost use Rattle.gx_model.specs.States.{Row as TheRow, IsRowOf};
 ghost use Rattle.gx_scan.specs.declared.places.Place.{Place as ThePlace};

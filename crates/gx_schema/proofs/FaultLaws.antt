@@ -16,6 +16,7 @@ use Rattle.gx_tokens.specs.Spelling.{Lexes}
 use Rattle.gx_tokens.proofs.CauseLaws.{first_fault_of}
 use Rattle.gx_tokens.proofs.LocalLaws.{some_token, proper_token, takes_token, want_fault, front_none, text_behind, later_fault, first_fault, both_take, local_map, some_both}
 use Rattle.gx_tokens.proofs.ReadingLaws.{want_ok}
+use Rattle.gx_tokens.proofs.LocalTokens.{the_end}
 use Rattle.gx_schema.specs.declared.schema.Schema.{Schema}
 use Rattle.gx_schema.specs.declared.item.Item.{Item}
 use Rattle.gx_schema.specs.declared.item.Item.TheVariants as items
@@ -139,9 +140,6 @@ local_item s bytes = item_by s bytes (want (a_start s) bytes) refl
 -- some text of files and links begins with these tokens
 abbrev IsItemsFront : List Lexeme → Type 0
 IsItemsFront before = (text : List ℕ) × (mid : List ℕ) × Lexes (32 ∷ text) before mid × IsShaped (32 ∷ text)
-
-the_end : the End (32 ∷ []) []
-the_end = record { blanks = 32 ∷ []; here = []; parts = refl; are_blanks = inr (refl, tt); begins = record { parts = refl; is_token = tt; follows = refl } }
 
 -- one more item may follow, and then the end
 front_item : (before : List Lexeme) → IsFront {A = Option Item} (λ _. ItemShape) before → IsItemsFront before

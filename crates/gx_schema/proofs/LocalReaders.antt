@@ -10,8 +10,8 @@ use Rattle.gx_tokens.specs.Locality.{IsInhabited, HasReason, IsLocal}
 use Rattle.gx_tokens.specs.Numbers.{number_value, natural_up_to}
 use Rattle.gx_tokens.specs.Reading.{◌>>=◌, want, an_open, a_close, a_comma, comma_or_close}
 use Rattle.gx_tokens.specs.Spelling.{IsWord}
-use Rattle.gx_tokens.proofs.LocalLaws.{TakesToken, Nothing, some_token, some_both, some_nothing, local_want, local_done, local_bind, local_then, local_value}
-use Rattle.gx_tokens.proofs.LocalTokens.{some_word, some_number, some_mark, takes_word, takes_these_words, takes_number, takes_open, takes_close, takes_comma, takes_comma_or_close}
+use Rattle.gx_tokens.proofs.LocalLaws.{TakesToken, Nothing, some_token, some_both, some_nothing, local_want, local_done, local_bind, local_then, local_value, some_then}
+use Rattle.gx_tokens.proofs.LocalTokens.{some_word, some_number, some_mark, takes_word, takes_these_words, takes_number, takes_comma_or_close, local_open, local_comma, local_close}
 use Rattle.gx_tokens.proofs.ReadingLaws.{list_mark}
 use Rattle.gx_values.specs.declared.records.Field.{Field}
 use Rattle.gx_values.specs.declared.values.Kind.{Kind}
@@ -151,19 +151,6 @@ number_reason word (Some n) = tt
 
 local_file_name : (files : List FileDef) → IsLocal (want (a_file_name files)) (λ _. AWord)
 local_file_name files = local_want (a_file_name files) (λ _. AWord) (takes_word _ 0 (λ word. number_reason word (file_position files word)))
-
-local_open : IsLocal (want an_open) (λ _. the Open)
-local_open = local_want an_open (λ _. the Open) takes_open
-
-local_comma : IsLocal (want a_comma) (λ _. the Comma)
-local_comma = local_want a_comma (λ _. the Comma) takes_comma
-
-local_close : IsLocal (want a_close) (λ _. the Close)
-local_close = local_want a_close (λ _. the Close) takes_close
-
--- the one piece and then the other has a text
-some_then : {A : Type 0} (first second : List ℕ → List ℕ → Type 0) → IsInhabited {A = Unit {0}} (λ _. first) → IsInhabited {A = A} (λ _. second) → IsInhabited {A = A} (λ _. first ⨾ second)
-some_then first second f s = some_both {A = Unit {0}} (λ _. first) (λ _ _. second) (λ _. first ⨾ second) (λ a b bytes mid rest p q. (mid, p, q)) f (λ _. s)
 
 abbrev made_file : List ℕ → List Field → FileDef
 made_file name fields = record { name = name; fields = fields }

@@ -23,7 +23,8 @@ use Rattle.gx_schema.specs.Names.{starts_with_letter, has_field, has_file, has_l
 use Rattle.gx_schema.specs.Rules.{IsName, IsKind, IsField, AreFields}
 use Rattle.gx_schema.specs.Reading.{size_from, size_at, a_kind, kind_at, a_field_name, field_at, fields_at, a_new_name, file_at, number_from, a_file_name, link_at, as_file, as_link, Start, Starts_file, Starts_link, Ends, a_start, item_from, item_at, items_at, all_items}
 use Rattle.gx_schema.specs.Grammar.{SizeText, KindText, FieldText, FieldsText, FileName, ItemText, ItemsText, IsItem, AreItems, IsSchemaText}
-use Rattle.gx_tokens.proofs.ReadingLaws.{done_is, means_is, bind_ok, mapped_ok, test_ok, want_ok, word_ok, number_ok, open_found, close_found, comma_found, list_mark_found, same_bytes}
+use Rattle.gx_tokens.proofs.ReadingLaws.{means_is, bind_ok, mapped_ok, test_ok, want_ok, word_ok, number_ok, open_found, close_found, comma_found, list_mark_found, same_bytes}
+use Rattle.gx_tokens.proofs.TokenFound.{done_is}
 
 -- ---- sizes
 

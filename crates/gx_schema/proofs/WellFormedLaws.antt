@@ -8,15 +8,15 @@ use Rattle.gx_schema.specs.Lookups.{file_at, no_file, no_link}
 use Rattle.gx_schema.specs.Rules.{AreFields, AreFiles, AreLinks, IsSchema}
 use Rattle.gx_schema.specs.WellFormed.{HasEnds, IsWellFormed}
 
-fields_few : (before fs : List Field) → AreFields before fs → length before ≤ 32 → length before + length fs ≤ 32
+pub fields_few : (before fs : List Field) → AreFields before fs → length before ≤ 32 → length before + length fs ≤ 32
 fields_few before [] are few = omega arith
 fields_few before (f ∷ fs) are few = omega (arith, fields_few (before ++ f ∷ []) fs are.1 (omega (arith, are.0.room, length-append before (f ∷ []))), length-append before (f ∷ []))
 
-files_few : (before fs : List FileDef) → AreFiles before fs → length before ≤ 32 → length before + length fs ≤ 32
+pub files_few : (before fs : List FileDef) → AreFiles before fs → length before ≤ 32 → length before + length fs ≤ 32
 files_few before [] are few = omega arith
 files_few before (f ∷ fs) are few = omega (arith, files_few (before ++ f ∷ []) fs are.1 (omega (arith, are.0.room, length-append before (f ∷ []))), length-append before (f ∷ []))
 
-links_few : (files : List FileDef) (before ls : List LinkDef) → AreLinks files before ls → length before ≤ 32 → length before + length ls ≤ 32
+pub links_few : (files : List FileDef) (before ls : List LinkDef) → AreLinks files before ls → length before ≤ 32 → length before + length ls ≤ 32
 links_few files before [] are few = omega arith
 links_few files before (l ∷ ls) are few = omega (arith, links_few files (before ++ l ∷ []) ls are.1 (omega (arith, are.0.room, length-append before (l ∷ []))), length-append before (l ∷ []))
 

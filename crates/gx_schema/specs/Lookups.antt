@@ -3,6 +3,7 @@ use Rattle.std.specs.Prelude.{ℕ, List, [], drop, slice_index_or}
 use Rattle.gx_values.specs.declared.values.Kind.{Kind}
 use Rattle.gx_values.specs.declared.values.Kind.TheVariants as kind
 use Rattle.gx_values.specs.declared.records.Field.{Field}
+use Rattle.gx_values.specs.Values.{no_field}
 use Rattle.gx_schema.specs.declared.schema.FileDef.{FileDef}
 use Rattle.gx_schema.specs.declared.schema.LinkDef.{LinkDef}
 use Rattle.gx_schema.specs.declared.schema.Schema.{Schema}
@@ -14,9 +15,6 @@ no_file = record { name = []; fields = [] }
 
 abbrev pub no_link : LinkDef
 no_link = record { name = []; owner = 0; member = 0 }
-
-abbrev pub no_field : Field
-no_field = record { name = []; kind = kind.Int }
 
 abbrev pub file_at : Schema → ℕ → FileDef
 file_at schema i = slice_index_or schema.files i no_file

@@ -19,7 +19,7 @@ use Rattle.gx_commands.specs.Cutting.{is_end}
 use Rattle.gx_script.specs.Names.{is_text, op_text, op_of, link_number, field_number}
 use Rattle.gx_script.specs.Reading.{met, want, behind, a_field, is_changed, a_new_field, an_op, a_link, a_link_to, a_value, change_at, changes_at, cond_at, more_conds, conds_at, where_from, where_at, owner_of_at, of_from, of_at, desc_from, desc_at, order_from, order_at}
 use Rattle.gx_script.specs.Grammar.{◌⨾◌, the, LinkName, FieldName, Literal, ChangeWords, ChangesWords, CondWords, CondsWords, WhereWords, OfWords, DescWords, OrderWords}
-use Rattle.gx_script.proofs.Steps.{ok_is, bind_ok, bind_is, test_ok, held_ok, want_ok}
+use Rattle.gx_script.proofs.Steps.{bind_ok, bind_is, test_ok, held_ok, want_ok, ok_is}
 use Rattle.gx_script.proofs.WordMeanings.{AllWords, words_behind, bare_found, name_found, name_again, link_within, field_within, op_found, op_again, behind_found, behind_again, value_found, value_again}
 use Rattle.gx_script.proofs.LoopLaws.{change_shorter, cond_shorter}
 

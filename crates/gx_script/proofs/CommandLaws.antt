@@ -17,7 +17,7 @@ use Rattle.gx_commands.specs.Cutting.{is_end}
 use Rattle.gx_script.specs.Names.{verb_text, verb_of, file_number, link_number}
 use Rattle.gx_script.specs.Reading.{met, want, a_file, a_structure, structure_from, a_value, a_verb, record_at, owner_at, member_at, values_at, changes_at, where_at, of_at, order_at, insert_at, update_at, connect_at, members_at, find_at, arguments_at, command_at, reading}
 use Rattle.gx_script.specs.Grammar.{the, CommandWords, Means}
-use Rattle.gx_script.proofs.Steps.{done, ok_is, bind_ok, bind_is, held_ok, want_ok}
+use Rattle.gx_script.proofs.Steps.{done, bind_ok, bind_is, held_ok, want_ok, ok_is}
 use Rattle.gx_script.proofs.WordMeanings.{AllWords, words_behind, name_found, name_again, file_within, link_within, verb_found, verb_again, value_found, value_again}
 use Rattle.gx_script.proofs.PartLaws.{record_found, record_again, owner_found, owner_again, member_found, member_again, values_found, values_again}
 use Rattle.gx_script.proofs.ClauseLaws.{apart_of_new, new_of_apart, changes_found, changes_again, where_found, where_again, of_found, of_again, order_found, order_again, order_start, of_start}

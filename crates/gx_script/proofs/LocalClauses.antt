@@ -2,6 +2,7 @@
 use Rattle.std.proofs.Common.{◌≡◌, ℕ, ◌<◌, true, false, List, [], ◌∷◌, ◌++◌, length, Option, None, Some, Result, Ok, Err, refl, sym, ap, subst, ◌∙◌, inl, inr, arith}
 use Rattle.std.specs.Prelude.{codes, IfErr}
 use Rattle.std.proofs.lemmas.List.{append-nil}
+use Rattle.std.proofs.lemmas.Option.{same_Some}
 use Rattle.gx_values.specs.declared.values.Value.{Value}
 use Rattle.gx_values.specs.declared.values.Kind.{Kind}
 use Rattle.gx_schema.specs.declared.schema.FileDef.{FileDef}
@@ -27,7 +28,7 @@ use Rattle.gx_script.specs.Shape.{AName, AValue, NameAndValue, Perhaps, Repeated
 use Rattle.gx_commands.specs.Words.{Word, Bare, IsWord, AreWords}
 use Rattle.gx_script.proofs.CommandLaws.{reading_again}
 use Rattle.gx_script.proofs.Steps.{done}
-use Rattle.gx_script.proofs.WordMeanings.{some_is, bare_found, verb_found, name_found, file_within}
+use Rattle.gx_script.proofs.WordMeanings.{bare_found, verb_found, name_found, file_within}
 use Rattle.gx_script.proofs.LocalWords.{next_of, IsFrontOf, Outcome, IsLocal, local_then, local_bind, local_map, local_as, local_same, local_none, local_optional, front_then}
 use Rattle.gx_script.proofs.LocalParts.{some_value, some_repeated, local_file, local_link, local_link_to, local_field, local_structure, local_value, local_values, named_value, local_named, flat, flat_then, file_key, owner_key, member_key, record_flat, owner_flat, member_flat}
 use Rattle.gx_script.proofs.LocalLoops.{local_changes, some_changes, local_conds}
@@ -176,7 +177,7 @@ no_verb schema w ws reason e = ap (λ (r : Result Verb LineWhy). met r ws >>= λ
 
 no_verb_next : (schema : Schema) (w : Word) (reason : LineWhy) (other : List Word) → a_verb w ≡ Err reason → next_of other ≡ Some w → reading schema other ≡ Err reason
 no_verb_next schema w reason [] e same = absurd cc
-no_verb_next schema w reason (v ∷ vs) e same = no_verb schema v vs reason (ap a_verb (some_is v w same) ∙ e)
+no_verb_next schema w reason (v ∷ vs) e same = no_verb schema v vs reason (ap a_verb (same_Some v w same) ∙ e)
 
 ended_by : (c : Command) (rest : List Word) (u : Word) → next_of rest ≡ Some u → ended (c, rest) ≡ Err why.Word
 ended_by c [] u e = absurd cc

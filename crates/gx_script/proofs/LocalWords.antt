@@ -1,6 +1,7 @@
 -- What is read depends on the words that are read and on the next one, and a fault on those up to it; and the words before a
 -- fault could go on.
 use Rattle.std.proofs.Common.{◌≡◌, ℕ, Bool, true, false, cond, List, [], ◌∷◌, ◌++◌, Option, None, Some, Result, Ok, Err, refl, sym, ap, subst, ◌∙◌, append_assoc, inl, inr}
+use Rattle.std.proofs.lemmas.Option.{same_Some}
 use Rattle.gx_commands.specs.declared.command.LineWhy.{LineWhy}
 use Rattle.gx_commands.specs.declared.command.LineWhy.TheVariants as why
 use Rattle.std.specs.List.{AllByRecursion}
@@ -9,7 +10,7 @@ use Rattle.gx_script.specs.Names.{is_text}
 use Rattle.gx_script.specs.Reading.{◌>>=◌, met, want, behind}
 use Rattle.gx_script.specs.Grammar.{◌⨾◌, NoWord, the}
 use Rattle.gx_script.specs.Shape.{Perhaps}
-use Rattle.gx_script.proofs.WordMeanings.{some_is, behind_found, behind_again}
+use Rattle.gx_script.proofs.WordMeanings.{behind_found, behind_again}
 
 abbrev pub next_of : List Word → Option Word
 next_of [] = None
@@ -49,7 +50,7 @@ nothing_next meaning (w ∷ ws) e = absurd cc
 
 same_next : {A : Type 0} (meaning : Word → Result A LineWhy) (w : Word) (reason : LineWhy) (other : List Word) → meaning w ≡ Err reason → next_of other ≡ Some w → want meaning other ≡ Err reason
 same_next meaning w reason [] e same = absurd cc
-same_next {A} meaning w reason (v ∷ vs) e same = ap (λ (x : Word). met (meaning x) vs) (some_is v w same) ∙ ap (λ (r : Result A LineWhy). met r vs) e
+same_next {A} meaning w reason (v ∷ vs) e same = ap (λ (x : Word). met (meaning x) vs) (same_Some v w same) ∙ ap (λ (r : Result A LineWhy). met r vs) e
 
 want_by : {A : Type 0} (meaning : Word → Result A LineWhy) (phrase : List Word → List Word → Type 0) → ((w : Word) (x : A) → meaning w ≡ Ok x → (rest : List Word) → phrase (w ∷ rest) rest) → IsFrontOf phrase []
     → (w : Word) (ws : List Word) (r : Result A LineWhy) → meaning w ≡ r → Outcome (want meaning) phrase (w ∷ ws) (met r ws)
@@ -167,7 +168,7 @@ pub behind_same : (keyword : List ℕ) (words other : List Word) → next_of oth
 behind_same keyword [] [] e none = refl
 behind_same keyword [] (v ∷ vs) e none = absurd cc
 behind_same keyword (w ∷ ws) [] e none = refl
-behind_same keyword (w ∷ ws) (v ∷ vs) e none = subst (λ (x : Word). behind keyword (x ∷ vs) ≡ None) (sym (some_is v w e)) (word_behind keyword w ws vs none)
+behind_same keyword (w ∷ ws) (v ∷ vs) e none = subst (λ (x : Word). behind keyword (x ∷ vs) ≡ None) (sym (same_Some v w e)) (word_behind keyword w ws vs none)
 
 module _ {A : Type 0} (keyword : List ℕ) (d : A) (from : List Word → Option (List Word) → Result (A × List Word) LineWhy) (inner : List Word → Result (A × List Word) LineWhy) (b : List Word → List Word → Type 0)
     (none : (words : List Word) → from words None ≡ Ok (d, words)) (some : (words rest : List Word) → from words (Some rest) ≡ inner rest) where

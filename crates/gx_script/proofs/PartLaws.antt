@@ -12,7 +12,7 @@ use Rattle.gx_commands.specs.Words.{Word, Bare}
 use Rattle.gx_script.specs.Names.{file_number, link_number}
 use Rattle.gx_script.specs.Reading.{want, a_file, a_link, a_value, record_at, owner_at, member_at, values_at}
 use Rattle.gx_script.specs.Grammar.{◌⨾◌, FileName, LinkName, Literal, Literals}
-use Rattle.gx_script.proofs.Steps.{ok_is, bind_ok, bind_is}
+use Rattle.gx_script.proofs.Steps.{bind_ok, bind_is, ok_is}
 use Rattle.gx_script.proofs.WordMeanings.{AllWords, words_behind, name_found, name_again, file_within, link_within, value_found, value_again}
 
 -- ---- FILE KEY

@@ -8,22 +8,24 @@ use Rattle.std.specs.List.{AllByRecursion, list_all}
 use Rattle.std.specs.Cmp.Lexicographic.{pointwise}
 use Rattle.std.proofs.lemmas.Slice.Eq.{slice_eq-Decides}
 use Rattle.std.proofs.lemmas.Bool.Decides.{Decides-eqb}
-use Rattle.std.proofs.lemmas.Bool.{cond_both, cond-true, ltb-true, lt-ltb, leb-true, le-leb, ne_eqb, eq-eqb, and_from}
+use Rattle.std.proofs.lemmas.Bool.{cond_both, cond-true, ltb-true, leb-true, le-leb, ne_eqb, eq-eqb, and_from}
 use Rattle.std.proofs.lemmas.List.Quantifiers.{position-Some}
+use Rattle.std.proofs.lemmas.Option.{same_Some}
 use Rattle.gx_values.specs.declared.values.Kind.{Kind}
 use Rattle.gx_values.specs.declared.values.Kind.TheVariants as kind
 use Rattle.gx_values.specs.declared.values.Op.{Op}
 use Rattle.gx_values.specs.declared.values.Op.TheVariants as op
 use Rattle.gx_values.specs.declared.values.Value.{Value}
 use Rattle.gx_values.specs.declared.values.Value.TheVariants as value
-use Rattle.gx_values.specs.Values.{Fits, is_printable}
+use Rattle.gx_values.specs.Values.{Fits, is_printable, no_field}
 use Rattle.gx_schema.specs.declared.schema.FileDef.{FileDef}
 use Rattle.gx_schema.specs.declared.schema.LinkDef.{LinkDef}
 use Rattle.gx_schema.specs.declared.schema.Schema.{Schema}
-use Rattle.gx_schema.specs.Lookups.{no_file, no_link, no_field}
+use Rattle.gx_schema.specs.Lookups.{no_file, no_link}
 use Rattle.gx_tokens.specs.Numbers.{is_number, number_value, signed_in_range, signed_number}
 use Rattle.gx_tokens.specs.Quotes.{unquoted}
 use Rattle.gx_tokens.specs.Spelling.{IsQuoted}
+use Rattle.gx_tokens.proofs.NumberLaws.{in_range_again}
 use Rattle.gx_commands.specs.declared.command.LineWhy.{LineWhy}
 use Rattle.gx_commands.specs.declared.command.LineWhy.TheVariants as why
 use Rattle.gx_script.specs.declared.keywords.Verb.{Verb}
@@ -32,7 +34,7 @@ use Rattle.gx_commands.specs.Words.{Word, Bare, Quoted, IsWord}
 use Rattle.gx_script.specs.Names.{is_text, verb_text, verb_of, op_text, op_of, file_number, link_number, field_number}
 use Rattle.gx_script.specs.Reading.{met, want, int_from, bare_or, behind, a_value}
 use Rattle.gx_script.specs.Grammar.{the, IsLiteral, Literal}
-use Rattle.gx_script.proofs.Steps.{ok_is, held_ok, want_ok}
+use Rattle.gx_script.proofs.Steps.{held_ok, want_ok, ok_is}
 
 -- each word of the line is one
 abbrev pub AllWords : List Word → Type 0
@@ -43,9 +45,6 @@ words_behind words w rest e h = let whole : AllWords (w ∷ rest) = subst AllWor
 
 pub word_first : (words : List Word) (w : Word) (rest : List Word) → words ≡ w ∷ rest → AllWords words → IsWord w
 word_first words w rest e h = let whole : AllWords (w ∷ rest) = subst AllWords e h in whole.0
-
-pub some_is : {A : Type 0} (x y : A) → Some x ≡ Some y → x ≡ y
-some_is x y e = cc
 
 -- ---- names
 
@@ -108,7 +107,7 @@ verb_again verb.Reorganize = refl
 verb_step : (text : List ℕ) (v w : Verb) (others : Option Verb) → (others ≡ Some w → text ≡ verb_text w) → cond (is_text text (verb_text v)) (Some v) others ≡ Some w → text ≡ verb_text w
 verb_step text v w others later e =
     cond_both (is_text text (verb_text v)) (Some v) others (λ (r : Option Verb). r ≡ Some w → text ≡ verb_text w)
-    (λ is h. same_text text (verb_text v) is ∙ ap verb_text (some_is v w h))
+    (λ is h. same_text text (verb_text v) is ∙ ap verb_text (same_Some v w h))
     (λ _ h. later h)
     e
 
@@ -132,7 +131,7 @@ op_again op.AtLeast = refl
 op_step : (text : List ℕ) (o p : Op) (others : Option Op) → (others ≡ Some p → text ≡ op_text p) → cond (is_text text (op_text o)) (Some o) others ≡ Some p → text ≡ op_text p
 op_step text o p others later e =
     cond_both (is_text text (op_text o)) (Some o) others (λ (r : Option Op). r ≡ Some p → text ≡ op_text p)
-    (λ is h. same_text text (op_text o) is ∙ ap op_text (some_is o p h))
+    (λ is h. same_text text (op_text o) is ∙ ap op_text (same_Some o p h))
     (λ _ h. later h)
     e
 
@@ -145,7 +144,7 @@ op_found text p e =
 behind_is : (text keyword : List ℕ) (ws rest : List Word) → cond (is_text text keyword) (Some ws) None ≡ Some rest → the keyword (Bare text ∷ ws) rest
 behind_is text keyword ws rest e =
     cond_both (is_text text keyword) (Some ws) None (λ (r : Option (List Word)). r ≡ Some rest → the keyword (Bare text ∷ ws) rest)
-    (λ is h. ap (λ (t : List ℕ). Bare t ∷ ws) (same_text text keyword is) ∙ ap (λ (vs : List Word). Bare keyword ∷ vs) (some_is ws rest h))
+    (λ is h. ap (λ (t : List ℕ). Bare t ∷ ws) (same_text text keyword is) ∙ ap (λ (vs : List Word). Bare keyword ∷ vs) (same_Some ws rest h))
     (λ _ h. absurd cc)
     e
 
@@ -162,18 +161,14 @@ behind_again keyword words rest e = rw (e, text_same keyword) refl
 in_range_found : (z n : ℤ) → signed_in_range z ≡ Some n → (z ≡ n) × FitsSigned w64 n
 in_range_found (pos k) n e =
     cond_both (ltb k (2 ^ 63)) (Some (pos k)) None (λ (r : Option ℤ). r ≡ Some n → (pos k ≡ n) × FitsSigned w64 n)
-    (λ lt h. let is = some_is (pos k) n h in let low = ltb-true k (2 ^ 63) lt in let fits : FitsSigned w64 (pos k) = omega arith in (is, subst (FitsSigned w64) is fits))
+    (λ lt h. let is = same_Some (pos k) n h in let low = ltb-true k (2 ^ 63) lt in let fits : FitsSigned w64 (pos k) = omega arith in (is, subst (FitsSigned w64) is fits))
     (λ _ h. absurd cc)
     e
 in_range_found (negsuc k) n e =
     cond_both (ltb k (2 ^ 63)) (Some (negsuc k)) None (λ (r : Option ℤ). r ≡ Some n → (negsuc k ≡ n) × FitsSigned w64 n)
-    (λ lt h. let is = some_is (negsuc k) n h in let low = ltb-true k (2 ^ 63) lt in let fits : FitsSigned w64 (negsuc k) = omega arith in (is, subst (FitsSigned w64) is fits))
+    (λ lt h. let is = same_Some (negsuc k) n h in let low = ltb-true k (2 ^ 63) lt in let fits : FitsSigned w64 (negsuc k) = omega arith in (is, subst (FitsSigned w64) is fits))
     (λ _ h. absurd cc)
     e
-
-in_range_again : (z : ℤ) → FitsSigned w64 z → signed_in_range z ≡ Some z
-in_range_again (pos n) fits = cond-true (ltb n (2 ^ 63)) _ _ (lt-ltb n (2 ^ 63) (omega (arith, fits)))
-in_range_again (negsuc n) fits = cond-true (ltb n (2 ^ 63)) _ _ (lt-ltb n (2 ^ 63) (omega (arith, fits)))
 
 pub signed_found : (text : List ℕ) (n : ℤ) → signed_number text ≡ Some n → (is_number text ≡ true) × (number_value text ≡ n) × FitsSigned w64 n
 signed_found text n e =

@@ -7,7 +7,8 @@ use Rattle.std.proofs.lemmas.Bool.{false≢true}
 use Rattle.std.proofs.lemmas.Cmp.{nat_list_cmp_total}
 use Rattle.std.proofs.lemmas.List.{drop_all, get_or-drop, length-drop}
 use Rattle.std.proofs.lemmas.List.Elements.{All-nil}
-use Rattle.gx_order.proofs.BelowLemmas.{cmp, less_from_lt, not_below_is_le}
+use Rattle.gx_laws.proofs.OrderingLemmas.{less_from_lt}
+use Rattle.gx_order.proofs.BelowLemmas.{cmp, not_below_is_le}
 use Rattle.gx_bytes.proofs.SearchLemmas.{IsAt, at_next, at_end}
 use Rattle.gx_slots.specs.Entries.{Entry, AreAscending}
 

@@ -1,10 +1,10 @@
 -- The forms of the children of both layers.
-use Rattle.std.specs.Prelude.{ℕ, zero, suc, pos, Bool, not, List, [], ◌∷◌, map, slice_index_or}
+use Rattle.std.specs.Prelude.{ℕ, zero, suc, Bool, not, List, [], ◌∷◌, map, slice_index_or}
 use Rattle.gx_values.specs.declared.values.Kind.TheVariants as kind
-use Rattle.gx_values.specs.declared.values.Value.{Value}
 use Rattle.gx_values.specs.declared.values.Value.TheVariants as value
 use Rattle.gx_values.specs.declared.records.Field.{Field}
 use Rattle.gx_values.specs.declared.records.Form.{Form}
+use Rattle.gx_values.specs.Values.{no_field}
 use Rattle.gx_split.specs.Groups.{chosen}
 
 -- the same key, and the fields of the group
@@ -12,13 +12,6 @@ abbrev pub segment_form : List Bool → Form → ℕ → Form
 segment_form mask form zero = record { keys = form.keys; fields = chosen mask form.fields }
 segment_form mask form (suc child) =
     record { keys = form.keys; fields = chosen (map not mask) form.fields }
-
--- what stands in the place of a field or a value that isn't there
-abbrev pub no_field : Field
-no_field = record { name = []; kind = kind.Int }
-
-abbrev pub no_value : Value
-no_value = value.Int (pos 0)
 
 -- the same key, and one field
 abbrev pub alone : Form → Field → Form

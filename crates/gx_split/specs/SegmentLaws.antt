@@ -1,7 +1,6 @@
 -- A segment keeps the laws of mappings.
 use Rattle.std.proofs.Common.{inl, inr, ◌≡◌, ℕ, zero, suc, ◌<◌, List, [], ◌∷◌, length, map, get_or, cond, Bool, true, false, refl, sym, ap, subst, ◌∙◌, arith, append-nil}
 use Rattle.std.specs.Prelude.{◌&&◌, ◌⊎◌, not, slice_index_or}
-use Rattle.std.specs.List.{filter}
 use Rattle.std.specs.List.Sorted.{IsStrictlySortedBy}
 use Rattle.gx_values.specs.declared.records.Form.{Form}
 use Rattle.gx_values.specs.declared.records.Rec.{Rec}
@@ -9,15 +8,11 @@ use Rattle.gx_mapping.specs.declared.parts.Part.{Part}
 use Rattle.gx_mapping.specs.Rule.{In, IsOf, part_cmp, is_field, first_in}
 use Rattle.gx_mapping.specs.Laws.{MappingLaws, IsCarried, IsCarrier}
 use Rattle.gx_mapping.proofs.FieldLemmas.{has_value}
+use Rattle.gx_mapping.proofs.RuleLemmas.{all_data}
 use Rattle.gx_split.specs.Groups.{chosen, merge}
 use Rattle.gx_split.specs.GroupLaws.{fit_length, merge_chosen, chosen_fit, only_defaults, chosen_kind, chosen_value}
 use Rattle.gx_split.specs.Forms.{segment_form}
 use Rattle.gx_split.specs.SegmentRules.{first_part, other_part, is_short, segment_parts, is_first, segment_rule}
-
--- all parts are data parts
-pub all_data : (ps : List Part) → filter (λ (p : Part). true) ps ≡ ps
-all_data [] = refl
-all_data (p ∷ ps) = ap (λ (qs : List Part). p ∷ qs) (all_data ps)
 
 -- ---- the parts
 

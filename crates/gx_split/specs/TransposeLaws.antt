@@ -7,18 +7,19 @@ use Rattle.std.specs.Cmp.Lexicographic.{pointwise}
 use Rattle.std.specs.Ordering.{nat_cmp, ordering_then}
 use Rattle.std.specs.declared.cmp.Ordering.TheVariants.{Less}
 use Rattle.std.proofs.lemmas.Bool.Decides.{nat_tests}
+use Rattle.gx_laws.proofs.NumberLemmas.{equal_from_nat_eq, nat_eq_itself}
 use Rattle.gx_values.specs.declared.values.Value.{Value}
 use Rattle.gx_values.specs.declared.records.Field.{Field}
 use Rattle.gx_values.specs.declared.records.Form.{Form}
 use Rattle.gx_values.specs.declared.records.Rec.{Rec}
-use Rattle.gx_values.specs.Values.{values_cmp, Fits, AreFit}
+use Rattle.gx_values.specs.Values.{values_cmp, Fits, AreFit, no_field, no_value}
 use Rattle.gx_mapping.specs.declared.parts.Part.{Part}
 use Rattle.gx_mapping.specs.Rule.{In, IsOf, part_cmp, value_in, kind_in, is_field, first_in}
 use Rattle.gx_mapping.specs.Laws.{MappingLaws, IsCarried, IsCarrier}
 use Rattle.gx_mapping.proofs.FieldLemmas.{has_value, first_within}
+use Rattle.gx_mapping.proofs.RuleLemmas.{all_data}
 use Rattle.gx_split.specs.GroupLaws.{fit_length}
-use Rattle.gx_split.specs.SegmentLaws.{all_data}
-use Rattle.gx_split.specs.Forms.{no_field, no_value, column_form}
+use Rattle.gx_split.specs.Forms.{column_form}
 use Rattle.gx_split.specs.TransposeRules.{column_part, columns, transpose_rule, first_value}
 
 -- ---- members
@@ -167,12 +168,6 @@ both true true e = (refl, refl)
 both true false e = cc
 both false b e = cc
 
-same_number : (a b : ℕ) → nat_eq a b ≡ true → a ≡ b
-same_number a b e = grind (arith, nat_tests)
-
-itself : (a : ℕ) → nat_eq a a ≡ true
-itself a = grind (arith, nat_tests)
-
 only_column : (form : Form) (name : List ℕ) (r : Rec) (q : Part) → IsColumn r.key 0 r.fields q
     → (transpose_rule form).carries q.child name ≡ true
     → q ≡ column_part r.key (first_in form.fields name)
@@ -180,7 +175,7 @@ only_column : (form : Form) (name : List ℕ) (r : Rec) (q : Part) → IsColumn 
 only_column form name r q column carries =
     let child : q.child ≡ 0 + column.at = ap (λ (p : Part). p.child) column.is in
     let number =
-    same_number (first_in form.fields name) q.child
+    equal_from_nat_eq (first_in form.fields name) q.child
     (both (is_field form.fields name) (nat_eq (first_in form.fields name) q.child) carries).1 in
     let at : column.at ≡ first_in form.fields name = omega arith in
     let none : 0 + column.at ≡ first_in form.fields name = omega arith in
@@ -201,7 +196,7 @@ carried_by form name r there is =
           (λ (c : ℕ). In (column_part r.key c (get_or r.fields n no_value))
           (columns r.key 0 r.fields)) (let none : 0 + n ≡ n = omega arith in none)
           (column_there r.key 0 n r.fields within);
-      carries = (λ i. there i && itself n i);
+      carries = (λ i. there i && nat_eq_itself n i);
       only = λ q at also. only_column form name r q (column_of r.key 0 r.fields q at) also;
       key = refl;
       of_record = v.1;
@@ -212,7 +207,7 @@ carrier : (form : Form) (name : List ℕ) (c : ℕ) → (transpose_rule form).ca
     → IsCarrier (transpose_rule form) name c
 carrier form name c carries =
     let b = both (is_field form.fields name) (nat_eq (first_in form.fields name) c) carries in
-    subst (IsCarrier (transpose_rule form) name) (same_number (first_in form.fields name) c b.1)
+    subst (IsCarrier (transpose_rule form) name) (equal_from_nat_eq (first_in form.fields name) c b.1)
     (record {
       rest = refl;
       keys = refl;

@@ -6,8 +6,8 @@ use Rattle.gx_values.specs.declared.records.Form.{Form}
 use Rattle.gx_mapping.specs.declared.parts.Part.{Part}
 use Rattle.gx_mapping.specs.Rule.{Rule, is_field, first_in}
 use Rattle.gx_split.specs.declared.layer.Transpose.{Transpose}
-use Rattle.gx_split.specs.Forms.{no_value, column_form}
-use Rattle.gx_values.specs.Values.{IsSized}
+use Rattle.gx_split.specs.Forms.{column_form}
+use Rattle.gx_values.specs.Values.{IsSized, no_value}
 
 abbrev pub column_part : List Value → ℕ → Value → Part
 column_part key child v = record { child = child; rec = record { key = key; fields = v ∷ [] } }

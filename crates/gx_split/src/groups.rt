@@ -1,8 +1,7 @@
 // Fields and values of a group, and both groups merged.
 ghost use Rattle.std.specs.Prelude.{◌≡◌, ◌∷◌, [], ◌++◌, ◌<◌, ◌||◌, length, map, not, true, false, slice_index_or, if◌then◌else◌, IfOk};
-ghost use Rattle.gx_values.specs.Values.{AreFit, IsSized, AreSized, is_default};
+ghost use Rattle.gx_values.specs.Values.{AreFit, IsSized, AreSized, is_default, no_value};
 ghost use Rattle.gx_split.specs.Groups.{chosen, merge, defaults_of, are_default};
-ghost use Rattle.gx_split.specs.Forms.{no_value};
 
 use crate::layer::Mask;
 use gx_values::{Field, Fields, NoMemory, Value, Values, default_of, is_default};

@@ -1,6 +1,7 @@
 -- A layer of which one child alone is searched.
 use Rattle.std.proofs.Common.{◌≡◌, ◌≢◌, ◌<◌, ◌≤◌, ◌+◌, ℕ, zero, suc, true, false, List, [], ◌∷◌, ◌++◌, None, inl, inr, refl, sym, ap, ◌∙◌, subst, length, map, take, drop, arith, append-nil, length-append}
 use Rattle.std.specs.List.{sum_by, flat_map}
+use Rattle.gx_laws.proofs.NumberLemmas.{nat_cases}
 use Rattle.gx_values.specs.declared.values.Value.{Value}
 use Rattle.gx_values.specs.declared.records.Field.{Field}
 use Rattle.gx_values.specs.declared.records.Rec.{Rec}
@@ -11,13 +12,14 @@ use Rattle.gx_mapping.specs.Rule.{Rule, In, IsOf, data_parts, IsOfKey, AreOfKey,
 use Rattle.gx_mapping.specs.Laws.{MappingLaws}
 use Rattle.gx_mapping.proofs.RuleLemmas.{the_one, sorted_one}
 use Rattle.gx_gather.specs.Gather.{rec_cmp, part_for, AreEach}
-use Rattle.gx_gather.proofs.Lists.{in_map, from_map, nat_cases}
+use Rattle.gx_gather.proofs.Lists.{in_map, from_map}
 use Rattle.gx_gather.proofs.Orders.{ascends, ascends_once}
-use Rattle.gx_gather.proofs.Made.{fit_length, nothing_left}
+use Rattle.gx_gather.proofs.Made.{nothing_left}
 use Rattle.gx_gather.proofs.Each.{each_those, made_of_each}
 use Rattle.gx_stack.specs.Tree.{Tree, Kids, layer, entries_of, kid_entries, entry_total}
 use Rattle.gx_stack.specs.Internal.{IsSet, child_records}
 use Rattle.gx_mapping.specs.Searched.{IsAlone, is_searched}
+use Rattle.gx_mapping.proofs.FieldLemmas.{values_count}
 use Rattle.gx_stack.specs.Selected.{IsKeySpan, IsSelection}
 use Rattle.gx_stack.proofs.Selects.{AreParts, within, no_parts, searched_rest, child_found, child_left, selection_from, set_within, all_made, plus_one, weight, child_weight, data_weight}
 
@@ -105,7 +107,7 @@ module _ {rule : Rule} (laws : MappingLaws rule) (R : List Rec) (set : IsSet rul
         let width = length rule.form.keys in
         let whole : (x : Rec) → In x qs → take width x.key ≡ x.key =
         λ x i. ap (λ n. take n x.key) (sym alone.1
-        ∙ sym (fit_length (rule.kid_form c).keys x.key (fit x i).key)) ∙ take_all x.key in
+        ∙ sym (values_count (rule.kid_form c).keys x.key (fit x i).key)) ∙ take_all x.key in
         all_made laws (within span R) (set_within rule.form span R set) (map (part_for c) qs)
         alone_parts width (Unit {0}) refl tt (record {
           key = q.key;

@@ -1,16 +1,15 @@
 -- Counts of the entries of leaves.
-use Rattle.std.proofs.Common.{◌≡◌, ◌≢◌, ◌<◌, ℕ, zero, suc, Bool, true, cond, List, [], ◌∷◌, length, get_or, set, inl, inr, refl, sym, ap, subst, ◌∙◌}
+use Rattle.std.proofs.Common.{◌≡◌, ◌<◌, ℕ, zero, suc, Bool, true, cond, List, [], ◌∷◌, length, get_or, set, inl, inr, refl, sym, ap, subst, ◌∙◌}
 use Rattle.std.specs.Prelude.{Option, Some, None, slice_get, replicate}
 use Rattle.std.specs.List.{filter}
 use Rattle.std.specs.FinMap as fin
 use Rattle.std.proofs.lemmas.Bool.Decides.{eqb_tells}
 use Rattle.std.proofs.lemmas.List.{length-map, length-set, get_or-set_same, get_or-set_other}
-use Rattle.std.proofs.lemmas.Option.{slice_get_within, slice_get-get_or, get_or_from_slice_get}
+use Rattle.std.proofs.lemmas.Option.{slice_get_within, slice_get-get_or, get_or_from_slice_get, same_Some}
 use Rattle.gx_values.specs.Keys.{is_inside}
+use Rattle.gx_values.proofs.OrderLemmas.{all_inside}
 use Rattle.gx_ports.specs.LeafMaps.{LeafMap, map_at, entry_of, selected}
-use Rattle.gx_gather.proofs.Lists.{some_same}
 use Rattle.gx_stack.specs.Held.{AreCounts}
-use Rattle.gx_stack.proofs.WholeLeaf.{all_inside}
 
 keeps_all : {A : Type 0} (p : A → Bool) (xs : List A) → ((x : A) → p x ≡ true) → filter p xs ≡ xs
 keeps_all p [] all = refl
@@ -34,7 +33,7 @@ count_noted maps counts leaf count is are n k there =
     let read = get_or_from_slice_get (set counts leaf v) n (Some k) v there in
     elim (eqb_tells n leaf) [
       | inl same ↦
-          sym (some_same count k (sym (get_or-set_same counts n v v within) ∙ subst (λ j. get_or (set counts j v) n v ≡ Some k) (sym same.1) read))
+          sym (same_Some count k (sym (get_or-set_same counts n v v within) ∙ subst (λ j. get_or (set counts j v) n v ≡ Some k) (sym same.1) read))
           ∙ subst (λ j. count ≡ fin.len (map_at maps j)) (sym same.1) is
       | inr off ↦ are n k (slice_get-get_or counts n v within ∙ ap Some (sym (get_or-set_other counts leaf n v v off.1) ∙ read))
     ]

@@ -5,6 +5,8 @@ use Rattle.std.proofs.lemmas.Bool.{true≢false}
 use Rattle.std.proofs.lemmas.List.Sums.{sum_by-cons}
 use Rattle.std.specs.List.{flat_map}
 use Rattle.std.specs.declared.cmp.Ordering.TheVariants.{Less}
+use Rattle.gx_laws.proofs.NumberLemmas.{nat_cases}
+use Rattle.gx_laws.proofs.ListLemmas.{right_empty}
 use Rattle.gx_values.specs.declared.values.Value.{Value}
 use Rattle.gx_values.specs.declared.records.Rec.{Rec}
 use Rattle.gx_values.specs.declared.keys.Span.{Span}
@@ -14,15 +16,16 @@ use Rattle.gx_values.specs.Spans.{IsValueSpan}
 use Rattle.gx_mapping.specs.declared.parts.Part.{Part}
 use Rattle.gx_mapping.specs.Rule.{Rule, In, value_in}
 use Rattle.gx_mapping.specs.Laws.{MappingLaws, IsCarrier, IsIndex}
+use Rattle.gx_mapping.proofs.RuleLemmas.{all_in}
 use Rattle.gx_stack.specs.Tree.{Tree, Kids, layer, entries_of, kid_entries, entry_total}
 use Rattle.gx_stack.specs.Internal.{IsSet, child_records}
 use Rattle.gx_gather.specs.Gather.{rec_cmp, part_for}
 use Rattle.gx_stack.specs.Selected.{IsKeySpan}
 use Rattle.gx_stack.specs.Indexed.{is_value_inside, is_where, AreUnderOwnKeys}
-use Rattle.gx_gather.proofs.Lists.{in_left, in_right, in_cases, nat_cases, all_at}
+use Rattle.gx_gather.proofs.Lists.{in_left, in_right, in_cases}
 use Rattle.gx_gather.proofs.Orders.{rec_total, Ascends, not_before_itself}
 use Rattle.gx_stack.proofs.Children.{from_child, in_child}
-use Rattle.gx_stack.proofs.Selects.{le_longer, front_longer, last_none}
+use Rattle.gx_stack.proofs.Selects.{le_longer, front_longer}
 
 -- ---- no record twice
 
@@ -36,7 +39,7 @@ own_once (f ∷ fs) own = (λ h. own.0 f h refl, own_once fs own.1)
 
 pub ascending_once : (fs : List Rec) → Ascends rec_cmp fs → AreOnceEach fs
 ascending_once [] up = tt
-ascending_once (f ∷ fs) up = (λ h. not_before_itself rec_total f (all_at (λ y. rec_cmp f y ≡ Less) fs f up.0 h), ascending_once fs up.1)
+ascending_once (f ∷ fs) up = (λ h. not_before_itself rec_total f (all_in (λ y. rec_cmp f y ≡ Less) fs f up.0 h), ascending_once fs up.1)
 
 own_append : (xs ys : List Rec) → AreUnderOwnKeys xs → AreUnderOwnKeys ys → ((x y : Rec) → In x xs → In y ys → y.key ≢ x.key) → AreUnderOwnKeys (xs ++ ys)
 own_append [] ys own more apart = more
@@ -190,7 +193,7 @@ index_span rule name c span is whole = record {
   where
     by_key : (end : List ℕ) → ((v : Value) (rest : List ℕ) → Fits is.field.kind v → end ≡ bytes_of v ++ rest → rest ≡ []) → (key : List Value) (rest : List ℕ) → AreFit (is.field ∷ rule.form.keys) key → end ≡ key_of key ++ rest → rest ≡ []
     by_key end none [] rest fits e = absurd fits
-    by_key end none (v ∷ vs) rest fits e = last_none (key_of vs) rest (none v (key_of vs ++ rest) fits.0 (e ∙ append_assoc (bytes_of v) (key_of vs) rest))
+    by_key end none (v ∷ vs) rest fits e = right_empty (key_of vs) rest (none v (key_of vs ++ rest) fits.0 (e ∙ append_assoc (bytes_of v) (key_of vs) rest))
 
 module _ {rule : Rule} (laws : MappingLaws rule) (R : List Rec) (set : IsSet rule.form R) (name : List ℕ) (span : Span) (c : ℕ) (is : IsIndex rule name c) (whole : IsValueSpan is.field.kind span) where
   pub index_single : (r : Rec) (p q : Part) → In r R → In p (rule.parts r) → In q (rule.parts r) → p.child ≡ c → q.child ≡ c → p ≡ q

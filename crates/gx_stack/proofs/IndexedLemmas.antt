@@ -1,13 +1,13 @@
 -- Which children carry a field and are indexed by it, by their numbers.
 use Rattle.std.proofs.Common.{◌≡◌, ◌<◌, ◌+◌, ℕ, zero, suc, Bool, true, false, List, [], ◌∷◌, inl, inr, refl, sym, ap, ◌∙◌, length, get_or, map, arith}
 use Rattle.std.specs.Prelude.{◌&&◌, ◌||◌, not}
+use Rattle.gx_laws.proofs.ListLemmas.{get_or_any}
+use Rattle.gx_laws.proofs.NumberLemmas.{nat_cases}
 use Rattle.gx_stack.specs.declared.node.Node.{Node}
 use Rattle.gx_mapping.specs.Rule.{Rule}
 use Rattle.gx_stack.specs.Seen.{tree_of, kids_from}
 use Rattle.gx_stack.specs.Indexed.{is_carried, is_indexed, are_indexed}
 use Rattle.std.proofs.lemmas.Bool.{true≢false}
-use Rattle.gx_gather.proofs.Lists.{nat_cases}
-use Rattle.gx_stack.proofs.Stay.{get_or_any}
 
 module _ {M : Type 0} (rule : M → Rule) (name : List ℕ) where
   -- ---- some child carries it

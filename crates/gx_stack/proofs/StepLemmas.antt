@@ -1,6 +1,5 @@
 -- How many steps it takes to read the leaves of a node: one for each and one for each of its entries.
 use Rattle.std.proofs.Common.{◌≡◌, ◌<◌, ◌≤◌, ◌+◌, ◌-◌, ◌^◌, ℕ, zero, suc, Bool, true, false, cond, List, [], ◌∷◌, refl, sym, ap, ◌∙◌, subst, length, map, min, get_or, arith}
-use Rattle.std.specs.Prelude.{Result, Ok, Err, OnOk}
 use Rattle.std.specs.List.{sum_by, filter}
 use Rattle.std.specs.FinMap.{entries, len, len-entries}
 use Rattle.std.proofs.lemmas.List.{length-map}
@@ -79,7 +78,3 @@ module _ {M : Type 0} (n : Node M) (l : LayerNode M) (is : n ≡ V.Layer l) (map
   -- with one child more
   pub child_steps : (c : ℕ) (k : Node M) → c < length l.kids.items → k ≡ get_or l.kids.items c k → steps_below maps (c + 1) (kids_from (map tree_of l.kids.items)) ≡ steps_below maps c (kids_from (map tree_of l.kids.items)) + tree_steps maps (tree_of k)
   child_steps c k there read = below_more maps l.kids.items c k there ∙ ap (λ x. steps_below maps c (kids_from (map tree_of l.kids.items)) + tree_steps maps (tree_of x)) (sym read)
-
-pub if_ever : {A E P : Type 0} (result : Result A E) → P → OnOk result P
-if_ever (Ok x) p = p
-if_ever (Err e) p = tt

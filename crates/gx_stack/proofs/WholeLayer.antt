@@ -9,17 +9,20 @@ use Rattle.std.specs.declared.cmp.Ordering.{Ordering}
 use Rattle.std.specs.declared.cmp.Ordering.TheVariants.{Less, Equal, Greater}
 use Rattle.std.specs.Cmp.{eq_by_cmp_equiv}
 use Rattle.std.specs.FinMap.{nat_cmp-IsAntisymmetric, slice_cmp-IsAntisymmetric}
+use Rattle.gx_laws.proofs.OrderingLemmas.{cmp_less}
+use Rattle.gx_laws.proofs.NumberLemmas.{nat_cases}
 use Rattle.gx_values.proofs.OrderLemmas.{value_cmp_same}
 use Rattle.gx_values.specs.declared.records.Rec.{Rec}
 use Rattle.gx_values.specs.Values.{values_cmp}
 use Rattle.gx_mapping.specs.declared.parts.Part.{Part}
 use Rattle.gx_mapping.specs.Rule.{Rule, In, IsOf, data_parts, part_cmp}
 use Rattle.gx_mapping.specs.Laws.{MappingLaws}
+use Rattle.gx_mapping.proofs.RuleLemmas.{all_in}
 use Rattle.gx_stack.specs.Internal.{IsSet, parts_for, child_records}
 use Rattle.gx_gather.specs.Gather.{rec_cmp, gather_cmp, part_for, AreMade}
 use Rattle.gx_stack.specs.Held.{other_parts, AreMadeWith, AreJoined}
-use Rattle.gx_gather.proofs.Lists.{in_left, in_right, in_cases, in_each, from_each, in_map, from_map, in_filter, filter_in, all_at, all_of, nat_cases, bool_cases}
-use Rattle.gx_gather.proofs.Orders.{Ascends, ascends, sorted, ascends_append, ascends_filter, ascends_unique, ascends_once, child_ascends, nat_less, part_total, gather_total, gather_ties, rises, rises_ascends, ascends_by, not_before_itself, rec_total}
+use Rattle.gx_gather.proofs.Lists.{in_left, in_right, in_cases, in_each, from_each, in_map, from_map, in_filter, filter_in, all_of, bool_cases}
+use Rattle.gx_gather.proofs.Orders.{Ascends, ascends, sorted, ascends_append, ascends_filter, ascends_unique, ascends_once, child_ascends, part_total, gather_total, gather_ties, rises, rises_ascends, ascends_by, not_before_itself, rec_total}
 use Rattle.gx_stack.proofs.Children.{in_parts_for, from_parts_for, from_child, in_child, child_set}
 use Rattle.gx_gather.proofs.Made.{permuted_in, permuted_back}
 use Rattle.gx_stack.proofs.Selects.{AreParts, made_sound, made_complete, all_made}
@@ -48,7 +51,7 @@ read_none rule holds = record { data_in_order = tt; others_in_order = tt; data_b
 child_behind : (c : ℕ) (ps : List Part) (found : List Rec) → ((p : Part) → In p ps → p.child < c) → Ascends part_cmp ps → Ascends rec_cmp found → Ascends part_cmp (ps ++ map (part_for c) found)
 child_behind c ps found below a b = ascends_append ps (map (part_for c) found) a (child_ascends c found b) (λ x y i k.
     let q = from_map (part_for c) y found k in
-    ap (λ o. ordering_then o (values_cmp x.rec.key y.rec.key)) (ap (λ (z : Part). nat_cmp x.child z.child) q.2 ∙ nat_less x.child c (below x i)))
+    ap (λ o. ordering_then o (values_cmp x.rec.key y.rec.key)) (ap (λ (z : Part). nat_cmp x.child z.child) q.2 ∙ cmp_less x.child c (below x i)))
 
 module _ (rule : Rule) (holds : ℕ → List Rec → Type 0) (by_members : IsByMembers rule.kids holds) (c : ℕ) (below : c < rule.kids) (found : List Rec) (rises_up : Ascends rec_cmp found) (held : holds c found) where
   -- all parts, with those of this child somewhere among them
@@ -135,7 +138,7 @@ pub distinct_append : {A : Type 0} (E : A → A → Bool) (xs ys : List A) → I
 unfolding IsDistinct
 distinct_append E [] ys a b apart = b
 distinct_append E (x ∷ xs) ys a b apart = (
-  all_of _ (xs ++ ys) (λ z i. elim (in_cases z xs ys i) [ inl k ↦ all_at (λ y. E x y ≡ false) xs z a.0 k | inr k ↦ apart x z (inl refl) k ]),
+  all_of _ (xs ++ ys) (λ z i. elim (in_cases z xs ys i) [ inl k ↦ all_in (λ y. E x y ≡ false) xs z a.0 k | inr k ↦ apart x z (inl refl) k ]),
   distinct_append E xs ys a.1 b (λ y z i k. apart y z (inr i) k),
 )
 
@@ -195,8 +198,8 @@ module _ {rule : Rule} (laws : MappingLaws rule) where
     once_in : (ps : List Part) (p q : Part) → Ascends part_cmp ps → In p ps → In q ps → p.child ≡ q.child → p.rec.key ≡ q.rec.key → p ≡ q
     once_in [] p q a h k child key = absurd h
     once_in (x ∷ ps) p q a (inl h) (inl k) child key = h ∙ sym k
-    once_in (x ∷ ps) p q a (inl h) (inr k) child key = absurd (tied_less p q child key (subst (λ y. part_cmp y q ≡ Less) (sym h) (all_at (λ y. part_cmp x y ≡ Less) ps q a.0 k)))
-    once_in (x ∷ ps) p q a (inr h) (inl k) child key = absurd (tied_less q p (sym child) (sym key) (subst (λ y. part_cmp y p ≡ Less) (sym k) (all_at (λ y. part_cmp x y ≡ Less) ps p a.0 h)))
+    once_in (x ∷ ps) p q a (inl h) (inr k) child key = absurd (tied_less p q child key (subst (λ y. part_cmp y q ≡ Less) (sym h) (all_in (λ y. part_cmp x y ≡ Less) ps q a.0 k)))
+    once_in (x ∷ ps) p q a (inr h) (inl k) child key = absurd (tied_less q p (sym child) (sym key) (subst (λ y. part_cmp y p ≡ Less) (sym k) (all_in (λ y. part_cmp x y ≡ Less) ps p a.0 h)))
     once_in (x ∷ ps) p q a (inr h) (inr k) child key = once_in ps p q a.1 h k child key
 
     once_read : (p q : Part) → In p (main ++ others) → In q (main ++ others) → p.child ≡ q.child → p.rec.key ≡ q.rec.key → p ≡ q
@@ -278,7 +281,7 @@ module _ {rule : Rule} (laws : MappingLaws rule) where
         (other_distinct found (λ s h. fit s (inr h)) a.1)
         (λ p q h k.
         let s = from_each (other_parts rule) q found k in
-        apart_parts p q r s.0 (fit r (inl refl)) (fit s.0 (inr s.1)) h s.2 (all_at (λ y. rec_cmp r y ≡ Less) found s.0 a.0 s.1))
+        apart_parts p q r s.0 (fit r (inl refl)) (fit s.0 (inr s.1)) h s.2 (all_in (λ y. rec_cmp r y ≡ Less) found s.0 a.0 s.1))
 
     -- so these children make records with just these other parts
     pub none_joined : AreJoined rule main others None → ⊥

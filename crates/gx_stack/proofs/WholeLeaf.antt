@@ -6,11 +6,13 @@ use Rattle.std.proofs.lemmas.List.{take_more}
 use Rattle.std.specs.List.{filter}
 use Rattle.std.specs.FinMap.{get, entries}
 use Rattle.std.specs.Ordering.{eq_by_cmp}
+use Rattle.std.proofs.lemmas.Option.{same_Some}
 use Rattle.gx_values.specs.declared.records.Form.{Form}
 use Rattle.gx_values.specs.declared.records.Rec.{Rec}
 use Rattle.gx_values.specs.declared.keys.Span.{Span}
 use Rattle.gx_values.specs.Values.{values_cmp}
 use Rattle.gx_values.specs.Keys.{key_of, is_inside}
+use Rattle.gx_values.proofs.OrderLemmas.{all_inside}
 use Rattle.gx_ports.specs.declared.leaves.Entry.{Entry}
 use Rattle.gx_ports.specs.LeafMaps.{LeafMap, entry_of, selected}
 use Rattle.gx_mapping.specs.declared.parts.Part.{Part}
@@ -21,7 +23,7 @@ use Rattle.gx_stack.specs.Read.{entry_of_rec}
 use Rattle.gx_gather.specs.Gather.{rec_cmp}
 use Rattle.gx_stack.specs.Held.{is_same_part}
 use Rattle.std.specs.List.Sorted.{IsStrictlySortedBy}
-use Rattle.gx_gather.proofs.Lists.{in_map, from_map, in_filter, filter_in, some_same}
+use Rattle.gx_gather.proofs.Lists.{in_map, from_map, in_filter, filter_in}
 use Rattle.gx_gather.proofs.Orders.{values_same, values_itself}
 use Rattle.gx_stack.proofs.LeafRead.{entry_get, get_entry, same_rec, leaf_selection}
 
@@ -66,10 +68,6 @@ part_other ps qs i p q lt read read' other same =
 
 -- ---- one leaf
 
-pub all_inside : (key : List ℕ) → is_inside [] [] key ≡ true
-all_inside [] = refl
-all_inside (x ∷ key) = refl
-
 module _ (form : Form) (leaf_form : IsLeafForm form) (m : LeafMap) (span : Span) (lo : span.lo ≡ []) (hi : span.hi ≡ []) (found : List Rec) (fit : (r : Rec) → In r found → IsOf form r) (same : map entry_of_rec found ≡ selected span.lo span.hi m) where
   inside_all : (key : List ℕ) → is_inside span.lo span.hi key ≡ true
   inside_all key = (λ i. is_inside (lo i) (hi i) key) ∙ all_inside key
@@ -93,7 +91,7 @@ module _ (form : Form) (leaf_form : IsLeafForm form) (m : LeafMap) (span : Span)
   found_set = record {
     fits = fit;
     one = λ r s h k e.
-        let body : leaf_body r.fields ≡ leaf_body s.fields = some_same (leaf_body r.fields) (leaf_body s.fields) (sym (rec_held r h) ∙ ap (λ key. get m (key_of key)) e ∙ rec_held s k) in
+        let body : leaf_body r.fields ≡ leaf_body s.fields = same_Some (leaf_body r.fields) (leaf_body s.fields) (sym (rec_held r h) ∙ ap (λ key. get m (key_of key)) e ∙ rec_held s k) in
         same_rec form r s leaf_form (fit r h) (fit s k) (λ i. record { key = key_of (e i); body = body i });
   }
 

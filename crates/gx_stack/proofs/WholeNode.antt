@@ -1,7 +1,8 @@
 -- A node whose children were read whole.
 use Rattle.std.proofs.Common.{◌≡◌, ◌<◌, ℕ, suc, List, [], ◌∷◌, ◌++◌, Option, Some, None, inl, inr, refl, sym, ◌∙◌, subst, length, map, get_or, arith}
-use Rattle.std.specs.Prelude.{Result, Ok, Err, IfOk, is_some, true}
+use Rattle.std.specs.Prelude.{is_some, true}
 use Rattle.std.proofs.lemmas.Bool.{true≢false}
+use Rattle.gx_laws.proofs.ListLemmas.{get_or_any}
 use Rattle.gx_values.specs.declared.records.Rec.{Rec}
 use Rattle.gx_ports.specs.LeafMaps.{LeafMap, map_at}
 use Rattle.gx_mapping.specs.declared.parts.Part.{Part}
@@ -17,16 +18,11 @@ use Rattle.gx_stack.specs.Internal.{IsSet, IsInternal, AreInternal, HasSet, chil
 use Rattle.gx_gather.specs.Gather.{rec_cmp, part_for}
 use Rattle.gx_stack.specs.Held.{AreHeld, IsHeld, IsLeafHeld, AreMadeWith, AreJoined}
 use Rattle.gx_stack.proofs.Seen.{seen_layer, seen_leaf, layer_form, count_kids, child_there, child_valid, child_internal}
-use Rattle.gx_stack.proofs.Stay.{get_or_any}
 use Rattle.gx_gather.proofs.Lists.{in_cases, from_map}
 use Rattle.gx_gather.proofs.Orders.{ascends, ascends_once}
 use Rattle.gx_stack.proofs.Same.{internal_of_members}
 use Rattle.gx_stack.proofs.Told.{internal_told}
 use Rattle.gx_stack.proofs.WholeLayer.{AreRead, IsByMembers, Tells, all_held, none_joined}
-
-pub if_ok : {A E : Type 0} {P Q : A → Type 0} (result : Result A E) → ((x : A) → P x → Q x) → IfOk result P → IfOk result Q
-if_ok (Ok x) more met = more x met
-if_ok (Err e) more met = tt
 
 -- the child with this number holds the records
 abbrev pub ChildHolds : {M : Type 0} (rule : M → Rule) → List (Node M) → List LeafMap → ℕ → List Rec → Type 0

@@ -16,13 +16,15 @@ use Rattle.gx_schema.specs.declared.schema.Schema.{Schema}
 use Rattle.gx_schema.specs.Lookups.{file_at, link_at, key_kind}
 use Rattle.gx_ports.specs.LeafMaps.{LeafMap, map_at}
 use Rattle.gx_mapping.specs.Rule.{Rule, In}
+use Rattle.gx_mapping.proofs.RuleLemmas.{all_in}
 use Rattle.gx_equation.specs.declared.heads.Linkset.TheVariants as linksets
 use Rattle.gx_stack.specs.declared.node.Node.{Node}
 use Rattle.gx_stack.specs.Tree.{Kids, no_kids, kid, kids_leaves, kid_count, kid_entries, AreValid}
 use Rattle.gx_stack.specs.Internal.{AreInternal as AreHeld}
 use Rattle.gx_stack.proofs.Unique.{kid_leaf}
 use Rattle.gx_stack.proofs.Children.{kids_union_from_internal, kids_internal_from_union}
-use Rattle.gx_gather.proofs.Lists.{all_at, from_each, none_some}
+use Rattle.gx_gather.proofs.Lists.{from_each, none_some}
+use Rattle.gx_gather.proofs.Entries.{find_in}
 use Rattle.gx_forms.specs.Forms.{link_form}
 use Rattle.gx_typing.specs.Dues.{owner_kind, member_kind}
 use Rattle.gx_types.specs.declared.any.AnyMapping.{AnyMapping}
@@ -43,7 +45,6 @@ use Rattle.gx_ring.specs.RingLaws.{ring_row_laws}
 use Rattle.gx_linksets.specs.Stored.{IsStorableLink, rows_of, rounds_of, finds_owner, rule_at, IsHeldAt}
 use Rattle.gx_model.specs.States.{File, State, file_in, link_in, IsFileOf, IsLinkOf, IsValid, IsRowOf}
 use Rattle.gx_scan.specs.Files.{IsInternal}
-use Rattle.gx_scan.proofs.FileLemmas.{find_in}
 use Rattle.gx_values.proofs.OrderLemmas.{value_cmp_same}
 -- those who ask states about their links find them here
 pub use Rattle.gx_pairs.proofs.LinkedLemmas.{as_many}
@@ -61,7 +62,7 @@ file_is schema built maps s i are lt = record { fit = are.valid.files i lt; held
 -- a record that is there fits
 pub there_fits : (file : FileDef) (f : File) (k : Value) (vs : List Value) → IsFileOf file f
     → fin.get f k ≡ Some vs → IsRowOf file (k, vs)
-there_fits file f k vs fit e = all_at (IsRowOf file) (fin.entries f) (k, vs) fit
+there_fits file f k vs fit e = all_in (IsRowOf file) (fin.entries f) (k, vs) fit
     (find_in value_cmp_same k vs (fin.entries f) (sym (fin.get-entries f k) ∙ e))
 
 -- a key that is there fits
@@ -74,13 +75,13 @@ key_fits file f k fit there = let found = some_there (fin.get f k) there in
 pub member_there : (s : State) (def : LinkDef) (link : Link) (m o : Value) → IsLinkOf s def link
     → fin.get link m ≡ Some o → IsTrue (is_some (fin.get (file_in s def.member) m))
 member_there s def link m o is e =
-    all_at (λ pair. IsTrue (is_some (fin.get (file_in s def.member) pair.0))) (fin.entries link)
+    all_in (λ pair. IsTrue (is_some (fin.get (file_in s def.member) pair.0))) (fin.entries link)
     (m, o) is.members (pair_in link m o e)
 
 pub owner_there : (s : State) (def : LinkDef) (link : Link) (m o : Value) → IsLinkOf s def link
     → fin.get link m ≡ Some o → IsTrue (is_some (fin.get (file_in s def.owner) o))
 owner_there s def link m o is e =
-    all_at (λ pair. IsTrue (is_some (fin.get (file_in s def.owner) pair.1))) (fin.entries link)
+    all_in (λ pair. IsTrue (is_some (fin.get (file_in s def.owner) pair.1))) (fin.entries link)
     (m, o) is.owners (pair_in link m o e)
 
 -- a link of a valid state is one that nodes can hold

@@ -8,12 +8,12 @@ use Rattle.std.proofs.lemmas.List.{get_or-replicate, length-replicate, nil_from_
 use Rattle.gx_values.specs.declared.values.Value.{Value}
 use Rattle.gx_values.specs.declared.records.Field.{Field}
 use Rattle.gx_values.specs.declared.records.Rec.{Rec}
-use Rattle.gx_values.specs.Values.{value_cmp}
+use Rattle.gx_values.specs.Values.{value_cmp, no_field}
 use Rattle.gx_values.specs.Keys.{width_of, IsKeyKind}
 use Rattle.gx_schema.specs.declared.schema.FileDef.{FileDef}
 use Rattle.gx_schema.specs.declared.schema.LinkDef.{LinkDef}
 use Rattle.gx_schema.specs.declared.schema.Schema.{Schema}
-use Rattle.gx_schema.specs.Lookups.{no_field, no_link, file_at, link_at, key_kind}
+use Rattle.gx_schema.specs.Lookups.{no_link, file_at, link_at, key_kind}
 use Rattle.gx_schema.specs.Rules.{IsKind, AreFields, AreLinks, IsSchema}
 use Rattle.gx_schema.proofs.WellFormedLaws.{rules_at}
 use Rattle.gx_ports.specs.LeafMaps.{map_at}

@@ -1,7 +1,7 @@
 -- A device that has been attached, and a refusal to attach one.
-use Rattle.std.proofs.Common.{◌≡◌, ◌∙◌, ℕ, ◌≤◌, true, false, not, List, Option, Some, None, Result, Ok, Err, refl, sym, ap}
+use Rattle.std.proofs.Common.{◌≡◌, ◌∙◌, ℕ, ◌≤◌, true, false, not, List, Some, None, Result, Ok, Err, refl, sym, ap}
 use Rattle.std.specs.Prelude.{IfOk, IfErr}
-use Rattle.std.specs.Option.{option_map_or}
+use Rattle.std.proofs.lemmas.Option.{same_Some}
 use Rattle.gx_device.specs.Content.{Content, IsOpened, device_at, Silent}
 use Rattle.gx_device.specs.Faults.{Counted, Rose}
 use Rattle.gx_device.specs.declared.device.AttachStop.{AttachStop}
@@ -18,13 +18,10 @@ pub if_ok_with : {T E : Type 0} (r : Result T E) (Q : T → Type 0) → ((y : T)
 if_ok_with (Ok x) Q f = f x refl
 if_ok_with (Err e) Q f = tt
 
-pub some_same : {A : Type 0} (a b : A) → Some a ≡ Some b → a ≡ b
-some_same {A = A} a b e = ap (λ (o : Option A). option_map_or (λ (x : A). x) o a) e
-
 -- the blocks of the device are those that are attached
 pub attached_blocks : (name : List ℕ) (blocks : List (List ℕ)) (old new : Content) → device_at old.now name ≡ Some blocks
     → IsOpened name old new → blocks ≡ new.now.blocks
-attached_blocks name blocks old new was o = some_same blocks o.blocks (sym was ∙ o.was) ∙ sym o.attached.blocks_are
+attached_blocks name blocks old new was o = same_Some blocks o.blocks (sym was ∙ o.was) ∙ sym o.attached.blocks_are
 
 -- a device whose blocks were left is as it was
 pub left_alone : (name : List ℕ) (old mid last : Content) → old.now.shelf.name ≡ None → IsOpened name old mid → Silent mid last

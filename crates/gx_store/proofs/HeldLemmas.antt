@@ -1,6 +1,6 @@
 -- Leaves over a journal whose pages hold these maps.
 use Rattle.std.proofs.Common.{◌≡◌, ◌+◌, ℕ, List, length, IsTrue, sym, ap, subst, ◌∙◌}
-use Rattle.std.specs.Prelude.{Result, Ok, Err, IfOk, OnOk}
+use Rattle.std.specs.Prelude.{Result, Ok, Err, IfOk}
 use Rattle.gx_device.specs.declared.device.Device as device
 use Rattle.gx_ports.specs.declared.page_view.PageView as page_view
 use Rattle.gx_ports.specs.declared.kinds.LeafSpec.{LeafSpec}
@@ -25,10 +25,6 @@ use Rattle.gx_store.specs.Store.{HoldsMaps, IsJustOpened}
 pub if_ok_both : {T E : Type 0} (r : Result T E) (P Q R : T → Type 0) → ((x : T) → P x → Q x → R x) → IfOk r P → IfOk r Q → IfOk r R
 if_ok_both (Ok x) P Q R f p q = f x p q
 if_ok_both (Err e) P Q R f p q = tt
-
-pub on_ok_always : {T E A : Type 0} (r : Result T E) → A → OnOk r A
-on_ok_always (Ok x) a = a
-on_ok_always (Err e) a = tt
 
 module _ (base : Ground) (specs : List LeafSpec) (maps : List LeafMap) (sheets : Sheets) (are : AreMaps base specs maps sheets) where
   pub laid_at : (b : Ground) (ps : List Place) (x : Sheets) → b ≡ base → ps ≡ places_of base specs → x ≡ sheets → AreLaid b ps x

@@ -1,6 +1,5 @@
 -- Why nothing is made, and how faults are counted while a database is made.
-use Rattle.std.proofs.Common.{◌≡◌, ◌≢◌, ◌∙◌, ℕ, zero, suc, true, false, not, List, [], Result, Ok, Err, get_or, refl, sym, ap, arith}
-use Rattle.std.specs.Prelude.{OnOk}
+use Rattle.std.proofs.Common.{◌≡◌, ◌≢◌, ◌∙◌, ℕ, zero, suc, true, false, not, List, [], get_or, refl, sym, ap, arith}
 use Rattle.std.proofs.lemmas.List.{get_or-replicate}
 use Rattle.gx_device.specs.Content.{Content, device_at, zero_blocks}
 use Rattle.gx_layout.specs.Head.{HasMagic}
@@ -72,10 +71,6 @@ unmade_touched specs count unopened.Missing size are so = are
 unmade_touched specs count unopened.Exists size are so = are
 unmade_touched specs count unopened.NoDatabase size are so = are
 unmade_touched specs count (unopened.OtherTexts place) size are so = are
-
-pub on_ok_always : {T E A : Type 0} (r : Result T E) → A → OnOk r A
-on_ok_always (Ok x) a = a
-on_ok_always (Err e) a = tt
 
 -- a block that begins with a zero doesn't begin with the magic
 pub zero_first : (block : List ℕ) → get_or block 0 0 ≡ 0 → ¬ HasMagic block

@@ -1,32 +1,21 @@
 -- The device of a name, and the others, while one is attached.
-use Rattle.std.proofs.Common.{◌≡◌, ◌≢◌, ◌∙◌, ℕ, Bool, true, false, List, Some, None, cond, refl, sym, ap}
+use Rattle.std.proofs.Common.{◌≡◌, ◌≢◌, ◌∙◌, ℕ, Bool, false, List, Some, None, cond, refl, sym, ap}
 use Rattle.std.specs.FinMap as fin
 use Rattle.std.specs.Ordering.{eq_by_cmp}
 use Rattle.std.specs.Cmp.Lexicographic.{nat_list_cmp_total}
+use Rattle.std.proofs.lemmas.Bool.{false_from_ne_true}
 use Rattle.gx_device.specs.Content.{Moment, Content, Shelf, Devices, Silent, SameContent, IsAttached, device_at, with_named}
 use Rattle.gx_ports.specs.Keyed.{key_cmp}
 use Rattle.gx_ports.proofs.KeyLemmas.{same_key, tied}
 use Rattle.gx_store.specs.Store.{Attaches}
 
-pub silent_after : (a b c : Content) → Silent a b → Silent b c → Silent a c
-silent_after a b c x y = record {
-  said = y.said ∙ x.said;
-  shelf = y.shelf ∙ x.shelf;
-  script = y.script ∙ x.script;
-  aside = y.aside ∙ x.aside;
-}
-
 pub silent_itself : (a : Content) → Silent a a
 silent_itself a = record { said = refl; shelf = refl; script = refl; aside = refl }
-
-not_so : (b : Bool) → (b ≡ true → ⊥) → b ≡ false
-not_so true never = absurd (never refl)
-not_so false never = refl
 
 other_named : (devices : Devices) (name : List ℕ) (blocks : List (List ℕ)) (other : List ℕ) → other ≢ name
     → fin.get (with_named (Some name) blocks (fin.remove devices name)) other ≡ fin.get devices other
 other_named devices name blocks other differ =
-    let off : eq_by_cmp key_cmp other name ≡ false = not_so (eq_by_cmp key_cmp other name) (λ e. differ (same_key other name e)) in
+    let off : eq_by_cmp key_cmp other name ≡ false = false_from_ne_true (eq_by_cmp key_cmp other name) (λ e. differ (same_key other name e)) in
     fin.get-insert nat_list_cmp_total (fin.remove devices name) name blocks other
     ∙ ap (λ (b : Bool). cond b (Some blocks) (fin.get (fin.remove devices name) other)) off
     ∙ fin.get-remove nat_list_cmp_total devices name other

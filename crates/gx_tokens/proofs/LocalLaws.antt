@@ -268,3 +268,7 @@ mapped_by g r shape whole bytes (Err f) also t =
 pub local_map : {A B : Type 0} (g : A → B) (r : List ℕ → Result (A × List ℕ) Fault) (shape : A → List ℕ → List ℕ → Type 0) (whole : B → List ℕ → List ℕ → Type 0)
     → ((x : A) (b rest : List ℕ) → shape x b rest → whole (g x) b rest) → IsLocal r shape → IsLocal (λ b. map_ok (λ x. (g x.0, x.1)) (r b)) whole
 local_map g r shape whole also one bytes = mapped_by g r shape whole bytes (r bytes) also (one bytes)
+
+-- the one piece and then the other has a text
+pub some_then : {A : Type 0} (first second : List ℕ → List ℕ → Type 0) → IsInhabited {A = Unit {0}} (λ _. first) → IsInhabited {A = A} (λ _. second) → IsInhabited {A = A} (λ _. first ⨾ second)
+some_then first second f s = some_both {A = Unit {0}} (λ _. first) (λ _ _. second) (λ _. first ⨾ second) (λ a b bytes mid rest p q. (mid, p, q)) f (λ _. s)

@@ -1,13 +1,13 @@
 -- Readers of one word, number or mark are local.
-use Rattle.std.proofs.Common.{◌≡◌, ℕ, List, false, Result, Ok, refl, ap, subst, ◌∙◌, inl, arith}
+use Rattle.std.proofs.Common.{◌≡◌, ℕ, List, false, Result, Ok, refl, ap, subst, ◌∙◌, inl, arith, ◌∷◌, [], inr}
 use Rattle.std.specs.Prelude.{codes}
 use Rattle.gx_tokens.specs.declared.why.Why.{Why}
 use Rattle.gx_tokens.specs.Grammar.{the, AWord, ANumber}
 use Rattle.gx_tokens.specs.Lexemes.{Lexeme, Word, Number, Quoted, Open, Close, Comma, Equals, End}
-use Rattle.gx_tokens.specs.Locality.{IsProper, IsInhabited, HasReason}
-use Rattle.gx_tokens.specs.Reading.{word_if, number_if, an_open, a_close, a_comma, an_equals, comma_or_close}
+use Rattle.gx_tokens.specs.Locality.{IsProper, IsInhabited, HasReason, IsLocal}
+use Rattle.gx_tokens.specs.Reading.{word_if, number_if, an_open, a_close, a_comma, an_equals, comma_or_close, want}
 use Rattle.gx_tokens.specs.Spelling.{IsWord, IsNumber}
-use Rattle.gx_tokens.proofs.LocalLaws.{TakesToken, some_token}
+use Rattle.gx_tokens.proofs.LocalLaws.{TakesToken, some_token, local_want}
 use Rattle.gx_tokens.proofs.ReadingLaws.{word_is, number_is, is_open, is_close, is_comma, is_equals, list_mark, is_comma_or_close}
 
 one_is_number : IsNumber (codes "1")
@@ -141,3 +141,17 @@ takes_comma_or_close = record {
   reason = comma_or_close_reason;
   some = some_token (λ more. the (list_mark more)) false Close tt (λ bytes rest h. h);
 }
+
+-- ---- readers of one mark
+
+pub local_open : IsLocal (want an_open) (λ _. the Open)
+local_open = local_want an_open (λ _. the Open) takes_open
+
+pub local_comma : IsLocal (want a_comma) (λ _. the Comma)
+local_comma = local_want a_comma (λ _. the Comma) takes_comma
+
+pub local_close : IsLocal (want a_close) (λ _. the Close)
+local_close = local_want a_close (λ _. the Close) takes_close
+
+pub the_end : the End (32 ∷ []) []
+the_end = record { blanks = 32 ∷ []; here = []; parts = refl; are_blanks = inr (refl, tt); begins = record { parts = refl; is_token = tt; follows = refl } }

@@ -94,3 +94,7 @@ signed_number-signed_decimal z fits =
     in_range : (z : ℤ) → FitsSigned w64 z → signed_in_range z ≡ Some z
     in_range (pos n) fits = cond-true (ltb n (2 ^ 63)) _ _ (lt-ltb n (2 ^ 63) (omega (arith, fits)))
     in_range (negsuc n) fits = cond-true (ltb n (2 ^ 63)) _ _ (lt-ltb n (2 ^ 63) (omega (arith, fits)))
+
+pub in_range_again : (z : ℤ) → FitsSigned w64 z → signed_in_range z ≡ Some z
+in_range_again (pos n) fits = cond-true (ltb n (2 ^ 63)) _ _ (lt-ltb n (2 ^ 63) (omega (arith, fits)))
+in_range_again (negsuc n) fits = cond-true (ltb n (2 ^ 63)) _ _ (lt-ltb n (2 ^ 63) (omega (arith, fits)))

@@ -1,5 +1,5 @@
 -- Quoted texts and what they mean are one to one.
-use Rattle.std.proofs.Common.{◌≡◌, ℕ, zero, suc, ◌+◌, ◌-◌, Bool, true, false, eqb, List, [], ◌∷◌, ◌++◌, ◌<◌, Option, Some, None, Result, Ok, Err, IfOk, length, take, drop, append-nil, arith, refl, sym, ap, subst, ◌∙◌, inl, inr}
+use Rattle.std.proofs.Common.{◌≡◌, ℕ, zero, suc, ◌+◌, ◌-◌, Bool, true, false, eqb, List, [], ◌∷◌, ◌++◌, ◌<◌, Option, Some, None, length, take, drop, append-nil, arith, refl, sym, ap, subst, ◌∙◌, inl, inr}
 use Rattle.std.specs.Prelude.{IsTrue, slice_index, ◌==◌, ◌&&◌, cond}
 use Rattle.std.specs.Option.{option_and_then, unwrap_or}
 use Rattle.std.specs.List.{AllByRecursion, list_all}
@@ -49,10 +49,6 @@ doubled_plain (b ∷ bs) none = elim (b == 34) as (λ t. (b == 34) ≡ t → con
 pub doubled_without : (text : List ℕ) (found : Option ℕ) → IsFirstByte (is_byte 34) text found → found ≡ None → doubled text ≡ text
 doubled_without text None none _ = doubled_plain text (λ k lt. none k (omega arith) lt)
 doubled_without text (Some at) _ e = cc
-
-pub in_ok : {A E : Type 0} {P Q : A → Type 0} (r : Result A E) → ((x : A) → P x → Q x) → IfOk r P → IfOk r Q
-in_ok (Ok x) f p = f x p
-in_ok (Err e) f p = tt
 
 -- what is read where nothing is left
 pub unquoted_whole : (second : Bool) (rest value whole : List ℕ) → length rest < 1 → value ++ unquoted second rest ≡ whole → value ≡ whole

@@ -10,7 +10,7 @@ use Rattle.gx_tokens.specs.Grammar.{the}
 use Rattle.gx_tokens.specs.Lexemes.{Lexeme, Word, Number, Quoted, Open, Close, Comma, Equals, End, next_token}
 use Rattle.gx_tokens.specs.Reading.{◌>>=◌, map_ok, met, want, word_if, number_if, an_open, a_close, a_comma, an_equals, comma_or_close}
 use Rattle.gx_tokens.specs.Spelling.{FirstToken}
-use Rattle.gx_tokens.proofs.TokenFound.{first_found}
+use Rattle.gx_tokens.proofs.TokenFound.{first_found, done_is}
 use Rattle.gx_tokens.proofs.TokenAgain.{first_again}
 
 abbrev pub done : {A : Type 0} → A → Result A Fault
@@ -18,9 +18,6 @@ done x = Ok x
 
 abbrev pub means : {A : Type 0} → A → Result A Why
 means x = Ok x
-
-pub done_is : {A : Type 0} (x y : A) → done x ≡ done y → x ≡ y
-done_is x y e = cc
 
 pub means_is : {A : Type 0} (x y : A) → means x ≡ means y → x ≡ y
 means_is x y e = cc

@@ -65,7 +65,7 @@ here_word (b ∷ bs) rest word apart =
 low_no_word : (b : ℕ) → b ≤ 57 → is_word_start b ≡ false
 low_no_word b h = or_from _ _ (and_left _ _ (lt-leb 97 b (omega arith))) (ne_eqb b 95 (λ e. omega arith))
 
-digit_range : (b : ℕ) → is_digit b ≡ true → (48 ≤ b) × (b ≤ 57)
+pub digit_range : (b : ℕ) → is_digit b ≡ true → (48 ≤ b) × (b ≤ 57)
 digit_range b h = let p = and_parts _ _ h in (leb-true 48 b p.0, leb-true b 57 p.1)
 
 digits_again : (digits rest : List ℕ) → AreDigits digits → continues_run rest ≡ false → (prefix_len is_digit (digits ++ rest) ≡ length digits) × (eqb (length digits) 0 ≡ false)
@@ -122,7 +122,7 @@ closes_again true (b ∷ bs) rest q free = let ih = closes_again false bs rest q
 closes_again false (b ∷ bs) rest (inl q) free = let ih = closes_again true bs rest q.1 free in rw (eq-eqb b 34 q.0) ih
 closes_again false (b ∷ bs) rest (inr q) free = let ih = closes_again false bs rest q.2 free in let p : is_printable b ≡ true = q.1 in rw (ne_eqb b 34 q.0, p) ih
 
-quoted_again : (text rest : List ℕ) → IsQuoted false text → NoQuote rest → split_quoted ((text ++ 34 ∷ []) ++ rest) ≡ Some (text, rest)
+pub quoted_again : (text rest : List ℕ) → IsQuoted false text → NoQuote rest → split_quoted ((text ++ 34 ∷ []) ++ rest) ≡ Some (text, rest)
 quoted_again text rest q free =
     let whole = (text ++ 34 ∷ []) ++ rest in
     let regrouped : whole ≡ text ++ 34 ∷ rest = append_assoc text (34 ∷ []) rest in

@@ -5,6 +5,7 @@ use Rattle.std.specs.List.{prefix_len, AllByRecursion}
 use Rattle.std.proofs.lemmas.Bool.{ltb-false, eqb-true, eqb-false, cond_both, or_parts, or_left}
 use Rattle.std.proofs.lemmas.List.{take_at, take-append-drop, length-append}
 use Rattle.std.proofs.lemmas.List.Folds.{length-prefix_len}
+use Rattle.std.proofs.lemmas.Option.{same_Some}
 use Rattle.gx_tokens.specs.declared.fault.Fault.{Fault}
 use Rattle.gx_tokens.specs.declared.why.Why.TheVariants as why
 use Rattle.gx_tokens.specs.Lexemes.{Lexeme, Word, Number, Quoted, Open, Close, Comma, Equals, End, is_blank, after_blanks, is_digit, is_word_start, is_word_byte, continues_run, is_printable, after_quoted, split_word, split_number, split_quoted, token_or, token_here, next_token}
@@ -15,8 +16,8 @@ use Rattle.gx_tokens.specs.Spelling.{spelling, StartsWord, IsWord, AreDigits, Is
 abbrev done : {A : Type 0} → A → Result A Fault
 done x = Ok x
 
-pub ok_is : {A : Type 0} (x y : A) → done x ≡ done y → x ≡ y
-ok_is x y e = cc
+pub done_is : {A : Type 0} (x y : A) → done x ≡ done y → x ≡ y
+done_is x y e = cc
 
 guard_some : {A : Type 0} (b : Bool) (x y : A) → cond b None (Some x) ≡ Some y → (b ≡ false) × (x ≡ y)
 guard_some true x y e = absurd cc
@@ -24,7 +25,7 @@ guard_some false x y e = (refl, cc)
 
 token_or_ok : (kind : List ℕ → Lexeme) (left : ℕ) (o : Option (List ℕ × List ℕ)) (x : Lexeme × List ℕ) → token_or kind left o ≡ Ok x → (y : List ℕ × List ℕ) × (o ≡ Some y) × ((kind y.0, y.1) ≡ x)
 token_or_ok kind left None x e = absurd cc
-token_or_ok kind left (Some y) x e = (y, refl, ok_is (kind y.0, y.1) x e)
+token_or_ok kind left (Some y) x e = (y, refl, done_is (kind y.0, y.1) x e)
 
 -- ---- runs of bytes
 
@@ -98,16 +99,13 @@ abbrev Closes : Bool → List ℕ → List ℕ → Type 0
 Closes false bs rest = UpToQuote false bs rest × NoQuote rest
 Closes true bs rest = ((bs ≡ rest) ⊎ UpToQuote true bs rest) × NoQuote rest
 
-some_is : {A : Type 0} (x y : A) → Some x ≡ Some y → x ≡ y
-some_is x y e = cc
-
 closes : (flag : Bool) (bs rest : List ℕ) → after_quoted flag bs ≡ Some rest → Closes flag bs rest
-closes true [] rest e = subst (λ (r : List ℕ). Closes true [] r) (some_is [] rest e) (inl refl, tt)
+closes true [] rest e = subst (λ (r : List ℕ). Closes true [] r) (same_Some [] rest e) (inl refl, tt)
 closes false [] rest e = absurd cc
 closes true (b ∷ bs) rest e =
     cond_both (eqb b 34) (after_quoted false bs) (Some (b ∷ bs)) (λ (r : Option (List ℕ)). r ≡ Some rest → Closes true (b ∷ bs) rest)
     (λ is h. let c = closes false bs rest h in (inr (b ∷ c.0.0, ap (λ (ys : List ℕ). b ∷ ys) c.0.1, (eqb-true _ _ is, c.0.2)), c.1))
-    (λ no h. subst (λ (r : List ℕ). Closes true (b ∷ bs) r) (some_is (b ∷ bs) rest h) (inl refl, eqb-false _ _ no))
+    (λ no h. subst (λ (r : List ℕ). Closes true (b ∷ bs) r) (same_Some (b ∷ bs) rest h) (inl refl, eqb-false _ _ no))
     e
 closes false (b ∷ bs) rest e =
     cond_both (eqb b 34) (after_quoted true bs) (cond (is_printable b) (after_quoted false bs) None) (λ (r : Option (List ℕ)). r ≡ Some rest → Closes false (b ∷ bs) rest)
@@ -133,14 +131,14 @@ quoted_by bs y (Some rest) is e =
     let front : take (length bs - length rest - 1) bs ≡ text = rw len (ap (take (length text)) c.0.1 ∙ take_at text (34 ∷ rest) (length text) refl) in
     let whole : 34 ∷ bs ≡ (34 ∷ text ++ 34 ∷ []) ++ rest = ap (λ (ys : List ℕ). 34 ∷ ys) (c.0.1 ∙ sym (append_assoc text (34 ∷ []) rest)) in
     let at_text : IsQuoted false text × (34 ∷ bs ≡ (34 ∷ text ++ 34 ∷ []) ++ rest) × NoQuote rest = (c.0.2, whole, c.1) in
-    subst (λ (z : List ℕ × List ℕ). IsQuoted false z.0 × (34 ∷ bs ≡ (34 ∷ z.0 ++ 34 ∷ []) ++ z.1) × NoQuote z.1) (some_is (take (length bs - length rest - 1) bs, rest) y e) (rw front at_text)
+    subst (λ (z : List ℕ × List ℕ). IsQuoted false z.0 × (34 ∷ bs ≡ (34 ∷ z.0 ++ 34 ∷ []) ++ z.1) × NoQuote z.1) (same_Some (take (length bs - length rest - 1) bs, rest) y e) (rw front at_text)
 
 quoted_found : (bs : List ℕ) (y : List ℕ × List ℕ) → split_quoted bs ≡ Some y → IsQuoted false y.0 × (34 ∷ bs ≡ (34 ∷ y.0 ++ 34 ∷ []) ++ y.1) × NoQuote y.1
 quoted_found bs y e = quoted_by bs y (after_quoted false bs) refl e
 
 mark_found : (b c : ℕ) (bs : List ℕ) (t : Lexeme) (x : Lexeme × List ℕ) → c ∷ [] ≡ spelling t → IsToken t → ((rest : List ℕ) → MayFollow t rest) → eqb b c ≡ true → done (t, bs) ≡ Ok x → Begins (b ∷ bs) x.0 x.1
 mark_found b c bs t x sp tok free is e =
-    subst (λ (y : Lexeme × List ℕ). Begins (b ∷ bs) y.0 y.1) (ok_is (t, bs) x e) (record {
+    subst (λ (y : Lexeme × List ℕ). Begins (b ∷ bs) y.0 y.1) (done_is (t, bs) x e) (record {
       parts = ap (λ (n : ℕ). n ∷ bs) (eqb-true b c is) ∙ ap (λ (ys : List ℕ). ys ++ bs) sp;
       is_token = tok;
       follows = free bs;
@@ -168,7 +166,7 @@ number_case b bs left x e =
     subst (λ (y : Lexeme × List ℕ). Begins (b ∷ bs) y.0 y.1) t.2 (record { parts = n.1.parts; is_token = n.0; follows = n.1.apart })
 
 pub found_here : (text : List ℕ) (x : Lexeme × List ℕ) → Finds text x (token_here text)
-found_here [] x e = subst (λ (y : Lexeme × List ℕ). Begins [] y.0 y.1) (ok_is (End, []) x e) (record { parts = refl; is_token = tt; follows = refl })
+found_here [] x e = subst (λ (y : Lexeme × List ℕ). Begins [] y.0 y.1) (done_is (End, []) x e) (record { parts = refl; is_token = tt; follows = refl })
 found_here (b ∷ bs) x e =
     cond_both (eqb b 40) _ _ (Finds (b ∷ bs) x) (λ is h. mark_found b 40 bs Open x refl tt (λ _. tt) is h) (λ _.
     cond_both (eqb b 41) _ _ (Finds (b ∷ bs) x) (λ is h. mark_found b 41 bs Close x refl tt (λ _. tt) is h) (λ _.

@@ -2,6 +2,7 @@
 use Rattle.std.proofs.Common.{◌≡◌, ℕ, ◌<◌, List, [], length, get_or, Result, Ok, Err, Option, Some, None, refl, sym, ap, subst, ◌∙◌, arith, inl, inr}
 use Rattle.std.specs.Prelude.{◌⊎◌, ◌≢◌, IsSomeAnd, ◌==◌, if◌then◌else◌}
 use Rattle.std.specs.FinMap.{get}
+use Rattle.std.proofs.lemmas.Option.{same_Some}
 use Rattle.gx_device.specs.Content.{Content, Texts, device_at}
 use Rattle.gx_ports.specs.LeafMaps.{Limits}
 use Rattle.gx_tokens.specs.declared.why.Unread.{Unread}
@@ -25,7 +26,6 @@ use Rattle.gx_model.specs.Play.{Playing, End, good, stopped, start_at}
 use Rattle.gx_model.proofs.RunLemmas.{play_once}
 use Rattle.gx_layout.specs.Head.{HasMagic}
 use Rattle.gx_store.specs.Device.{IsSize, HasTexts}
-use Rattle.gx_store.proofs.AttachLemmas.{some_same}
 use Rattle.gx_play.specs.declared.ending.DeviceWhy.{DeviceWhy}
 use Rattle.gx_play.specs.declared.ending.DeviceWhy.TheVariants as device_why
 use Rattle.gx_play.specs.declared.ending.Ending.{Ending}
@@ -508,7 +508,7 @@ working_not_running device digits number name e = cc
 
 same_blocks : (device : List ℕ) (before : Content) (a b : List (List ℕ)) → device_at before.now device ≡ Some a
     → device_at before.now device ≡ Some b → a ≡ b
-same_blocks device before a b x y = some_same a b (sym x ∙ y)
+same_blocks device before a b x y = same_Some a b (sym x ∙ y)
 
 -- nor one that has a size, the magic and these texts
 pub had_not_wrong : (device : List ℕ) (t : Task) (before : Content) (wrong : DeviceWhy) (blocks : List (List ℕ))

@@ -16,6 +16,7 @@ use Rattle.gx_values.specs.declared.records.Rec.{Rec}
 use Rattle.gx_values.specs.declared.values.Kind.{Kind}
 use Rattle.gx_values.specs.declared.values.Value.{Value}
 use Rattle.gx_ports.specs.LeafMaps.{LeafMap, Limits, map_at, entry_count}
+use Rattle.gx_ports.proofs.KeyLemmas.{tied}
 use Rattle.gx_schema.specs.declared.schema.FileDef.{FileDef}
 use Rattle.gx_schema.specs.declared.schema.LinkDef.{LinkDef}
 use Rattle.gx_schema.specs.declared.schema.Schema.{Schema}
@@ -32,7 +33,6 @@ use Rattle.gx_stack.specs.declared.node.Node.{Node}
 use Rattle.gx_stack.specs.Tree.{Tree as NodeTree, Kids, leaf, layer, no_kids, kid as node_kid, entry_in, entries_of, kid_entries, entry_total}
 use Rattle.gx_stack.specs.Seen.{tree_of}
 use Rattle.gx_stack.specs.Internal.{IsLeafMap, IsInternal, AreInternal as AreHeld, parts_for, child_records}
-use Rattle.gx_stack.proofs.Maps.{key_eq-itself}
 use Rattle.gx_types.specs.declared.any.AnyMapping.{AnyMapping}
 use Rattle.gx_types.specs.declared.built.Built.{Built}
 use Rattle.gx_types.specs.declared.built.LinkTree.{LinkTree}
@@ -76,7 +76,7 @@ keys_few m (k ∷ ks) all =
     omega (arith, keys_few (fin.remove m k) ks later, shorter, one_less (fin.contains_key m k) (fin.len m))
   where
     other : (key : List ℕ) → eq_by_cmp (slice_cmp nat_cmp) key k ≡ false → In key (k ∷ ks) → In key ks
-    other key e (inl is) = absurd (true≢false (sym (key_eq-itself k) ∙ ap (λ q. eq_by_cmp (slice_cmp nat_cmp) q k) (sym is) ∙ e))
+    other key e (inl is) = absurd (true≢false (sym (tied k) ∙ ap (λ q. eq_by_cmp (slice_cmp nat_cmp) q k) (sym is) ∙ e))
     other key e (inr h) = h
 
     later : (key body : List ℕ) → fin.get (fin.remove m k) key ≡ Some body → In key ks

@@ -1,6 +1,7 @@
 -- A device that was opened and examined, or that wasn't had: what was found, and what is left of it.
 use Rattle.std.proofs.Common.{◌≡◌, ℕ, List, length, Option, Some, None, Result, Ok, Err, refl, sym, ap, subst, ◌∙◌}
 use Rattle.std.specs.Prelude.{◌≢◌}
+use Rattle.std.proofs.lemmas.Option.{same_Some}
 use Rattle.gx_device.specs.Content.{Content, Shelf, SameContent, Silent, device_at}
 use Rattle.gx_ports.specs.declared.kinds.LeafSpec.{LeafSpec}
 use Rattle.gx_ports.specs.LeafMaps.{LeafMap, Limits}
@@ -17,7 +18,6 @@ use Rattle.gx_store.specs.declared.unopened.Unopened.TheVariants as unopened
 use Rattle.gx_store.proofs.ShelfLemmas.{named_at}
 use Rattle.gx_store.proofs.SettledLemmas.{settled_reopens}
 use Rattle.gx_store.proofs.AlikeLemmas.{alike_back, reopens_alike}
-use Rattle.gx_store.proofs.AttachLemmas.{some_same}
 use Rattle.gx_play.specs.declared.ending.DeviceWhy.{DeviceWhy}
 use Rattle.gx_play.specs.declared.ending.DeviceWhy.TheVariants as device_why
 use Rattle.gx_play.specs.declared.ending.Ending.{Ending}
@@ -68,7 +68,7 @@ pub reopens_before : (device schema equation : List ℕ) (specs : List LeafSpec)
     → OfBlocks device opened (ReadAlike blocks) → IsSettled schema equation specs maps opened.now.blocks
     → Reopens schema equation specs maps blocks
 reopens_before device schema equation specs maps blocks opened named alike settled =
-    let same : alike.0 ≡ opened.now.blocks = some_same alike.0 opened.now.blocks (sym alike.1 ∙ named_at opened.now device named) in
+    let same : alike.0 ≡ opened.now.blocks = same_Some alike.0 opened.now.blocks (sym alike.1 ∙ named_at opened.now device named) in
     let is : ReadAlike blocks opened.now.blocks = subst (ReadAlike blocks) same alike.2 in
     reopens_alike schema equation specs maps opened.now.blocks blocks (alike_back blocks opened.now.blocks is)
     (settled_reopens schema equation specs maps opened.now.blocks settled)
@@ -312,7 +312,7 @@ module _ (words : List (List ℕ)) (device : List ℕ) (x : Stored) (old middle 
         → device_at old.now device ≡ Some blocks → OfBlocks device new (ReadAlike blocks)
     reads_on new devices none blocks is =
         let alike = seen.alike blocks (there blocks is) in
-        let same_blocks : alike.0 ≡ opened.now.blocks = some_same alike.0 opened.now.blocks
+        let same_blocks : alike.0 ≡ opened.now.blocks = same_Some alike.0 opened.now.blocks
         (sym alike.1 ∙ named_at opened.now device seen.named) in (
           mid.now.blocks,
           devices_same mid new devices device ∙ mid_there,

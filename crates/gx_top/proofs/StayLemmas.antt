@@ -1,6 +1,7 @@
 -- The states from which a script is played, where its device reads as before.
 use Rattle.std.proofs.Common.{◌≡◌, ◌∙◌, ℕ, List, Option, Some, None, refl, sym, ap, subst}
 use Rattle.std.specs.FinMap.{get}
+use Rattle.std.proofs.lemmas.Option.{same_Some}
 use Rattle.gx_device.specs.Content.{Content, device_at, with_named}
 use Rattle.gx_ports.specs.LeafMaps.{Limits}
 use Rattle.gx_schema.specs.Printing.{schema_text}
@@ -9,7 +10,6 @@ use Rattle.gx_model.specs.States.{State}
 use Rattle.gx_store.specs.Device.{ReadAlike}
 use Rattle.gx_store.specs.Store.{OfBlocks}
 use Rattle.gx_store.proofs.AlikeLemmas.{alike_itself, alike_back, reopens_alike}
-use Rattle.gx_store.proofs.AttachLemmas.{some_same}
 use Rattle.gx_play.specs.declared.status.Status.{Status}
 use Rattle.gx_play.specs.Say.{SameDevices}
 use Rattle.gx_requests.specs.Words.{Action, checking, trying, explaining, making, running, inspecting, working}
@@ -63,7 +63,7 @@ back : (was now : Option (List (List ℕ))) → (was ≡ None → now ≡ None)
 back None now absent alike blocks there = absurd (let wrong : ◌≡◌ {A = _} None (Some blocks) = sym (absent refl) ∙ there in cc)
 back (Some before) now absent alike blocks there =
     let is = alike before refl in
-    (before, refl, alike_back before blocks (subst (ReadAlike before) (some_same is.0 blocks (sym is.1 ∙ there)) is.2))
+    (before, refl, alike_back before blocks (subst (ReadAlike before) (same_Some is.0 blocks (sym is.1 ∙ there)) is.2))
 
 pub reads_back : (device : List ℕ) (old new : Content) → ReadsAlike device old new → ReadsAlike device new old
 reads_back device old new reads = record {

@@ -1,5 +1,6 @@
 -- A device that isn't opened: what is left of it, and from which states a script is played on it.
 use Rattle.std.proofs.Common.{◌≡◌, ◌∙◌, ℕ, true, not, List, Some, None, refl, sym, ap, subst, inl, inr}
+use Rattle.std.proofs.lemmas.Option.{same_Some}
 use Rattle.gx_device.specs.Content.{Content, SameContent, device_at}
 use Rattle.gx_ports.specs.declared.kinds.LeafSpec.{LeafSpec}
 use Rattle.gx_store.specs.Device.{ReadAlike}
@@ -7,7 +8,6 @@ use Rattle.gx_store.specs.Opening.{HaveDatabase, IsRecoveryOf}
 use Rattle.gx_store.specs.Store.{Attaches, OfBlocks, is_fault}
 use Rattle.gx_store.specs.declared.unopened.Unopened.{Unopened}
 use Rattle.gx_store.specs.declared.unopened.Unopened.TheVariants as unopened
-use Rattle.gx_store.proofs.AttachLemmas.{some_same}
 use Rattle.gx_play.specs.declared.ending.DeviceWhy.{DeviceWhy}
 use Rattle.gx_play.specs.declared.ending.DeviceWhy.TheVariants as device_why
 use Rattle.gx_play.specs.declared.ending.Ending.TheVariants as ending
@@ -71,7 +71,7 @@ module _ (t : Task) (device : List ℕ) (old middle mid new : Content) (why : Un
         after.0,
         devices_same mid new devices device
             ∙ after.1,
-        (after.2, subst (ReadAlike blocks) (some_same alike.0 after.0 (sym alike.1 ∙ after.1)) alike.2),
+        (after.2, subst (ReadAlike blocks) (same_Some alike.0 after.0 (sym alike.1 ∙ after.1)) alike.2),
       )
   stays goes (device_why.Damaged block) found = tt
 

@@ -3,7 +3,7 @@ use Rattle.std.proofs.Common.{◌≡◌, ℕ, zero, suc, ◌+◌, ◌<◌, ◌�
 use Rattle.std.specs.Prelude.{◌||◌, not, filter, nat_eq, slice_index_or}
 use Rattle.std.specs.List.{AllByRecursion}
 use Rattle.std.specs.Cmp.Lexicographic.{pointwise, bytes_decides}
-use Rattle.std.proofs.lemmas.Bool.{cond-true, cond-false}
+use Rattle.std.proofs.lemmas.Bool.{cond-true, cond-false, or_parts}
 use Rattle.gx_values.specs.Keys.{widths, IsKeyKind, AreKeyFields}
 use Rattle.gx_values.specs.declared.values.Code.{Code}
 use Rattle.gx_values.specs.declared.values.Code.TheVariants as code
@@ -25,10 +25,6 @@ use Rattle.gx_typing.specs.Typing.{count}
 
 -- ---- tests
 
-either_false : (a b : Bool) → (a || b) ≡ false → (a ≡ false) × (b ≡ false)
-either_false false b h = (refl, h)
-either_false true b h = absurd cc
-
 -- ---- chosen fields
 
 module _ (p : Field → Bool) where
@@ -42,7 +38,7 @@ module _ (p : Field → Bool) where
   filter_absent : (fs : List Field) (name : List ℕ) → is_field fs name ≡ false → is_field (filter p fs) name ≡ false
   filter_absent [] name h = refl
   filter_absent (f ∷ fs) name h =
-      let both = either_false (pointwise nat_eq f.name name) (is_field fs name) h in
+      let both = or_parts (pointwise nat_eq f.name name) (is_field fs name) h in
       elim (p f) as (λ b. is_field (cond b (f ∷ filter p fs) (filter p fs)) name ≡ false) [
         | true ↦ ap (λ (t : Bool). t || is_field (filter p fs) name) both.0 ∙ filter_absent fs name both.1
         | false ↦ filter_absent fs name both.1
@@ -123,7 +119,7 @@ module _ (name : List ℕ) (c : Code) where
   pub coded_none : (fs : List Field) → is_field fs name ≡ false → map (coded_field name c) fs ≡ fs
   coded_none [] h = refl
   coded_none (f ∷ fs) h =
-      let both = either_false (pointwise nat_eq f.name name) (is_field fs name) h in
+      let both = or_parts (pointwise nat_eq f.name name) (is_field fs name) h in
       let here : coded_field name c f ≡ f = cond-false (pointwise nat_eq f.name name) _ _ both.0 in
       let more = coded_none fs both.1 in
       λ i. here i ∷ more i

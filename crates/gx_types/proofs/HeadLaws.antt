@@ -6,6 +6,7 @@ use Rattle.std.specs.Cmp.Lexicographic.{pointwise, bytes_decides}
 use Rattle.std.proofs.lemmas.Bool.{cond-true, cond-false, true≢false}
 use Rattle.std.proofs.lemmas.Bool.Decides.{nat_tests}
 use Rattle.std.proofs.lemmas.List.{length-map}
+use Rattle.gx_laws.proofs.NumberLemmas.{nat_eq_itself}
 use Rattle.gx_values.specs.Keys.{IsKeyKind}
 use Rattle.gx_values.specs.declared.values.Code.{Code}
 use Rattle.gx_values.specs.declared.values.Code.TheVariants as code
@@ -13,12 +14,12 @@ use Rattle.gx_values.specs.declared.values.Kind.{Kind}
 use Rattle.gx_values.specs.declared.values.Kind.TheVariants as kinds
 use Rattle.gx_values.specs.declared.records.Field.{Field}
 use Rattle.gx_values.specs.declared.records.Form.{Form}
+use Rattle.gx_values.specs.Values.{no_field}
 use Rattle.gx_mapping.specs.Rule.{is_field, first_in}
 use Rattle.gx_encode.specs.Codes.{coded_kind as kind_by_code}
 use Rattle.gx_encode.specs.Forms.{changed, coded_field as field_by_code}
 use Rattle.gx_index.specs.Forms.{entry_form}
 use Rattle.gx_split.specs.Groups.{marks, chosen}
-use Rattle.gx_partition.specs.Places.{no_field}
 use Rattle.gx_partition.specs.declared.place.Where.{Where}
 use Rattle.gx_partition.specs.declared.place.Where.TheVariants.{Key, Rest}
 use Rattle.gx_equation.specs.declared.heads.Head.{Head}
@@ -128,9 +129,6 @@ later i j lt = grind (arith, nat_tests)
 earlier : (i j : ℕ) → i < j → nat_eq j i ≡ false
 earlier i j lt = grind (arith, nat_tests)
 
-itself : (i : ℕ) → nat_eq i i ≡ true
-itself i = grind (arith, nat_tests)
-
 absent : (i j : ℕ) (bs : List Bool) → i < j → list_any (nat_eq i) (numbers_from j bs) ≡ false
 absent i j [] lt = refl
 absent i j (true ∷ bs) lt = ap (λ (b : Bool). b || list_any (nat_eq i) (numbers_from (suc j) bs)) (later i j lt) ∙ absent i (suc j) bs (omega arith)
@@ -146,7 +144,7 @@ behind_marks k j (suc n) ns lt =
 marks_again : (j : ℕ) (bs : List Bool) → marks (numbers_from j bs) j (length bs) ≡ bs
 marks_again j [] = refl
 marks_again j (true ∷ bs) =
-    let here = ap (λ (b : Bool). b || list_any (nat_eq j) (numbers_from (suc j) bs)) (itself j) in
+    let here = ap (λ (b : Bool). b || list_any (nat_eq j) (numbers_from (suc j) bs)) (nat_eq_itself j) in
     let rest = behind_marks j (suc j) (length bs) (numbers_from (suc j) bs) (omega arith) ∙ marks_again (suc j) bs in
     λ i. here i ∷ rest i
 marks_again j (false ∷ bs) =

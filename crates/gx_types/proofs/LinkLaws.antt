@@ -4,11 +4,12 @@ use Rattle.std.specs.Prelude.{slice_index_or}
 use Rattle.std.specs.List.{AllByRecursion}
 use Rattle.gx_values.specs.declared.values.Kind.{Kind}
 use Rattle.gx_values.specs.declared.records.Field.{Field}
+use Rattle.gx_values.specs.Values.{no_field}
 use Rattle.gx_mapping.specs.Rule.{In}
 use Rattle.gx_schema.specs.declared.schema.Schema.{Schema}
 use Rattle.gx_schema.specs.declared.schema.FileDef.{FileDef}
 use Rattle.gx_schema.specs.declared.schema.LinkDef.{LinkDef}
-use Rattle.gx_schema.specs.Lookups.{no_file, no_link, no_field, key_kind}
+use Rattle.gx_schema.specs.Lookups.{no_file, no_link, key_kind}
 use Rattle.gx_schema.specs.Rules.{IsKind, AreFields, AreFiles, AreLinks, IsSchema}
 use Rattle.gx_equation.specs.declared.heads.Linkset.{Linkset}
 use Rattle.gx_equation.specs.Printing.{IsSide, IsDefinition, AreWritten}

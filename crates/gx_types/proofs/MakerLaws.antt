@@ -1,11 +1,11 @@
 -- The forms of files and of links are kept from the start, and the makers of mappings can take what is kept.
-use Rattle.std.proofs.Common.{◌≡◌, ℕ, zero, suc, ◌+◌, ◌*◌, ◌<◌, ◌≤◌, Bool, true, false, List, [], ◌∷◌, ◌++◌, length, refl, sym, ap, subst, ◌∙◌, arith, length-append}
+use Rattle.std.proofs.Common.{◌≡◌, ℕ, zero, suc, ◌+◌, ◌*◌, ◌<◌, ◌≤◌, Bool, true, false, List, [], ◌∷◌, ◌++◌, length, refl, sym, ap, subst, ◌∙◌, arith}
 use Rattle.std.specs.Prelude.{◌||◌, ◌==◌, max, nat_eq, slice_index_or}
 use Rattle.std.specs.List.{AllByRecursion}
 use Rattle.std.specs.Cmp.Lexicographic.{pointwise, bytes_decides}
 use Rattle.std.proofs.lemmas.Bool.{true≢false}
 use Rattle.gx_values.specs.Keys.{key_of, width_of, widths, IsKeyKind}
-use Rattle.gx_values.specs.Values.{Fits, AreSized}
+use Rattle.gx_values.specs.Values.{Fits, AreSized, no_field}
 use Rattle.gx_values.specs.declared.values.Code.{Code}
 use Rattle.gx_values.specs.declared.values.Code.TheVariants as code
 use Rattle.gx_values.specs.declared.values.Kind.{Kind}
@@ -19,12 +19,13 @@ use Rattle.gx_values.proofs.KeyLemmas.{fit_key}
 use Rattle.gx_mapping.specs.Rule.{IsOf, is_field, first_in}
 use Rattle.gx_schema.specs.declared.schema.FileDef.{FileDef}
 use Rattle.gx_schema.specs.Rules.{IsKind, AreFields}
+use Rattle.gx_schema.proofs.WellFormedLaws.{fields_few}
 use Rattle.gx_actual.specs.Bodies.{body_of, IsShortText, AreShortTexts}
 use Rattle.gx_actual.specs.Laws.{body_width}
 use Rattle.gx_encode.specs.Codes.{IsCodeKind}
 use Rattle.gx_divide.specs.Forms.{is_bytes, is_bytes_form, most_of, most_in}
 use Rattle.gx_partition.specs.Bounds.{IsPartition}
-use Rattle.gx_partition.specs.Places.{no_field, kind_at, IsPlace}
+use Rattle.gx_partition.specs.Places.{kind_at, IsPlace}
 use Rattle.gx_partition.specs.declared.place.Where.{Where}
 use Rattle.gx_partition.specs.declared.place.Where.TheVariants.{Key, Rest}
 use Rattle.gx_equation.specs.declared.heads.Head.{Head}
@@ -33,6 +34,7 @@ use Rattle.gx_equation.specs.declared.heads.Linkset.{Linkset}
 use Rattle.gx_equation.specs.declared.heads.Linkset.TheVariants as linksets
 use Rattle.gx_equation.specs.Printing.{IsBound, IsCount, IsTerm, IsSide}
 use Rattle.gx_equation.specs.Trees.{Tree, Trees, node, none, kid, kids_from, list_of, arity, link_side}
+use Rattle.gx_equation.proofs.TermsFound.{list_from}
 use Rattle.gx_types.specs.Build.{leaf_count, leaf_counts, IsReady, AreReady}
 use Rattle.gx_typing.specs.Dues.{file_form}
 use Rattle.gx_forms.specs.Forms.{link_form}
@@ -70,11 +72,6 @@ fields_limited before (f ∷ fs) are = (kind_limited (length before == 0) f.kind
 fields_room : (before fs : List Field) → AreFields before fs → rooms fs ≤ 402 * length fs
 fields_room before [] are = omega arith
 fields_room before (f ∷ fs) are = omega (arith, kind_room (length before == 0) f.kind are.0.kind, fields_room (before ++ f ∷ []) fs are.1)
-
-fields_few : (before fs : List Field) → AreFields before fs → length before ≤ 32 → length before + length fs ≤ 32
-fields_few before [] are few = omega arith
-fields_few before (f ∷ fs) are few =
-    omega (arith, fields_few (before ++ f ∷ []) fs are.1 (omega (arith, are.0.room, length-append before (f ∷ []))), length-append before (f ∷ []))
 
 still_there : (before more : List Field) (name : List ℕ) → is_field before name ≡ true → is_field (before ++ more) name ≡ true
 still_there [] more name h = absurd (true≢false (sym h))
@@ -170,17 +167,13 @@ link_fits linksets.Inverted o m is_o is_m (suc i) = record {
   room = omega (arith, kind_room true o is_o);
 }
 
-list_again : (ts : List Tree) → list_of (kids_from ts) ≡ ts
-list_again [] = refl
-list_again (t ∷ ts) = ap (λ (us : List Tree). t ∷ us) (list_again ts)
-
 -- the children of a link's head
 pub link_ready : (n : ℕ) (linkset : Linkset) (o m : Kind) (ts : List Tree) → IsKind true o → IsKind true m → IsSide (link_side linkset ts) → AreTypedTerms (link_form linkset o m) 0 (kids_from ts)
     → n + leaf_counts (kids_from ts) ≤ 255 → AreReady n (link_form linkset o m) 0 (kids_from ts)
 link_ready n linkset o m ts is_o is_m side typed few = record {
   levels = 15;
   few_levels = omega arith;
-  terms = subst (AllByRecursion (IsTerm 15)) (sym (list_again ts)) side.1;
+  terms = subst (AllByRecursion (IsTerm 15)) (sym (list_from ts)) side.1;
   records = λ c from below. link_fits linkset o m is_o is_m c;
   typed = typed;
   few = few;

@@ -27,6 +27,7 @@ use Rattle.gx_types.specs.declared.any.AnyMapping.{AnyMapping}
 use Rattle.gx_types.specs.Build.{kids_of, leaf_count, leaf_counts, IsFirstOf, file_leaf_count, IsTreeOf, AreTreesOf, AreTreesOfFiles, IsReady, AreReady}
 use Rattle.gx_forms.specs.Fields.{kind_in}
 use Rattle.gx_types.proofs.ReadyLaws.{first_ready, others_ready}
+use Rattle.gx_types.proofs.TreeLaws.{no_shift}
 use Rattle.gx_typing.proofs.SeenAs.{seen_transpose, seen_partition}
 use Rattle.gx_typing.proofs.TermSize.{tree_size, trees_size}
 
@@ -111,9 +112,6 @@ all_files first next total files (file ∷ left) definitions rest nodes end so_f
 
 -- ---- one field of several
 
-plus_none : (i : ℕ) → i + 0 ≡ i
-plus_none i = omega arith
-
 plus_one : (i k : ℕ) → i + suc k ≡ i + 1 + k
 plus_one i k = omega arith
 
@@ -124,7 +122,7 @@ module _ (fs : List Field) (name spelled : List ℕ) (i : ℕ) (f : Field) (lt :
   pub first_here : pointwise nat_eq spelled name ≡ true → ((k : ℕ) → IsFirstOf (drop i fs) name k → IsFirstOf fs name (i + k)) → IsFirstOf fs name i
   first_here same so_far =
       let here : (get_or fs i f).name ≡ name = sym name_at ∙ (bytes_decides spelled name).0 same in
-      subst (IsFirstOf fs name) (plus_none i) (so_far 0 (subst (λ (gs : List Field). IsFirstOf gs name 0) (sym (drop_more fs i f lt)) here))
+      subst (IsFirstOf fs name) (no_shift i) (so_far 0 (subst (λ (gs : List Field). IsFirstOf gs name 0) (sym (drop_more fs i f lt)) here))
 
   pub first_behind : pointwise nat_eq spelled name ≡ false → ((k : ℕ) → IsFirstOf (drop i fs) name k → IsFirstOf fs name (i + k)) → (k : ℕ) → IsFirstOf (drop (i + 1) fs) name k → IsFirstOf fs name (i + 1 + k)
   first_behind other so_far k h =

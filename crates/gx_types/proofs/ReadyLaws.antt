@@ -6,7 +6,7 @@ use Rattle.std.specs.List.{AllByRecursion}
 use Rattle.std.specs.List.Sorted.{IsStrictlySortedBy}
 use Rattle.std.specs.declared.cmp.Ordering.TheVariants.{Less}
 use Rattle.std.proofs.lemmas.Bool.{cond-true, cond-false}
-use Rattle.gx_values.specs.Values.{value_cmp, Fits, AreSized, IsSized}
+use Rattle.gx_values.specs.Values.{value_cmp, Fits, AreSized, IsSized, no_field}
 use Rattle.gx_values.specs.declared.values.Kind.{Kind}
 use Rattle.gx_values.specs.declared.values.Kind.TheVariants as kinds
 use Rattle.gx_values.specs.declared.values.Value.{Value}
@@ -14,7 +14,7 @@ use Rattle.gx_values.specs.declared.values.Value.TheVariants as values
 use Rattle.gx_values.specs.declared.records.Field.{Field}
 use Rattle.gx_values.specs.declared.records.Form.{Form}
 use Rattle.gx_values.proofs.OrderLemmas.{value_cmp_total}
-use Rattle.gx_partition.specs.Places.{no_field, kind_at, IsPlace}
+use Rattle.gx_partition.specs.Places.{kind_at, IsPlace}
 use Rattle.gx_partition.specs.declared.place.Where.{Where}
 use Rattle.gx_partition.specs.declared.place.Where.TheVariants.{Key, Rest}
 use Rattle.gx_equation.specs.declared.heads.Head.{Head}

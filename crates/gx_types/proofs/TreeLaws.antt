@@ -154,10 +154,10 @@ as_many n forms i (kid t ts) (node_kid u us) are = ap suc (as_many (n + leaf_cou
 pub all_shift : (c : ℕ) → c ≡ 0 + c
 all_shift c = omega arith
 
-no_shift : (i : ℕ) → i + 0 ≡ i
+pub no_shift : (i : ℕ) → i + 0 ≡ i
 no_shift i = omega arith
 
-one_shift : (i c : ℕ) → i + suc c ≡ suc i + c
+pub one_shift : (i c : ℕ) → i + suc c ≡ suc i + c
 one_shift i c = omega arith
 
 mutual

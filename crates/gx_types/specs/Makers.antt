@@ -3,12 +3,12 @@ use Rattle.std.specs.Prelude.{ℕ, ◌<◌, ◌≤◌, List, length, slice_index
 use Rattle.gx_values.specs.declared.values.Kind.{Kind}
 use Rattle.gx_values.specs.declared.records.Field.{Field}
 use Rattle.gx_values.specs.declared.records.Form.{Form}
+use Rattle.gx_values.specs.Values.{no_field}
 use Rattle.gx_mapping.specs.Rule.{first_in}
 use Rattle.gx_actual.specs.Bodies.{field_widths, AreShortTexts}
 use Rattle.gx_divide.specs.Forms.{IsDivide}
 use Rattle.gx_encode.specs.Forms.{IsEncode}
 use Rattle.gx_index.specs.Forms.{CanIndex}
-use Rattle.gx_partition.specs.Places.{no_field}
 use Rattle.gx_partition.specs.Bounds.{IsPartition}
 use Rattle.gx_equation.specs.declared.heads.Head.{Head}
 use Rattle.gx_equation.specs.declared.heads.Head.TheVariants as heads

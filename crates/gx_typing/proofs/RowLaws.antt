@@ -1,12 +1,12 @@
 -- The tests of a head are passed exactly where its condition is met.
-use Rattle.std.proofs.Common.{◌≡◌, ℕ, suc, ◌+◌, ◌<◌, ◌≤◌, ◌⊎◌, cond, Bool, true, false, List, [], ◌∷◌, length, Option, Some, None, Result, Ok, Err, refl, sym, ap, inl, inr, ◌∙◌, arith}
+use Rattle.std.proofs.Common.{◌≡◌, ℕ, suc, ◌+◌, ◌<◌, ◌⊎◌, cond, Bool, true, false, List, [], ◌∷◌, length, Option, Some, None, Result, Ok, Err, refl, sym, ap, inl, inr, ◌∙◌, arith}
 use Rattle.std.specs.Prelude.{nat_le, nat_lt, not, ◌&&◌, ◌||◌, ◌==◌, is_some, filter}
 use Rattle.std.specs.List.{list_all, list_any, AllByRecursion}
 use Rattle.std.specs.Ordering.{is_lt}
-use Rattle.std.specs.declared.cmp.Ordering.{Ordering}
-use Rattle.std.specs.declared.cmp.Ordering.TheVariants.{Less, Equal, Greater}
 use Rattle.std.proofs.lemmas.Bool.Decides.{nat_tests}
 use Rattle.std.proofs.lemmas.Bool.{and_parts}
+use Rattle.gx_laws.proofs.OrderingLemmas.{less_from_lt}
+use Rattle.gx_laws.proofs.NumberLemmas.{same_number, at_most_from_nat_le, nat_le_from_at_most}
 use Rattle.gx_values.specs.Keys.{widths, IsKeyKind}
 use Rattle.gx_values.specs.Values.{value_cmp, is_printable}
 use Rattle.gx_values.specs.declared.values.Code.{Code}
@@ -63,12 +63,6 @@ then_true false b h = absurd cc
 true_then : (a b : Bool) → a ≡ true → b ≡ true → cond a b false ≡ true
 true_then true b is h = h
 true_then false b is h = absurd cc
-
-le_true : (a b : ℕ) → nat_le a b ≡ true → a ≤ b
-le_true a b h = grind (arith, nat_tests)
-
-true_le : (a b : ℕ) → a ≤ b → nat_le a b ≡ true
-true_le a b h = grind (arith, nat_tests)
 
 -- ---- fields by their names
 
@@ -187,7 +181,7 @@ bound_ok kinds.Int (values.Bytes bytes) h = absurd cc
 bound_ok (kinds.Text most) (values.Int n) h = absurd cc
 bound_ok (kinds.Text most) (values.Text text) h =
     let both = and_parts (nat_le (length text) most) (list_all is_printable text) h in
-    (le_true (length text) most both.0, both.1)
+    (at_most_from_nat_le (length text) most both.0, both.1)
 bound_ok (kinds.Text most) (values.Bytes bytes) h = absurd cc
 bound_ok (kinds.Bytes most) v h = absurd cc
 
@@ -196,7 +190,7 @@ ok_bound kinds.Int (values.Int n) h = refl
 ok_bound kinds.Int (values.Text text) h = absurd h
 ok_bound kinds.Int (values.Bytes bytes) h = absurd h
 ok_bound (kinds.Text most) (values.Int n) h = absurd h
-ok_bound (kinds.Text most) (values.Text text) h = true_both (nat_le (length text) most) (list_all is_printable text) (true_le (length text) most h.0) h.1
+ok_bound (kinds.Text most) (values.Text text) h = true_both (nat_le (length text) most) (list_all is_printable text) (nat_le_from_at_most (length text) most h.0) h.1
 ok_bound (kinds.Text most) (values.Bytes bytes) h = absurd h
 ok_bound (kinds.Bytes most) v h = absurd h
 
@@ -208,15 +202,10 @@ ok_bounds : (k : Kind) (bounds : List Value) → AllByRecursion (IsBoundFor k) b
 ok_bounds k [] h = refl
 ok_bounds k (v ∷ vs) h = true_both (is_bound k v) (list_all (is_bound k) vs) (ok_bound k v h.0) (ok_bounds k vs h.1)
 
-lt_less : (o : Ordering) → is_lt o ≡ true → o ≡ Less
-lt_less Less h = refl
-lt_less Equal h = absurd cc
-lt_less Greater h = absurd cc
-
 ascends_ok : (bounds : List Value) → ascends bounds ≡ true → AscendStrictly bounds
 ascends_ok [] h = tt
 ascends_ok (b ∷ []) h = tt
-ascends_ok (b ∷ c ∷ bs) h = let both = then_true (is_lt (value_cmp b c)) (ascends (c ∷ bs)) h in (lt_less (value_cmp b c) both.0, ascends_ok (c ∷ bs) both.1)
+ascends_ok (b ∷ c ∷ bs) h = let both = then_true (is_lt (value_cmp b c)) (ascends (c ∷ bs)) h in (less_from_lt (value_cmp b c) both.0, ascends_ok (c ∷ bs) both.1)
 
 ok_ascends : (bounds : List Value) → AscendStrictly bounds → ascends bounds ≡ true
 ok_ascends [] h = refl
@@ -272,9 +261,6 @@ each_some n kids some each = grind (arith, nat_tests)
 equal_ok : (a b : ℕ) → (a == b) ≡ true → a ≡ b
 equal_ok a b e = grind (arith, nat_tests)
 
-ok_equal : (a b : ℕ) → a ≡ b → (a == b) ≡ true
-ok_equal a b e = grind (arith, nat_tests)
-
 pub row_found : (top : Head) (form : Form) (kids : ℕ) (u : Unit {0}) → row top form kids ≡ Ok u → IsMet top form kids
 row_found (heads.Leaf kind) form kids u h =
     let body = behind_ok (leaf_body form.fields) _ _ h in
@@ -282,8 +268,8 @@ row_found (heads.Leaf kind) form kids u h =
     record {
       bytes = body.0;
       fields = data_found form.fields body.0 body.1;
-      key = le_true (widths form.keys) 400 (tested_ok why.KeyLength (nat_le (widths form.keys) 400) key.0 key.1);
-      entry = le_true (widths form.keys + body.0) 1000 (tested_ok why.EntryLength (nat_le (widths form.keys + body.0) 1000) u key.2);
+      key = at_most_from_nat_le (widths form.keys) 400 (tested_ok why.KeyLength (nat_le (widths form.keys) 400) key.0 key.1);
+      entry = at_most_from_nat_le (widths form.keys + body.0) 1000 (tested_ok why.EntryLength (nat_le (widths form.keys + body.0) 1000) u key.2);
     }
 row_found heads.Actual form kids u h = tt
 row_found (heads.Encode name code) form kids u h =
@@ -319,8 +305,8 @@ row_found (heads.Index name) form kids u h =
 pub row_again : (top : Head) (form : Form) (kids : ℕ) → IsMet top form kids → row top form kids ≡ Ok tt
 row_again (heads.Leaf kind) form kids m =
     ok_behind (leaf_body form.fields) _ m.bytes _ (data_again form.fields m.bytes m.fields)
-    (ok_behind (tested why.KeyLength (nat_le (widths form.keys) 400)) _ tt _ (ok_tested why.KeyLength (nat_le (widths form.keys) 400) (true_le (widths form.keys) 400 m.key))
-    (ok_tested why.EntryLength (nat_le (widths form.keys + m.bytes) 1000) (true_le (widths form.keys + m.bytes) 1000 m.entry)))
+    (ok_behind (tested why.KeyLength (nat_le (widths form.keys) 400)) _ tt _ (ok_tested why.KeyLength (nat_le (widths form.keys) 400) (nat_le_from_at_most (widths form.keys) 400 m.key))
+    (ok_tested why.EntryLength (nat_le (widths form.keys + m.bytes) 1000) (nat_le_from_at_most (widths form.keys + m.bytes) 1000 m.entry)))
 row_again heads.Actual form kids m = refl
 row_again (heads.Encode name code) form kids m =
     ok_behind (data_kind form name) _ m.kind _ (field_again form name m.kind m.field) (ok_tested why.FieldKind (is_coded code m.kind) (ok_code code m.kind m.coded))
@@ -333,7 +319,7 @@ row_again (heads.Partition name bounds) form kids m =
     (ok_behind (tested why.FieldKind (is_key_kind m.kind && list_all (is_bound m.kind) bounds)) _ tt _
     (ok_tested why.FieldKind (is_key_kind m.kind && list_all (is_bound m.kind) bounds) (true_both (is_key_kind m.kind) (list_all (is_bound m.kind) bounds) (ok_key_kind m.kind m.key_kind) (ok_bounds m.kind bounds m.fit)))
     (ok_behind (tested why.Bounds (ascends bounds)) _ tt _ (ok_tested why.Bounds (ascends bounds) (ok_ascends bounds m.ascend))
-    (ok_tested why.Children (kids == suc (length bounds)) (ok_equal kids (suc (length bounds)) m.each))))
+    (ok_tested why.Children (kids == suc (length bounds)) (same_number kids (suc (length bounds)) m.each))))
 row_again (heads.Divide size) form kids m = ok_tested why.OneBytes (one_bytes form.fields) (ok_one form.fields m)
 row_again (heads.Index name) form kids m =
     ok_behind (data_kind form name) _ m.kind _ (field_again form name m.kind m.field) (ok_tested why.FieldKind (is_key_kind m.kind) (ok_key_kind m.kind m.key_kind))

@@ -1,17 +1,10 @@
 -- Ints of 64 bits and their bytes.
-use Rattle.std.proofs.Common.{◌≡◌, ℕ, zero, suc, ◌<◌, ◌^◌, List, [], ◌∷◌, take, get_or, sym, ap, ◌∙◌, arith}
+use Rattle.std.proofs.Common.{◌≡◌, ◌<◌, ◌^◌, sym, ap, ◌∙◌, arith}
 use Rattle.std.specs.Prelude.{ℤ, pos, negsuc}
 use Rattle.std.specs.Int.{w64, to_be_bytes, from_be_bytes, cast_unsigned, cast_signed}
 use Rattle.std.specs.Int.RustNames.{FitsSigned}
 use Rattle.std.proofs.lemmas.Nat.{from_be_bytes-to_be_bytes_8}
 use Rattle.std.proofs.Math.Facts.{to_z-of_z}
-
-pub first_bytes : (n : ℕ) (l : List ℕ) → ((i : ℕ) → get_or l i 0 < 256) → (i : ℕ)
-    → get_or (take n l) i 0 < 256
-first_bytes zero l small i = omega arith
-first_bytes (suc n) [] small i = omega arith
-first_bytes (suc n) (x ∷ l) small zero = small 0
-first_bytes (suc n) (x ∷ l) small (suc i) = first_bytes n l (λ k. small (suc k)) i
 
 unsigned_small : (z : ℤ) → FitsSigned w64 z → cast_unsigned w64 z < 2 ^ 64
 unsigned_small (pos n) fits = omega (arith, fits.sfits)

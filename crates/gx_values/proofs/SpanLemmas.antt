@@ -1,15 +1,16 @@
 -- The ends of spans.
 use Rattle.std.proofs.lemmas.Int.{ints}
-use Rattle.std.proofs.Common.{◌≡◌, ◌≢◌, ℕ, zero, suc, ◌+◌, ◌-◌, ◌<◌, ◌≤◌, List, [], ◌∷◌, ◌++◌, length, take, drop, get_or, Bool, true, false, refl, sym, ap, subst, ◌∙◌, arith, length-append, append-nil, ◌⊎◌, inl, inr}
-use Rattle.std.specs.Prelude.{ℤ, pos, negsuc, ◌<ℤ◌, ◌-ℤ◌, ◌+ℤ◌, IsTrue, ◌&&◌}
+use Rattle.std.proofs.Common.{◌≡◌, ◌≢◌, ℕ, zero, suc, ◌+◌, ◌-◌, ◌<◌, List, [], ◌∷◌, ◌++◌, length, take, drop, get_or, Bool, true, false, refl, sym, ap, subst, ◌∙◌, arith, length-append, append-nil, ◌⊎◌, inl, inr}
+use Rattle.std.specs.Prelude.{ℤ, pos, ◌<ℤ◌, ◌-ℤ◌, ◌+ℤ◌, IsTrue, ◌&&◌}
 use Rattle.std.specs.List.{list_all}
 use Rattle.std.specs.Ordering.{ordering_reverse, nat_cmp, int_cmp, is_le, is_lt, is_ge, is_gt, ordering_then}
 use Rattle.std.specs.declared.cmp.Ordering.{Ordering}
 use Rattle.std.specs.declared.cmp.Ordering.TheVariants.{Less, Equal, Greater}
-use Rattle.std.specs.Cmp.{IsTotalOrder, ranked, int_ranked}
+use Rattle.std.specs.Cmp.{ranked, int_ranked}
 use Rattle.std.specs.Cmp.Lexicographic.{slice_cmp}
 use Rattle.std.specs.Int.{w64}
 use Rattle.std.specs.Int.RustNames.{FitsSigned}
+use Rattle.gx_laws.proofs.OrderingLemmas.{cmp_less, cmp_equal, cmp_greater}
 use Rattle.gx_values.specs.declared.values.Kind.{Kind}
 use Rattle.gx_values.specs.declared.values.Kind.TheVariants as kind
 use Rattle.gx_values.specs.declared.values.Value.{Value}
@@ -20,9 +21,7 @@ use Rattle.gx_values.specs.declared.keys.Span.{Span}
 use Rattle.gx_values.specs.Values.{value_cmp, is_met, Fits, is_printable}
 use Rattle.gx_values.specs.Keys.{bytes_of, IsKeyKind}
 use Rattle.gx_values.specs.Spans.{IsSpanKind, IsSpanBound, IsLow, IsHigh, HoldsThoseMet, IsValueSpan, IsBeyond}
-use Rattle.gx_values.proofs.OrderLemmas.{cmp_less, cmp_equal, cmp_greater, value_cmp_total, key_order, longer_order, value_prefix_free, printable_head, printable_one, printable_tail}
-use Rattle.gx_values.proofs.KeyLemmas.{fit_bytes}
-use Rattle.gx_values.proofs.WrittenLemmas.{IsPrefixFree}
+use Rattle.gx_values.proofs.OrderLemmas.{value_cmp_total, key_order, longer_order, value_prefix_free, printable_head, printable_one, printable_tail}
 
 -- ---- no end
 

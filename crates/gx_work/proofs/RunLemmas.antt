@@ -1,7 +1,7 @@
 -- Tasks run from any moment at which no transaction is open.
 use Rattle.std.proofs.Common.{◌≡◌, ℕ, ◌<◌, ◌≤◌, Bool, true, false, cond, List, [], ◌∷◌, ◌++◌, map, codes, refl, sym, ap, subst, ◌∙◌, append-nil}
 use Rattle.std.proofs.Common.{unwrap_or}
-use Rattle.std.specs.Prelude.{T, ◌&&◌, Option, Some, None, filter, is_some}
+use Rattle.std.specs.Prelude.{T, Option, Some, None, filter, is_some}
 use Rattle.std.specs.List.{AllByRecursion}
 use Rattle.std.specs.FinMap as fin
 use Rattle.std.specs.FinMap.Entries.{below_all}
@@ -11,6 +11,8 @@ use Rattle.std.specs.declared.cmp.Ordering.{Ordering}
 use Rattle.std.specs.declared.cmp.Ordering.TheVariants.{Less, Equal, Greater}
 use Rattle.std.proofs.lemmas.List.{map-append}
 use Rattle.std.proofs.lemmas.List.Sorted.{IsPermutation-refl}
+use Rattle.gx_laws.proofs.ListLemmas.{all_filter}
+use Rattle.gx_laws.proofs.BoolLemmas.{first_of_both, second_of_both}
 use Rattle.gx_values.specs.Values.{value_cmp}
 use Rattle.gx_schema.specs.declared.schema.FileDef.{FileDef}
 use Rattle.gx_commands.specs.declared.command.OrderBy.{OrderBy}
@@ -22,7 +24,7 @@ use Rattle.gx_model.specs.Texts.{rows_text}
 use Rattle.gx_model.specs.Commands.{Refusal, refusal_of, refusal_text, next_state, IsListText, IsAnswerOr, IsReply}
 use Rattle.gx_model.specs.Play.{Playing, is_inside, seen_state, working_after, next_of, next_count, IsAnswered}
 use Rattle.gx_model.specs.Runs.{Step, Runs}
-use Rattle.gx_model.proofs.RunLemmas.{run_on}
+use Rattle.gx_model.proofs.RunLemmas.{run_on, some_after}
 use Rattle.gx_work.specs.declared.task.Task.{Task}
 use Rattle.gx_work.specs.declared.task.Task.TheVariants as task
 use Rattle.gx_work.specs.Schema.{work_schema}
@@ -35,14 +37,6 @@ use Rattle.gx_work.proofs.LineLemmas.{IsSmall, line_of, line_means}
 abbrev by_key : OrderBy
 by_key = record { field = 0; desc = false }
 
-first_of : (a b : Bool) → T (a && b) → T a
-first_of true b p = tt
-first_of false b p = absurd p
-
-second_of : (a b : Bool) → T (a && b) → T b
-second_of true b p = p
-second_of false b p = absurd p
-
 less_both : (r : Ordering) → T (is_lt r) → ordering_then r r ≡ Less
 less_both Less e = refl
 less_both Equal e = absurd e
@@ -50,18 +44,11 @@ less_both Greater e = absurd e
 
 all_below : (x : Row) (xs : List Row) → T (below_all value_cmp x.0 xs) → AllByRecursion (λ (y : Row). row_cmp by_key x y ≡ Less) xs
 all_below x [] h = tt
-all_below x (y ∷ xs) h = (less_both (value_cmp x.0 y.0) (first_of _ _ h), all_below x xs (second_of _ _ h))
+all_below x (y ∷ xs) h = (less_both (value_cmp x.0 y.0) (first_of_both _ _ h), all_below x xs (second_of_both _ _ h))
 
 ascends : (xs : List Row) → T (fin.is_sorted value_cmp xs) → Ascends (row_cmp by_key) xs
 ascends [] h = tt
-ascends (x ∷ xs) h = (all_below x xs (first_of _ _ h), ascends xs (second_of _ _ h))
-
-all_filter : (P : Row → Type 0) (p : Row → Bool) (xs : List Row) → AllByRecursion P xs → AllByRecursion P (filter p xs)
-all_filter P p [] h = tt
-all_filter P p (x ∷ xs) h = elim (p x) as (λ b. AllByRecursion P (cond b (x ∷ filter p xs) (filter p xs))) [
-  | true ↦ (h.0, all_filter P p xs h.1)
-  | false ↦ all_filter P p xs h.1
-]
+ascends (x ∷ xs) h = (all_below x xs (first_of_both _ _ h), ascends xs (second_of_both _ _ h))
 
 ascends_filter : (p : Row → Bool) (xs : List Row) → Ascends (row_cmp by_key) xs → Ascends (row_cmp by_key) (filter p xs)
 ascends_filter p [] h = tt
@@ -157,10 +144,6 @@ allowed_inside (task.Connection i) inside h e = ap (λ b. place_reason b (comman
 allowed_inside (task.Raise i) inside h e = ap (λ b. place_reason b (command_of (task.Raise i))) e
 allowed_inside task.FindByPay inside h e = absurd h
 allowed_inside task.FindByLink inside h e = absurd h
-
-some_after : (old : Option State) (s : State) → is_some (working_after old s) ≡ is_some old
-some_after None s = refl
-some_after (Some old) s = refl
 
 inside_behind : (t : Task) (p : Playing) → IsInner t → is_inside (next_of work_schema p (command_of t)) ≡ is_inside p
 inside_behind task.Begin p h = absurd h

@@ -1,14 +1,15 @@
 -- The words of the script's lines.
-use Rattle.std.proofs.Common.{◌≡◌, ℕ, ◌^◌, ◌<◌, ◌≤◌, Bool, true, false, leb, List, [], ◌∷◌, ◌++◌, refl, sym, ap, ◌∙◌, append-nil, inr, arith}
+use Rattle.std.proofs.Common.{◌≡◌, ℕ, ◌^◌, ◌<◌, ◌≤◌, Bool, true, false, List, [], ◌∷◌, ◌++◌, refl, sym, ap, ◌∙◌, append-nil, inr, arith}
 use Rattle.std.specs.Prelude.{IsTrue, ◌||◌}
 use Rattle.std.specs.List.{AllByRecursion, list_all}
 use Rattle.std.specs.Fmt.{decimal}
-use Rattle.std.proofs.lemmas.Bool.{and_from, and_parts, le-leb, leb-true, ne_eqb}
+use Rattle.std.proofs.lemmas.Bool.{and_from, le-leb, ne_eqb}
 use Rattle.std.proofs.lemmas.List.Folds.{list_all-append}
 use Rattle.gx_tokens.specs.Lexemes.{is_digit}
 use Rattle.gx_tokens.specs.Spelling.{IsQuoted, AreDigits}
 use Rattle.gx_tokens.specs.Quotes.{unquoted}
 use Rattle.gx_tokens.proofs.NumberLaws.{decimal_is}
+use Rattle.gx_tokens.proofs.TokenAgain.{digit_range}
 use Rattle.gx_commands.specs.Words.{Word, Bare, Quoted, spelling, is_blank, is_character, IsWord, AreWords}
 
 -- ---- words with one blank between them
@@ -40,9 +41,6 @@ all_characters (w ∷ v ∷ ws) h = list_all-append is_character (spelling w) (3
 
 -- ---- numbers
 
-digit_bounds : (b : ℕ) → is_digit b ≡ true → (48 ≤ b) × (b ≤ 57)
-digit_bounds b h = let p = and_parts (leb 48 b) (leb b 57) h in (leb-true 48 b p.0, leb-true b 57 p.1)
-
 or_right : (x y : Bool) → y ≡ true → (x || y) ≡ true
 or_right true y e = refl
 or_right false y e = e
@@ -55,15 +53,15 @@ is_char b lt le = or_right (is_blank b) _ ((and_from _ _ (le-leb 32 b (omega ari
 
 each_no_blank : (text : List ℕ) → AllByRecursion (λ b. IsTrue (is_digit b)) text → AllByRecursion (λ b. is_blank b ≡ false) text
 each_no_blank [] h = tt
-each_no_blank (b ∷ bs) h = (let d = digit_bounds b h.0 in no_blank b (omega arith), each_no_blank bs h.1)
+each_no_blank (b ∷ bs) h = (let d = digit_range b h.0 in no_blank b (omega arith), each_no_blank bs h.1)
 
 each_char : (text : List ℕ) → AllByRecursion (λ b. IsTrue (is_digit b)) text → list_all is_character text ≡ true
 each_char [] h = refl
-each_char (b ∷ bs) h = and_from _ _ (let d = digit_bounds b h.0 in is_char b (omega arith) (omega arith)) (each_char bs h.1)
+each_char (b ∷ bs) h = and_from _ _ (let d = digit_range b h.0 in is_char b (omega arith) (omega arith)) (each_char bs h.1)
 
 digits_word : (text : List ℕ) → AreDigits text → IsWord (Bare text)
 digits_word [] h = absurd (omega (arith, h.some))
-digits_word (b ∷ bs) h = (let d = digit_bounds b h.each.0 in λ e. omega arith, each_no_blank (b ∷ bs) h.each)
+digits_word (b ∷ bs) h = (let d = digit_range b h.each.0 in λ e. omega arith, each_no_blank (b ∷ bs) h.each)
 
 pub number_good : (n : ℕ) → n < 2 ^ 64 → IsGood (Bare (decimal n))
 number_good n lt = let d = decimal_is n lt in record { is_word = digits_word (decimal n) d.digits; characters = each_char (decimal n) d.digits.each }
@@ -78,7 +76,7 @@ pub record IsPlain (b : ℕ) : Type 0 where
 
 pub plain_digits : (text : List ℕ) → AllByRecursion (λ b. IsTrue (is_digit b)) text → AllByRecursion IsPlain text
 plain_digits [] h = tt
-plain_digits (b ∷ bs) h = (let d = digit_bounds b h.0 in record { low = omega arith; high = omega arith; other = λ e. omega arith }, plain_digits bs h.1)
+plain_digits (b ∷ bs) h = (let d = digit_range b h.0 in record { low = omega arith; high = omega arith; other = λ e. omega arith }, plain_digits bs h.1)
 
 plain_quoted : (text : List ℕ) → AllByRecursion IsPlain text → IsQuoted false text
 plain_quoted [] h = tt

@@ -1,9 +1,10 @@
 use Rattle.std.proofs.Common.{subst, arith}
 use Rattle.gx_slots.specs.Page.{entries_of}
-use Rattle.gx_btree.proofs.SheetLemmas.{others_itself, written_here, written_owned, written_others}
+use Rattle.gx_btree.proofs.SheetLemmas.{written_here, written_owned, written_others}
 use Rattle.gx_bplus.specs.Changes.{IsTakenFrom}
 use Rattle.gx_bplus.proofs.RemovalLemmas.{alone_sheets}
 use Rattle.gx_bplus.proofs.removal.remove_alone.Goals as goal
+use Rattle.gx_ports.proofs.PageLemmas.{others_itself}
 
 pub returns-in_ok-write-clause-removed : goal.returns-in_ok-write-clause-removed
 returns-in_ok-write-clause-removed g c told owner tree whole owns past bytes_are =

@@ -4,10 +4,11 @@ use Rattle.gx_slots.specs.Page.{entries_of}
 use Rattle.gx_bnode.specs.Page.{branches_of}
 use Rattle.gx_btree.proofs.EntryLemmas.{some_of, none_of}
 use Rattle.gx_btree.proofs.CallLemmas.{ends_weaker}
-use Rattle.gx_btree.proofs.SheetLemmas.{others_itself, written_here, written_other, written_owned, written_others}
+use Rattle.gx_btree.proofs.SheetLemmas.{written_here, written_other, written_owned, written_others}
 use Rattle.gx_bplus.specs.Changes.{IsTakenFrom}
 use Rattle.gx_bplus.proofs.RemovalLemmas.{keep_sheets, reached_sibling, some_branch}
 use Rattle.gx_bplus.proofs.removal.remove_below.Goals as goal
+use Rattle.gx_ports.proofs.PageLemmas.{others_itself}
 
 pub returns-then-not-take_key-clause-removed : goal.returns-then-not-take_key-clause-removed
 returns-then-not-take_key-clause-removed g c told owner root steps tree reached =

@@ -1,15 +1,15 @@
-use Rattle.std.proofs.Common.{◌≢◌, ◌<◌, ℕ, Bool, List, [], length, refl, sym, ap, subst, ◌∙◌, arith}
+use Rattle.std.proofs.Common.{◌≢◌, ℕ, Bool, List, [], length, refl, sym, ap, subst, ◌∙◌, arith}
 use Rattle.std.specs.Bool.{OnTrue, OnFalse}
 use Rattle.std.proofs.lemmas.Bool.{false≢true}
-use Rattle.gx_ports.specs.Sheets.{Sheets, Ground, IsHome}
+use Rattle.gx_laws.proofs.ListLemmas.{none_long}
+use Rattle.gx_ports.specs.Sheets.{Sheets, Ground, IsHome, bytes_at}
 use Rattle.gx_ports.proofs.PageLemmas.{ends_handed_on, read_pages_joined}
 use Rattle.gx_slots.specs.Page.{IsEntryPage, entries_of}
-use Rattle.gx_chain.specs.Chain.{bytes_at, IsEntryAt}
+use Rattle.gx_chain.specs.Chain.{IsEntryAt}
 use Rattle.gx_chain.specs.Check.{HasAddedKeys, SharesKey, IsNext}
 use Rattle.gx_seen.specs.Seen.{IsUnseen}
 use Rattle.gx_seen.proofs.EndLemmas.{ends_shown}
 use Rattle.gx_chain.proofs.VisitLemmas.{visited_more, next_unseen, next_page, next_filled, next_fresh}
-use Rattle.gx_chain.proofs.ListLemmas.{no_length}
 use Rattle.gx_chain.proofs.check.visit.Goals.{else-number-first-via-then-number-first+else-count-eq0, else-number-first-via-else-number-first}
 use Rattle.gx_chain.proofs.check.visit.Goals as goal
 
@@ -59,7 +59,7 @@ returns-then-count-eq0-clause-ends g c =
     ∙ ap (λ (x : Sheets). bytes_at x c.args.number) c.is_unseen.ensures.reads.working in
     next_filled g.P.PageView p c.args.owner c.args.first visits c.args.number n
     c.if-number-first.true
-    (ap entries_of (sym read) ∙ no_length (entries_of c.read_entries.new.page) (sym c.count.ensures ∙ c.if-count-eq0.true))))
+    (ap entries_of (sym read) ∙ none_long (entries_of c.read_entries.new.page) (sym c.count.ensures ∙ c.if-count-eq0.true))))
 
 pub returns-then-not-branch-2-clause-ends : goal.returns-then-not-branch-2-clause-ends
 returns-then-not-branch-2-clause-ends g c =

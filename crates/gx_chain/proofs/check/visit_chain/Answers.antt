@@ -1,10 +1,10 @@
-use Rattle.std.proofs.Common.{◌≡◌, ◌+◌, ◌≤◌, ◌<◌, [], refl, sym, ap, subst, ◌∙◌, arith}
+use Rattle.std.proofs.Common.{◌≡◌, ◌+◌, ◌≤◌, [], refl, sym, ap, subst, ◌∙◌, arith}
 use Rattle.std.proofs.lemmas.Option.{MatchOption-at_none, MatchOption-at_some}
 use Rattle.gx_bytes.specs.declared.page.TheConstants.{NONE}
-use Rattle.gx_ports.specs.Sheets.{Sheets, Ground, IsPast, IsHome}
+use Rattle.gx_ports.specs.Sheets.{Sheets, Ground, IsPast, IsHome, bytes_at}
 use Rattle.gx_ports.proofs.PageLemmas.{pages_read_themselves, read_pages_joined, ends_handed_on}
 use Rattle.gx_slots.specs.Page.{next_of}
-use Rattle.gx_chain.specs.Chain.{bytes_at, LeadsOn}
+use Rattle.gx_chain.specs.Chain.{LeadsOn}
 use Rattle.gx_chain.specs.Check.{HasUnseenChain, IsNext}
 use Rattle.gx_seen.proofs.EndLemmas.{ends_shown, ends_well}
 use Rattle.gx_chain.proofs.VisitLemmas.{visited_none, whole_hand, next_there, came_on, came_to_end}

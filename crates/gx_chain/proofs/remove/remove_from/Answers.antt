@@ -2,15 +2,16 @@ use Rattle.std.proofs.Common.{◌≡◌, ℕ, ◌++◌, ◌∷◌, [], List, len
 use Rattle.std.specs.List.{Contains, remove}
 use Rattle.std.proofs.lemmas.Option.{MatchOption-at_none, MatchOption-at_some}
 use Rattle.std.proofs.lemmas.List.Elements.{Contains-push, Contains-append_left}
+use Rattle.gx_laws.proofs.ListLemmas.{none_long}
 use Rattle.gx_ports.proofs.PageLemmas.{ends_handed_on}
-use Rattle.gx_ports.specs.Sheets.{Sheets, Ground}
+use Rattle.gx_ports.specs.Sheets.{Sheets, Ground, bytes_at}
 use Rattle.gx_slots.specs.Page.{IsEntryPage, entries_of, next_of}
-use Rattle.gx_chain.specs.Chain.{bytes_at, entries_at, next_at, AreLinked, HasChainOf, IsEntryAt}
+use Rattle.gx_chain.specs.Chain.{entries_at, next_at, AreLinked, HasChainOf, IsEntryAt}
 use Rattle.gx_chain.specs.Changes.{IsTaken, IsUnlinked}
 use Rattle.gx_chain.specs.Seek.{IsFoundAt}
 use Rattle.gx_chain.specs.Walk.{LackKey}
 use Rattle.gx_chain.proofs.ChainLemmas.{linked_page}
-use Rattle.gx_chain.proofs.ListLemmas.{contains_middle, no_length}
+use Rattle.gx_chain.proofs.ListLemmas.{contains_middle}
 use Rattle.gx_chain.proofs.PutLemmas.{dropped_at, dropped_none}
 use Rattle.gx_chain.proofs.RemoveLemmas.{removed_page, removed_there}
 use Rattle.gx_chain.proofs.WriteLemmas.{written}
@@ -147,4 +148,4 @@ returns-in_ok-unlink-in-Some-previous-clause-removed g c told before chain =
     (c.in_ok-unlink-in-Some-previous.ensures.unlinked told))) in
     removed_page ground c.args.owner c.args.first c.args.key.now s t before last.0 f.rest previous
     number chain (f.is ∙ ap (λ (x : List ℕ). x ++ number ∷ f.rest) last.1) u place f.within f.there
-    (sym entries ∙ no_length (entries_of c.take.new.page) (omega (arith, few, c.count.ensures)))
+    (sym entries ∙ none_long (entries_of c.take.new.page) (omega (arith, few, c.count.ensures)))

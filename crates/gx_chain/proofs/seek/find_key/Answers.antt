@@ -2,11 +2,10 @@ use Rattle.std.proofs.Common.{◌≡◌, ◌≢◌, ◌≤◌, ◌<◌, ℕ, Lis
 use Rattle.std.specs.List.{All, HoldsAt}
 use Rattle.std.proofs.lemmas.Option.{MatchOption-at_none, MatchOption-at_some}
 use Rattle.gx_bytes.specs.declared.page.TheConstants.{NONE}
-use Rattle.gx_ports.specs.Sheets.{IsPast}
+use Rattle.gx_ports.specs.Sheets.{IsPast, bytes_at}
 use Rattle.gx_ports.proofs.PageLemmas.{pages_read_themselves, read_pages_joined}
 use Rattle.gx_slots.specs.Entries.{Entry}
 use Rattle.gx_slots.specs.Page.{entries_of, next_of}
-use Rattle.gx_chain.specs.Chain.{bytes_at}
 use Rattle.gx_chain.specs.Walk.{LackKey}
 use Rattle.gx_chain.proofs.WalkEndLemmas.{walk_unread, walk_stopped, walk_over}
 use Rattle.gx_chain.proofs.WalkLemmas.{hand_first, hand_next, hand_last, is_some_page, lack_none, lack_more}

@@ -1,10 +1,9 @@
 use Rattle.std.proofs.Common.{◌≡◌, ◌≤◌, ℕ, List, [], ◌∷◌, ◌++◌, None, refl, sym, ap, subst, ◌∙◌, arith}
 use Rattle.std.proofs.lemmas.Option.{MatchOption-at_none, MatchOption-at_some}
 use Rattle.gx_bytes.specs.declared.page.TheConstants.{NONE}
-use Rattle.gx_ports.specs.Sheets.{IsPast}
+use Rattle.gx_ports.specs.Sheets.{IsPast, bytes_at}
 use Rattle.gx_ports.proofs.PageLemmas.{pages_read_themselves, read_pages_joined}
 use Rattle.gx_slots.specs.Page.{entries_of, next_of}
-use Rattle.gx_chain.specs.Chain.{bytes_at}
 use Rattle.gx_chain.specs.Walk.{IsTrial, AreNoted, IsAwayPast, IsExchanged, noted}
 use Rattle.gx_chain.specs.declared.walk.Away.{Away}
 use Rattle.gx_chain.proofs.WalkEndLemmas.{walk_unread, walk_stopped, walk_over}

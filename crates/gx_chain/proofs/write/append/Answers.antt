@@ -5,9 +5,9 @@ use Rattle.std.specs.Prelude.{⊤}
 use Rattle.gx_bytes.specs.declared.page.TheConstants.{NONE}
 use Rattle.gx_slots.specs.Entries.{Entry}
 use Rattle.gx_slots.specs.Page.{entries_of}
-use Rattle.gx_chain.proofs.ChainLemmas.{at_other}
 use Rattle.gx_chain.proofs.WriteLemmas.{written}
 use Rattle.gx_chain.proofs.write.append.Goals as goal
+use Rattle.gx_ports.proofs.PageLemmas.{bytes_same}
 
 pub returns-clause-appended : goal.returns-clause-appended
 returns-clause-appended g c told apart =
@@ -28,7 +28,7 @@ returns-clause-appended g c told apart =
     (c.add.ensures.next ∙ c.clear.ensures.next) in
     let read =
     c.in_ok-read_entries.ensures.bytes told
-    ∙ at_other s b c.args.last (first.others c.args.last apart) in
+    ∙ bytes_same s b c.args.last (first.others c.args.last apart) in
     record {
       between = b;
       begun = first;

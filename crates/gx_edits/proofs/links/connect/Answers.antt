@@ -1,11 +1,11 @@
 use Rattle.std.proofs.Common.{length, ◌+◌, sym, subst, refl}
 use Rattle.std.specs.FinMap as fin
+use Rattle.std.proofs.lemmas.Option.{same_Some}
 use Rattle.gx_values.specs.declared.values.Value.{Value}
 use Rattle.gx_values.specs.Values.{Fits}
 use Rattle.gx_schema.specs.declared.schema.FileDef.{FileDef}
 use Rattle.gx_schema.specs.Lookups.{key_kind}
 use Rattle.gx_ports.specs.LeafMaps.{entry_count, IsCrowdedBy}
-use Rattle.gx_gather.proofs.Lists.{some_same}
 use Rattle.gx_links.specs.Links.{members_of}
 use Rattle.gx_model.specs.States.{link_in}
 use Rattle.gx_linksets.specs.Any.{any_link_rule, IsHeldBy, IsValidLinkset}
@@ -60,7 +60,7 @@ returns g c =
           let joined = fin.insert (link_in s i) c.args.member.now c.args.owner.now in
           let crowded = subst (λ (o : Value). IsCrowdedBy (b.limit c.args.leaves.now)
           (entry_count old + length ((any_link_rule x.linkset).entries o (members_of joined o))))
-          (sym (some_same c.args.owner.now full.1 full.2)) full.3 in
+          (sym (same_Some c.args.owner.now full.1 full.2)) full.3 in
           connect_full any_link_rule IsHeldBy IsValidLinkset schema built _ i x c.requires.ready lt
           is _ _ s c.args.owner.now c.args.member.now are.valid full.0 crowded;
       bringing = λ stops. refl;

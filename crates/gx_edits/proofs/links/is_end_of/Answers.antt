@@ -1,6 +1,7 @@
 use Rattle.std.proofs.Common.{◌≡◌, ◌∙◌, List, false, length, refl, sym, ap, subst}
 use Rattle.std.specs.Prelude.{◌&&◌, ◌==◌, is_some}
 use Rattle.std.specs.FinMap as fin
+use Rattle.gx_laws.proofs.NumberLemmas.{same_number}
 use Rattle.gx_schema.specs.Lookups.{link_at}
 use Rattle.gx_ports.specs.LeafMaps.{LeafMap}
 use Rattle.gx_ports.proofs.CallLemmas.{reads_itself}
@@ -11,7 +12,7 @@ use Rattle.gx_stack.proofs.PassLemmas.{Passes, passes, reads_given, reads_given_
 use Rattle.gx_pairs.proofs.LinkedLemmas.{link_there, linked_still, have_still}
 use Rattle.gx_model.specs.States.{link_in}
 use Rattle.gx_states.proofs.StoredLemmas.{is_stored, is_linked_in, have_link}
-use Rattle.gx_edits.proofs.EndLemmas.{same_number, other_number}
+use Rattle.gx_edits.proofs.EndLemmas.{other_number}
 use Rattle.gx_edits.proofs.RelinkLemmas.{end_as_member, end_as_owner}
 use Rattle.gx_edits.proofs.links.is_end_of.Goals.{else-def-file-via-then-def-file+in_ok-has_owner+else-branch, else-def-file-via-else-def-file}
 use Rattle.gx_edits.proofs.links.is_end_of.Goals as goal

@@ -1,5 +1,6 @@
 use Rattle.std.proofs.Common.{rules, ◌<◌, ◌∙◌, List, None, length, refl, sym, ap, subst}
 use Rattle.std.specs.FinMap as fin
+use Rattle.gx_laws.proofs.ResultLemmas.{none_of}
 use Rattle.gx_mapping.specs.Rule.{IsOf}
 use Rattle.gx_ports.specs.LeafMaps.{LeafMap, map_at}
 use Rattle.gx_stack.specs.Seen.{tree_of}
@@ -9,7 +10,6 @@ use Rattle.gx_scan.specs.Files.{rec_of, records_of}
 use Rattle.gx_scan.proofs.FileLemmas.{set_of, row_fits}
 use Rattle.gx_model.specs.States.{Row}
 use Rattle.gx_model.specs.Commands.{key_exists}
-use Rattle.gx_pairs.proofs.LinkedLemmas.{no_value}
 use Rattle.gx_edits.proofs.ChangeLemmas.{is_insert}
 use Rattle.gx_edits.proofs.RecordLemmas.{is_done, insert_edit, crowded_same}
 use Rattle.gx_edits.proofs.records.insert_own.Goals as goal
@@ -36,7 +36,7 @@ returns-in_err-put_own g c = record {
   full = λ f whole is e.
       let t = tree_of c.args.node.now in
       let row : Row = (c.args.key.now, c.args.values) in
-      let none = no_value (fin.get f c.args.key.now)
+      let none = none_of (fin.get f c.args.key.now)
       (sym (c.in_ok-is_there.ensures.there f whole is) ∙ c.if-branch.false) in
       let full = c.put_own.ensures.full (c.in_ok-is_there.ensures.reads.ends.whole whole)
       (search rules) in (
@@ -56,7 +56,7 @@ returns-in_ok-put_own g c = record {
       let values = c.args.values in
       let same = c.is_there.ensures.reads.reads.working in
       let absent = sym (c.in_ok-is_there.ensures.there f whole is) ∙ c.if-branch.false in
-      let none = no_value (fin.get f key) absent in
+      let none = none_of (fin.get f key) absent in
       let after = c.in_ok-is_there.ensures.reads.ends.whole whole in
       let set = subst (λ form. IsSet form (records_of f)) (sym c.requires.can.tree.form)
       (set_of c.args.file.now f c.requires.can.storable.keyed is.fit) in

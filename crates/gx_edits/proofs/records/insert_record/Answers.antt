@@ -1,6 +1,7 @@
 use Rattle.std.proofs.Common.{rules, ◌<◌, ◌∙◌, List, length, sym, ap, subst}
 use Rattle.std.specs.FinMap as fin
 use Rattle.std.specs.Prelude.{IfSome, ◌≢◌}
+use Rattle.gx_laws.proofs.ResultLemmas.{none_of}
 use Rattle.gx_values.specs.declared.records.Rec.{Rec}
 use Rattle.gx_mapping.specs.Rule.{In, IsOf}
 use Rattle.gx_ports.specs.LeafMaps.{LeafMap, map_at}
@@ -10,7 +11,6 @@ use Rattle.gx_types.specs.Any.{any_rule}
 use Rattle.gx_scan.specs.Files.{records_of}
 use Rattle.gx_scan.proofs.FileLemmas.{set_of, row_fits}
 use Rattle.gx_model.specs.Commands.{key_exists}
-use Rattle.gx_pairs.proofs.LinkedLemmas.{no_value}
 use Rattle.gx_edits.proofs.ChangeLemmas.{is_insert}
 use Rattle.gx_edits.proofs.RecordLemmas.{missing, is_done, insert_edit, crowded_same}
 use Rattle.gx_entries.specs.Entries.{AreOwnLeaves}
@@ -36,7 +36,7 @@ returns-in_err-replace g c = record {
   block = search rules;
   full = λ f whole is e.
       let t = tree_of c.args.node.now in
-      let none = no_value (fin.get f c.args.key)
+      let none = none_of (fin.get f c.args.key)
       (missing f c.args.key c.in_ok-find_record.field-0 _
       (c.in_ok-find_record.ensures.found f whole is) (c.is_some.ensures) c.if-is_some.false) in
       let new = c.in_ok-new.ensures in
@@ -57,7 +57,7 @@ returns g c = record {
       let same = c.find_record.ensures.reads.reads.working in
       let absent = missing f c.args.key c.in_ok-find_record.field-0 _
       (c.in_ok-find_record.ensures.found f whole is) (c.is_some.ensures) c.if-is_some.false in
-      let none = no_value (fin.get f c.args.key) absent in
+      let none = none_of (fin.get f c.args.key) absent in
       let after = c.in_ok-find_record.ensures.reads.ends.whole whole in
       let new = c.in_ok-new.ensures in
       let set = subst (λ form. IsSet form (records_of f)) (sym c.requires.can.tree.form)

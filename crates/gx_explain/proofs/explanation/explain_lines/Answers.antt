@@ -1,7 +1,8 @@
 use Rattle.std.proofs.Common.{rules, ◌≤◌, ◌++◌, ◌∙◌, length, false, Err, refl, sym, ap, subst, arith}
 use Rattle.gx_commands.specs.Lines.{script_lines}
+use Rattle.gx_commands.proofs.LineCounts.{few_lines}
 use Rattle.gx_explain.specs.Explaining.{fields_in}
-use Rattle.gx_play.proofs.PlayLemmas.{few_lines, is_err}
+use Rattle.gx_play.proofs.PlayLemmas.{is_err}
 use Rattle.gx_explain.proofs.ExplainLemmas.{IsSoFar, at_start, after_line, at_line_end, at_line, at_end, at_fault}
 use Rattle.gx_explain.proofs.explanation.explain_lines.Goals as goal
 

@@ -1,8 +1,9 @@
 use Rattle.std.proofs.Common.{rules, ◌≡◌, ◌∙◌, true, false, length, ap}
 use Rattle.std.specs.Prelude.{min}
 use Rattle.std.specs.Ordering.{is_gt}
+use Rattle.gx_laws.proofs.OrderingLemmas.{gt_not_le, not_gt_le}
 use Rattle.gx_finds.specs.Spans.{is_up_to}
-use Rattle.gx_finds.proofs.SpanLemmas.{order_of, gt_not_le, not_gt_le, first_high, second_high}
+use Rattle.gx_finds.proofs.SpanLemmas.{order_of, first_high, second_high}
 use Rattle.gx_finds.proofs.spans.lower_high.Goals as goal
 
 pub returns-then-is_gt-clause-both : goal.returns-then-is_gt-clause-both

@@ -1,8 +1,7 @@
 use Rattle.std.proofs.Common.{[], refl, sym, ap, subst, ◌∙◌, arith}
 use Rattle.std.proofs.lemmas.List.{get_or-set_same}
-use Rattle.gx_ports.specs.Sheets.{Ground, Sheets, IsOwnedAnew}
-use Rattle.gx_chain.specs.Chain.{bytes_at}
-use Rattle.gx_chain.proofs.ChainLemmas.{at_other}
+use Rattle.gx_ports.specs.Sheets.{Ground, Sheets, IsOwnedAnew, bytes_at}
+use Rattle.gx_ports.proofs.PageLemmas.{bytes_same}
 use Rattle.gx_isam.proofs.WriteLemmas.{index_written}
 use Rattle.gx_isam.proofs.change.leave_out.Goals as goal
 
@@ -32,4 +31,4 @@ returns-clause-written g c told =
     c.in_ok-write.ensures.keeps.ground (c.in_ok-free.ensures.freed told) in
     let here = ap (λ (x : Sheets). bytes_at x root) (c.in_ok-write.ensures.written told)
     ∙ get_or-set_same s.bytes root c.set_first.new.page [] (omega (arith, root_below, many.1)) in
-    sym (at_other between (g.P.PageView.working c.free.new.self) root (freed.bytes root c.requires.root.past) ∙ here)
+    sym (bytes_same between (g.P.PageView.working c.free.new.self) root (freed.bytes root c.requires.root.past) ∙ here)

@@ -1,9 +1,8 @@
 use Rattle.std.proofs.Common.{ℕ, List, Bool, ap, refl, sym, subst, ◌∙◌, rules}
 use Rattle.std.proofs.lemmas.Result.{on_ok_weaker}
 use Rattle.gx_ports.specs.Files.{IsWhole}
-use Rattle.gx_ports.specs.Sheets.{Sheets}
+use Rattle.gx_ports.specs.Sheets.{Sheets, bytes_at}
 use Rattle.gx_ports.proofs.PageLemmas.{ends_as, ends_handed_on}
-use Rattle.gx_chain.specs.Chain.{bytes_at}
 use Rattle.gx_isam_index.specs.Index.{bucket_count}
 use Rattle.gx_isam.specs.Isam.{IsIsam}
 use Rattle.gx_isam.specs.Map.{isam_map}

@@ -3,10 +3,10 @@ use Rattle.std.proofs.lemmas.Option.{MatchOption-at_none, MatchOption-at_some}
 use Rattle.std.proofs.lemmas.Result.{on_ok_weaker}
 use Rattle.gx_bytes.specs.declared.page.TheConstants.{NONE}
 use Rattle.gx_ports.specs.Files.{IsWhole, page_count}
-use Rattle.gx_ports.specs.Sheets.{Sheets, Ground, IsPast, HasNone}
+use Rattle.gx_ports.specs.Sheets.{Sheets, Ground, IsPast, HasNone, bytes_at}
 use Rattle.gx_ports.specs.declared.stop.Stop.TheVariants as stop
 use Rattle.gx_ports.proofs.PageLemmas.{ends_as, ends_handed_on}
-use Rattle.gx_chain.specs.Chain.{bytes_at, IsEntryAt, LeadsOn}
+use Rattle.gx_chain.specs.Chain.{IsEntryAt, LeadsOn}
 use Rattle.gx_chain.proofs.OwnerLemmas.{spared}
 use Rattle.gx_isam_index.specs.Index.{first_of}
 use Rattle.gx_isam.specs.Isam.{IsIsam}

@@ -1,10 +1,9 @@
 use Rattle.std.proofs.Common.{refl, sym, ap, subst, ◌∙◌, arith, Err}
 use Rattle.std.proofs.lemmas.Result.{on_ok_weaker}
 use Rattle.gx_ports.specs.Files.{IsWhole, OthersStay}
-use Rattle.gx_ports.specs.Sheets.{Sheets, Ground, HasNone}
+use Rattle.gx_ports.specs.Sheets.{Sheets, Ground, HasNone, bytes_at}
 use Rattle.gx_ports.specs.declared.stop.Stop.TheVariants as stop
-use Rattle.gx_ports.proofs.PageLemmas.{ends_as, ends_handed_on}
-use Rattle.gx_chain.specs.Chain.{bytes_at}
+use Rattle.gx_ports.proofs.PageLemmas.{ends_as, ends_handed_on, others_itself, others_joined}
 use Rattle.gx_isam_index.specs.Fresh.{HasFreshBuckets}
 use Rattle.gx_isam.specs.Isam.{IsIsam}
 use Rattle.gx_isam_index.specs.Layout.{keys_of}
@@ -12,7 +11,6 @@ use Rattle.gx_isam.proofs.BlankLemmas.{blank_there, others_there}
 use Rattle.gx_isam.proofs.ChangeLemmas.{isam_read}
 use Rattle.gx_isam_index.proofs.LayoutLemmas.{fresh_stays}
 use Rattle.gx_isam.proofs.MakeLemmas.{one_root}
-use Rattle.gx_isam.proofs.RebuildLemmas.{others_itself, others_joined}
 use Rattle.gx_isam.proofs.SelectedLemmas.{keys_selected}
 use Rattle.gx_isam.proofs.WriteLemmas.{handed_refusal, no_refusal, same_refusal}
 use Rattle.gx_isam.proofs.isam.reorganize.Goals as goal

@@ -1,11 +1,10 @@
 use Rattle.std.proofs.Common.{refl, sym, ap, subst, ◌∙◌, arith}
 use Rattle.gx_ports.specs.Files.{IsWhole, OthersStay}
-use Rattle.gx_ports.specs.Sheets.{Ground, Sheets}
-use Rattle.gx_ports.proofs.PageLemmas.{ends_handed_on, kept_pages_joined}
-use Rattle.gx_chain.specs.Chain.{bytes_at}
+use Rattle.gx_ports.specs.Sheets.{Ground, Sheets, bytes_at}
+use Rattle.gx_ports.proofs.PageLemmas.{ends_handed_on, kept_pages_joined, others_itself}
 use Rattle.gx_isam.specs.Isam.{IsIsam}
 use Rattle.gx_isam.specs.Rebuild.{HasIndex, HasIndexAt, IsFreed}
-use Rattle.gx_isam.proofs.RebuildLemmas.{freed_all, freed_more, others_itself}
+use Rattle.gx_isam.proofs.RebuildLemmas.{freed_all, freed_more}
 use Rattle.gx_isam.proofs.rebuild.free_chains.Goals as goal
 
 pub loop-bucket-init : goal.loop-bucket-init

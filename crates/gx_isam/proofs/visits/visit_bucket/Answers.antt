@@ -3,10 +3,10 @@ use Rattle.std.proofs.lemmas.Bool.{false≢true}
 use Rattle.std.proofs.lemmas.Option.{MatchOption-at_none, MatchOption-at_some}
 use Rattle.std.proofs.lemmas.Result.{on_ok_weaker}
 use Rattle.gx_bytes.specs.declared.page.TheConstants.{NONE}
-use Rattle.gx_ports.specs.Sheets.{Sheets, Ground, IsPast, IsHome}
+use Rattle.gx_ports.specs.Sheets.{Sheets, Ground, IsPast, IsHome, bytes_at}
 use Rattle.gx_ports.proofs.PageLemmas.{ends_as, ends_handed_on}
 use Rattle.gx_slots.specs.Page.{IsEntryPage}
-use Rattle.gx_chain.specs.Chain.{bytes_at, entries_at, LeadsOn}
+use Rattle.gx_chain.specs.Chain.{entries_at, LeadsOn}
 use Rattle.gx_seen.proofs.EndLemmas.{ends_shown}
 use Rattle.gx_chain.proofs.PlacedChainLemmas.{placed_chain, keys_have, keys_placed}
 use Rattle.gx_isam_index.specs.Index.{bucket_of, first_of}

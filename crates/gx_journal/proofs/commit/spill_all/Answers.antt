@@ -1,4 +1,4 @@
-use Rattle.std.proofs.Common.{◌≡◌, ◌<◌, ℕ, inl, inr, subst, arith}
+use Rattle.std.proofs.Common.{◌<◌, ℕ, inl, inr, subst, arith}
 use Rattle.std.proofs.lemmas.Bool.Decides.{eqb_tells, leb_tells}
 use Rattle.gx_frames.specs.Pool.{Pool, find_page, IsPool, IsNextChanged, IsChanged}
 use Rattle.gx_journal.proofs.SourceLemmas.{found_below}

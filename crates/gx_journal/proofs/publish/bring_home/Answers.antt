@@ -1,11 +1,11 @@
 use Rattle.std.proofs.Common.{List, ℕ, [], get_or, ap, ◌∙◌}
+use Rattle.gx_laws.proofs.ResultLemmas.{on_ok_always}
 use Rattle.gx_layout.specs.Layout.{home}
 use Rattle.gx_journal.proofs.DeviceLemmas.{counted, not_flushed, flushed}
-use Rattle.gx_journal.proofs.PublishLemmas.{always}
 use Rattle.gx_journal.proofs.publish.bring_home.Goals as goal
 
 pub returns-clause-homes : goal.returns-clause-homes
-returns-clause-homes g c told = always c.sync.result (λ i lt.
+returns-clause-homes g c told = on_ok_always c.sync.result (λ i lt.
     ap (λ (l : List (List ℕ)). get_or l (home c.args.pages (get_or c.args.listed.now.items i 0)) []) c.sync.ensures.rest.blocks
     ∙ c.in_ok-write_homes.ensures.homes told i lt)
 

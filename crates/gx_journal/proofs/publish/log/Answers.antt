@@ -1,8 +1,8 @@
 use Rattle.std.proofs.Common.{ℕ, Bool, List, [], length, get_or, subst, sym}
+use Rattle.gx_laws.proofs.ResultLemmas.{on_ok_always}
 use Rattle.gx_device.specs.Content.{block_of}
 use Rattle.gx_layout.specs.Layout.{Names}
 use Rattle.gx_journal.proofs.DeviceLemmas.{counted, not_flushed, flushed}
-use Rattle.gx_journal.proofs.PublishLemmas.{always}
 use Rattle.gx_journal.proofs.publish.log.Goals as goal
 
 pub returns-in_err-write_bitmap-clause-flushes : goal.returns-in_err-write_bitmap-clause-flushes
@@ -32,5 +32,5 @@ pub returns-clause-names : goal.returns-clause-names
 returns-clause-names g c told =
     let flags = c.args.spilled.now.items in
     let bits = block_of (g.D.Device.content c.write_bitmap.new.device).now 2 in
-    always c.sync.result (subst (λ (l : List (List ℕ)). Names flags (get_or l 2 []) (length flags)) (sym c.sync.ensures.rest.blocks)
+    on_ok_always c.sync.result (subst (λ (l : List (List ℕ)). Names flags (get_or l 2 []) (length flags)) (sym c.sync.ensures.rest.blocks)
     (subst (λ (xs : List Bool). Names xs bits (length xs)) c.deref.ensures.value (c.in_ok-write_bitmap.ensures.written told)))

@@ -1,4 +1,5 @@
 use Rattle.std.proofs.Common.{◌≡◌, inl, inr, ◌+◌, ◌<◌, ℕ, length, get_or, sym, ◌∙◌, arith, subst}
+use Rattle.gx_laws.proofs.ResultLemmas.{on_ok_always}
 use Rattle.gx_device.specs.Content.{block_of}
 use Rattle.gx_layout.specs.Layout.{home}
 use Rattle.gx_device.specs.Crash.{EachImage}
@@ -9,7 +10,7 @@ use Rattle.gx_layout.proofs.FlushLemmas.{bitmap_leaves, bitmap_ready, homes_leav
 use Rattle.gx_journal.specs.Publishing.{AreCopiedHome}
 use Rattle.gx_journal.specs.Sources.{IsHomeOf, IsCommitted}
 use Rattle.gx_journal.proofs.DeviceLemmas.{no_ok, touches_failed, touches_joined, touches_more}
-use Rattle.gx_journal.proofs.PublishLemmas.{always, found, home_in, homes_hold}
+use Rattle.gx_journal.proofs.PublishLemmas.{found, home_in, homes_hold}
 use Rattle.gx_journal.proofs.publish.publish.Goals as goal
 
 pub bring_home-requires-clause-listed : goal.bring_home-requires-clause-listed
@@ -101,7 +102,7 @@ returns-clause-homes g c told =
     let gate = (content c.open_gate.new.device).now in
     let brought = (content c.bring_home.new.device).now in
     let long : c.len.result ≡ P = c.len.ensures ∙ c.args.spilled.now.ok.0 in
-    always c.close_gate.result (λ p on.
+    on_ok_always c.close_gate.result (λ p on.
     let f = found listed p (c.requires.spilled.named.every p on) in
     c.close_gate.ensures.rest.blocks (home P p) (λ (e : home P p ≡ 1). absurd (omega (arith, e)))
     ∙ subst (λ (q : ℕ). block_of brought (home P q) ≡ block_of gate (7 + q)) f.is

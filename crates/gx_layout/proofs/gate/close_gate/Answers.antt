@@ -1,10 +1,10 @@
 use Rattle.std.proofs.Common.{◌≡◌, ◌∙◌, ℕ, List, [], get_or, ap}
 use Rattle.std.proofs.lemmas.Result.{on_ok_weaker}
+use Rattle.gx_laws.proofs.ResultLemmas.{on_ok_always}
 use Rattle.gx_layout.proofs.BlockLemmas.{blocks_twice, blocks_sync}
 use Rattle.gx_layout.proofs.CommitLemmas.{gate_images, gate_synced, gate_closed, only_one}
 use Rattle.gx_layout.specs.Layout.{is_open}
 use Rattle.gx_layout.specs.PhaseLaws.{ready_gate}
-use Rattle.gx_layout.proofs.FormatLemmas.{same_after}
 use Rattle.gx_layout.proofs.gate.close_gate.Goals as goal
 
 pub returns-in_err-set_gate-clause-images : goal.returns-in_err-set_gate-clause-images
@@ -30,5 +30,5 @@ returns-clause-rest g c =
 
 pub returns-clause-closed : goal.returns-clause-closed
 returns-clause-closed g c told =
-    same_after c.sync.result (ap (λ (l : List (List ℕ)). is_open (get_or l 1 [])) c.sync.ensures.rest.blocks
+    on_ok_always c.sync.result (ap (λ (l : List (List ℕ)). is_open (get_or l 1 [])) c.sync.ensures.rest.blocks
     ∙ c.in_ok-set_gate.ensures.written told)

@@ -1,6 +1,6 @@
 use Rattle.std.proofs.Common.{◌≡◌, refl, arith}
+use Rattle.gx_laws.proofs.ResultLemmas.{on_ok_always}
 use Rattle.gx_layout.proofs.BlockLemmas.{blocks_twice, blocks_write, blocks_sync}
-use Rattle.gx_layout.proofs.FormatLemmas.{same_after}
 use Rattle.gx_layout.proofs.SealLemmas.{magic_stands, unsealed_images, unsealed_synced}
 use Rattle.gx_layout.proofs.head.seal.Goals as goal
 
@@ -22,6 +22,6 @@ returns-clause-rest g c =
 
 pub returns-clause-magic : goal.returns-clause-magic
 returns-clause-magic g c told =
-    same_after c.sync.result (magic_stands c.magic_block.result _ (g.D.Device.content c.write_block.new.self) _
+    on_ok_always c.sync.result (magic_stands c.magic_block.result _ (g.D.Device.content c.write_block.new.self) _
     (omega (arith, c.requires, g.met.D.Device.sized c.args.device.now told))
     (c.in_ok-write_block.ensures.block told) c.sync.ensures.rest c.magic_block.ensures)

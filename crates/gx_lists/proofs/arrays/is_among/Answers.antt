@@ -4,8 +4,8 @@ use Rattle.std.proofs.lemmas.List.{take_all}
 use Rattle.gx_mapping.specs.Rule.{In}
 use Rattle.gx_gather.proofs.Lists.{in_more, in_read}
 use Rattle.gx_links.specs.Links.{is_same}
-use Rattle.gx_links.proofs.MemberLemmas.{same_value, value_itself}
 use Rattle.gx_lists.proofs.arrays.is_among.Goals as goal
+use Rattle.gx_values.proofs.OrderLemmas.{same_value, value_itself}
 
 pub returns-then-is_eq-clause-yes : goal.returns-then-is_eq-clause-yes
 returns-then-is_eq-clause-yes c = λ e.

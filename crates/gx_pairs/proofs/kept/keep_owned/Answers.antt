@@ -7,15 +7,15 @@ use Rattle.gx_values.specs.declared.values.Value.{Value}
 use Rattle.gx_values.specs.Values.{Fits}
 use Rattle.gx_ports.specs.LeafMaps.{LeafMap}
 use Rattle.gx_ports.proofs.CallLemmas.{reads_itself, reads_joined}
-use Rattle.gx_gather.proofs.Lists.{all_at}
 use Rattle.gx_mapping.specs.Rule.{In}
+use Rattle.gx_mapping.proofs.RuleLemmas.{all_in}
 use Rattle.gx_model.specs.States.{Row}
 use Rattle.gx_model.specs.Found.{is_owner}
 use Rattle.gx_stack.proofs.PassLemmas.{reads_given_after}
 use Rattle.gx_pairs.specs.Stored.{IsStoredLinkset}
 use Rattle.gx_pairs.specs.Members.{is_member_of}
 use Rattle.gx_pairs.proofs.MemberLemmas.{row_kept, row_dropped, row_steps}
-use Rattle.gx_pairs.proofs.SearchLemmas.{reads_passed, looks_stopped}
+use Rattle.gx_pairs.proofs.SearchLemmas.{looks_stopped, reads_passed}
 use Rattle.gx_pairs.proofs.kept.keep_owned.Goals as goal
 
 pub loop-row-init : goal.loop-row-init
@@ -27,7 +27,7 @@ loop-row-init g c =
     let maps = b.working c.args.leaves.now in
     record {
       many = search rules;
-      fit = λ r h. all_at (λ (q : Row). Fits rule.member q.0) c.args.rows.items r c.requires.members
+      fit = λ r h. all_in (λ (q : Row). Fits rule.member q.0) c.args.rows.items r c.requires.members
           (subst (In r) given h);
       those = λ link whole is held. λ i. c.new-kept.ensures.items i ++ filter
           (is_member_of link c.args.owner.now) (given i);

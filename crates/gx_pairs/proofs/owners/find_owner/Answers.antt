@@ -1,11 +1,12 @@
 use Rattle.std.proofs.Common.{rules, ◌<◌, ◌∙◌, List, length, sym, subst, arith}
 use Rattle.std.specs.FinMap as fin
+use Rattle.gx_laws.proofs.ResultLemmas.{none_of}
 use Rattle.gx_ports.specs.LeafMaps.{LeafMap}
 use Rattle.gx_scan.specs.Files.{IsInternal}
 use Rattle.gx_stack.proofs.PassLemmas.{passes_joined, read_passes, reads_given, reads_given_after}
 use Rattle.gx_pairs.specs.Stored.{file_of, node_tree}
-use Rattle.gx_pairs.proofs.LinkedLemmas.{no_value, looked_up, owners_there, members_there, link_there, have_still}
-use Rattle.gx_pairs.proofs.SearchLemmas.{reads_passed, linked_stopped}
+use Rattle.gx_pairs.proofs.LinkedLemmas.{looked_up, owners_there, members_there, link_there, have_still}
+use Rattle.gx_pairs.proofs.SearchLemmas.{linked_stopped, reads_passed}
 use Rattle.gx_pairs.proofs.owners.find_owner.Goals as goal
 
 pub returns-in_err-has_record : goal.returns-in_err-has_record
@@ -20,7 +21,7 @@ returns-in_err-has_record g c =
 pub returns-then-not-branch : goal.returns-then-not-branch
 returns-then-not-branch g c = record {
   found = λ owners members link whole are.
-      no_value (fin.get members c.args.member.now)
+      none_of (fin.get members c.args.member.now)
       (sym (c.in_ok-has_record.ensures.found members whole are.members) ∙ c.if-not-branch.true);
   reads = reads_passed g.B.View _ (read_passes g.B.View c.in_ok-has_record.ensures.reads);
 }

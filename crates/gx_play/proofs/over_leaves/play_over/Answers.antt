@@ -1,5 +1,6 @@
 use Rattle.std.proofs.Common.{refl, sym, ap, subst, ◌∙◌, arith}
 use Rattle.gx_device.specs.Quiet.{IsPrefix}
+use Rattle.gx_device.proofs.PrefixLemmas.{prefix_same, prefix_twice}
 use Rattle.gx_model.specs.Play.{start_at}
 use Rattle.gx_ports.specs.declared.stop.Stop.TheVariants as stop
 use Rattle.gx_engine.specs.Steps.{leaves_of}
@@ -8,7 +9,6 @@ use Rattle.gx_play.specs.Plays.{IsHeard, is_play_fault}
 use Rattle.gx_play.proofs.HoldingLemmas.{holding_after, at_first, kept_in}
 use Rattle.gx_play.proofs.OverLemmas.{played_as, played_over, unheard, heard_to_end, play_ending, outside_ending, stop_of_ending, goes_on, rose_before}
 use Rattle.gx_play.proofs.AnsweringLemmas.{played_aloud}
-use Rattle.gx_play.proofs.SayLemmas.{begins_same, begins_then}
 use Rattle.gx_play.proofs.over_leaves.play_over.Goals as goal
 
 pub returns-in-Err-clause-answered : goal.returns-in-Err-clause-answered
@@ -80,14 +80,14 @@ returns-clause-failures g c =
     }
 
 pub returns-in-Err-clause-begins : goal.returns-in-Err-clause-begins
-returns-in-Err-clause-begins g c = λ told. begins_same _ _ (ap (λ n. n.said) c.in-Err.ensures.rest.now)
+returns-in-Err-clause-begins g c = λ told. prefix_same _ _ (ap (λ n. n.said) c.in-Err.ensures.rest.now)
 
 pub returns-clause-begins : goal.returns-clause-begins
 returns-clause-begins g c = λ told.
     let content = g.B.View.content in
     subst (IsPrefix (content c.args.leaves).now.said) (ap (λ l. (content l).now.said) (sym c.into_leaves.ensures))
-    (begins_then (content c.args.leaves).now.said (content (leaves_of c.start-engine.result)).now.said
+    (prefix_twice (content c.args.leaves).now.said (content (leaves_of c.start-engine.result)).now.said
     (content (leaves_of c.play_script-played.new.engine)).now.said
-    (begins_same (content c.args.leaves).now.said (content (leaves_of c.start-engine.result)).now.said
+    (prefix_same (content c.args.leaves).now.said (content (leaves_of c.start-engine.result)).now.said
     (ap (λ l. (content l).now.said) c.start-engine.ensures.leaves ∙ ap (λ n. n.said) c.in-Ok.ensures.rest.now))
     (c.play_script-played.ensures.keeps.begins told))

@@ -1,8 +1,9 @@
 use Rattle.std.proofs.Common.{rules, ◌≤◌, ◌∙◌, Err, true, false, length, refl, sym, ap, subst, arith}
 use Rattle.gx_commands.specs.Lines.{script_lines}
+use Rattle.gx_commands.proofs.LineCounts.{few_lines}
 use Rattle.gx_play.specs.Answering.{beside, with_answers}
 use Rattle.gx_play.specs.Plays.{IsSoFar}
-use Rattle.gx_play.proofs.PlayLemmas.{few_lines, at_start, after_line, at_line_end, at_end, at_line, is_err}
+use Rattle.gx_play.proofs.PlayLemmas.{at_start, after_line, at_line_end, at_end, at_line, is_err}
 use Rattle.gx_play.proofs.AnsweringLemmas.{at_beside, at_alone, keeps_same, keeps_then}
 use Rattle.gx_play.proofs.play.play_script.Goals as goal
 

@@ -1,9 +1,9 @@
 use Rattle.std.proofs.Common.{rules, ◌≡◌, ◌<◌, ◌+◌, ◌++◌, ◌∙◌, ◌∷◌, [], Some, length, drop, get_or, map, false, refl, sym, ap, subst, arith}
 use Rattle.std.specs.Prelude.{not, IfSome}
+use Rattle.std.proofs.lemmas.Option.{same_Some}
 use Rattle.gx_values.specs.Values.{Fits}
 use Rattle.gx_values.proofs.WrittenLemmas.{next_fit}
 use Rattle.gx_actual.proofs.BodyLemmas.{item_short}
-use Rattle.gx_gather.proofs.Lists.{some_same}
 use Rattle.gx_split.specs.Groups.{chosen}
 use Rattle.gx_scan.specs.Groups.{IsLeft}
 use Rattle.gx_scan.proofs.BothLemmas.{split_at, group_ends, all_taken}
@@ -67,7 +67,7 @@ loop-at-preserved c =
           (subst (IsLeft c.loop-at.first) at.first so_far.0)
           (subst (IsLeft c.loop-at.others) at.others so_far.1) in
           let found = c.in_ok-value.ensures.read at.value at.fits front.0 front.1 in
-          let is : read ≡ at.value = some_same read _ (sym c.in-Some-2.is ∙ found) in (
+          let is : read ≡ at.value = same_Some read _ (sym c.in-Some-2.is ∙ found) in (
             front.2,
             front.3,
             c.in_ok-push.ensures.items ∙ (λ j. so_far.2 j ++ is j ∷ []) ∙ sym at.more,

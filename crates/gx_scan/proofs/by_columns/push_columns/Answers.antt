@@ -3,10 +3,10 @@ use Rattle.std.specs.Prelude.{IsSomeAnd}
 use Rattle.std.proofs.lemmas.List.{take_all}
 use Rattle.gx_actual.specs.Bodies.{body_of}
 use Rattle.gx_gather.proofs.Lists.{in_read}
-use Rattle.gx_split.specs.Forms.{no_value}
 use Rattle.gx_scan.specs.declared.places.Place.{Place}
 use Rattle.gx_scan.proofs.ColumnSteps.{entry_there, value_pushed}
 use Rattle.gx_scan.proofs.by_columns.push_columns.Goals as goal
+use Rattle.gx_values.specs.Values.{no_value}
 
 pub loop-column-init : goal.loop-column-init
 loop-column-init c = λ rs r are there key long. sym (append-nil c.args.body.now.items)

@@ -2,7 +2,8 @@ use Rattle.std.proofs.Common.{rules, ◌≡◌, ◌<◌, ◌+◌, ◌++◌, ◌�
 use Rattle.std.specs.Prelude.{IfSome}
 use Rattle.std.specs.FinMap as fin
 use Rattle.std.proofs.lemmas.List.{take_all, take_more}
-use Rattle.gx_values.specs.Values.{Fits, AreFit}
+use Rattle.std.proofs.lemmas.Option.{same_Some}
+use Rattle.gx_values.specs.Values.{Fits, AreFit, no_value}
 use Rattle.gx_values.proofs.WrittenLemmas.{next_fit}
 use Rattle.gx_schema.specs.Lookups.{data_fields}
 use Rattle.gx_actual.specs.Bodies.{AreShort}
@@ -10,8 +11,7 @@ use Rattle.gx_actual.proofs.BodyLemmas.{item_short}
 use Rattle.gx_ports.specs.declared.leaves.Entry.{Entry}
 use Rattle.gx_ports.specs.LeafMaps.{LeafMap}
 use Rattle.gx_ports.proofs.CallLemmas.{reads_itself, reads_joined}
-use Rattle.gx_gather.proofs.Lists.{in_read, some_same}
-use Rattle.gx_split.specs.Forms.{no_value}
+use Rattle.gx_gather.proofs.Lists.{in_read}
 use Rattle.gx_split.specs.GroupLaws.{fit_length}
 use Rattle.gx_stack.specs.Seen.{tree_of}
 use Rattle.gx_stack.proofs.PassLemmas.{passes_joined, read_passes, reads_stopped}
@@ -250,7 +250,7 @@ loop-at-preserved g c =
           lt item es _
           inv.reads.working
           (selected.entries (inv.whole whole)) vs found e c.entry.ensures) in
-          let same : value ≡ v = some_same value v (sym c.in-Some.is ∙ read) in
+          let same : value ≡ v = same_Some value v (sym c.in-Some.is ∙ read) in
           let within : i < length vs =
           omega (arith, lt, many, fit_length (data_fields file) vs fit.1) in
           c.in_ok-push.ensures.items ∙ (λ j. inv.so_far f whole is vs found j ++ same j ∷ [])

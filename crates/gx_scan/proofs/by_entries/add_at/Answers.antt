@@ -1,6 +1,7 @@
 use Rattle.std.proofs.Common.{rules, ◌∙◌, ◌++◌, ◌-◌, List, filter, length, refl, sym, ap, arith}
 use Rattle.std.proofs.lemmas.Bool.{true≢false}
 use Rattle.std.proofs.lemmas.List.{length-map}
+use Rattle.gx_laws.proofs.ListLemmas.{all_filter}
 use Rattle.gx_values.specs.Keys.{bytes_of, is_inside}
 use Rattle.gx_model.specs.States.{Row}
 use Rattle.gx_model.specs.Found.{meets_conds}
@@ -9,7 +10,7 @@ use Rattle.gx_scan.specs.Files.{records_of}
 use Rattle.gx_scan.specs.Entries.{entry_of_row, rows_at, IsStoredRow}
 use Rattle.gx_scan.proofs.EntryLemmas.{span_entries}
 use Rattle.gx_scan.proofs.ListingLemmas.{filter_twice}
-use Rattle.gx_scan.proofs.PlaceLemmas.{place_entries, place_there, rows_stored, filter_fits}
+use Rattle.gx_scan.proofs.PlaceLemmas.{place_entries, place_there, rows_stored}
 use Rattle.gx_ports.specs.LeafMaps.{entry_of}
 use Rattle.gx_scan.proofs.StepLemmas.{counted_most}
 use Rattle.gx_scan.proofs.by_entries.add_at.Goals as goal
@@ -32,7 +33,7 @@ returns-then-branch-clause-rows g c = λ f whole is.
     let stored = place_entries file t _ maps f c.requires.storable c.requires.tree is.fit union p c.requires.place in
     let same = span_entries _ p.lengths p.codes (rows_at t p.leaf f) lo hi _ _ _ stored
     c.clear.ensures (c.in_ok-select.ensures.ok whole) refl in
-    let fit = filter_fits (IsStoredRow file p.codes) inside (rows_at t p.leaf f)
+    let fit = all_filter (IsStoredRow file p.codes) inside (rows_at t p.leaf f)
     (rows_stored file t _ maps f c.requires.storable c.requires.tree is.fit p
     c.requires.place) in
     (c.in_ok-add_rows_at.ensures.chosen (filter inside (rows_at t p.leaf f)) (fit, same)).1
@@ -60,7 +61,7 @@ returns-else-branch-clause-reads g c = record {
         let stored = place_entries file t _ maps f c.requires.storable c.requires.tree is.fit union p c.requires.place in
         let same = span_entries _ p.lengths p.codes (rows_at t p.leaf f) lo hi _ _ _ stored
         c.clear.ensures (c.in_ok-select.ensures.ok sound.0) refl in
-        let fit = filter_fits (IsStoredRow file p.codes) inside (rows_at t p.leaf f)
+        let fit = all_filter (IsStoredRow file p.codes) inside (rows_at t p.leaf f)
         (rows_stored file t _ maps f c.requires.storable c.requires.tree is.fit p
         c.requires.place) in
         let all = (c.in_ok-add_rows_at.ensures.chosen (filter inside (rows_at t p.leaf f))

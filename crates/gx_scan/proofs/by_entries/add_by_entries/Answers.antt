@@ -5,7 +5,7 @@ use Rattle.std.proofs.lemmas.List.Sorted.{length_permutation}
 use Rattle.gx_ports.specs.LeafMaps.{LeafMap}
 use Rattle.gx_ports.proofs.CallLemmas.{reads_itself, reads_joined}
 use Rattle.gx_stack.specs.Seen.{tree_of}
-use Rattle.gx_gather.proofs.Lists.{in_read}
+use Rattle.gx_gather.proofs.Lists.{in_read, IsOnce}
 use Rattle.gx_model.specs.States.{Row}
 use Rattle.gx_scan.specs.declared.places.Place.{Place}
 use Rattle.gx_scan.specs.Files.{IsInternal}
@@ -13,7 +13,7 @@ use Rattle.gx_scan.specs.Entries.{rows_at}
 use Rattle.gx_scan.specs.Within.{is_within}
 use Rattle.gx_scan.specs.Steps.{is_key_inside, rows_inside}
 use Rattle.gx_gather.proofs.Lists.{in_filter}
-use Rattle.gx_scan.proofs.PlaceLemmas.{IsOnce, data_once, data_few, leaf_there, number}
+use Rattle.gx_scan.proofs.PlaceLemmas.{data_once, data_few, leaf_there, number}
 use Rattle.gx_scan.proofs.CallLemmas.{sound_after, extends_further}
 use Rattle.gx_stack.proofs.PassLemmas.{reads_given_after}
 use Rattle.gx_scan.proofs.StepLemmas.{whole_most}

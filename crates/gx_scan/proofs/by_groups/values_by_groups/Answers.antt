@@ -2,10 +2,10 @@ use Rattle.std.proofs.Common.{rules, ◌<◌, ◌∙◌, List, length, refl, sym
 use Rattle.std.specs.Prelude.{IfSome}
 use Rattle.std.specs.Option.{option_map}
 use Rattle.std.specs.FinMap as fin
+use Rattle.std.proofs.lemmas.Option.{same_Some}
 use Rattle.gx_values.specs.declared.values.Value.{Value}
 use Rattle.gx_values.specs.Values.{AreFit}
 use Rattle.gx_schema.specs.Lookups.{data_fields}
-use Rattle.gx_gather.proofs.Lists.{some_same}
 use Rattle.gx_ports.specs.LeafMaps.{LeafMap}
 use Rattle.gx_stack.specs.Seen.{tree_of}
 use Rattle.gx_stack.proofs.PassLemmas.{passes, passes_joined, reads_stopped}
@@ -107,7 +107,7 @@ returns g c = record {
       c.requires.asked.bounds.hi in
       let one = option_map (λ (vs : List Value). (key, vs)) (fin.get f key) in
       let found = c.in_ok-values.ensures.read one fits all in
-      some_same c.in-Some.values _ (sym c.in-Some.is ∙ found) ∙ row_values key (fin.get f key);
+      same_Some c.in-Some.values _ (sym c.in-Some.is ∙ found) ∙ row_values key (fin.get f key);
   fits = subst (λ o. IfSome o (λ values. IfSome values (AreFit (data_fields c.args.file.now))))
       c.in-Some.is c.in_ok-values.ensures.fits;
   steps = λ f most whole is few.

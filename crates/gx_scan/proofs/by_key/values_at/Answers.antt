@@ -4,11 +4,12 @@ use Rattle.std.specs.List.{AllByRecursion}
 use Rattle.std.specs.Option.{option_map}
 use Rattle.std.specs.Prelude.{IfSome}
 use Rattle.std.specs.FinMap as fin
+use Rattle.std.proofs.lemmas.Option.{same_Some}
+use Rattle.gx_laws.proofs.ListLemmas.{all_filter}
 use Rattle.gx_values.specs.declared.values.Value.{Value}
 use Rattle.gx_values.specs.Keys.{bytes_of, is_inside}
 use Rattle.gx_values.specs.Values.{AreFit}
 use Rattle.gx_schema.specs.Lookups.{data_fields}
-use Rattle.gx_gather.proofs.Lists.{some_same}
 use Rattle.gx_ports.specs.LeafMaps.{entry_of}
 use Rattle.gx_stack.specs.Seen.{tree_of}
 use Rattle.gx_model.specs.States.{Row}
@@ -17,7 +18,7 @@ use Rattle.gx_scan.specs.Entries.{entry_of_row, rows_at, IsStoredRow}
 use Rattle.gx_scan.proofs.EntryLemmas.{span_entries}
 use Rattle.gx_scan.proofs.KeyLemmas.{row_values}
 use Rattle.gx_scan.proofs.OnePlaceLemmas.{rows_one, steps_one, at_one}
-use Rattle.gx_scan.proofs.PlaceLemmas.{place_entries, place_there, rows_stored, filter_fits}
+use Rattle.gx_scan.proofs.PlaceLemmas.{place_entries, place_there, rows_stored}
 use Rattle.gx_scan.proofs.StepLemmas.{counted_most}
 use Rattle.gx_scan.proofs.by_key.values_at.Goals as goal
 
@@ -54,7 +55,7 @@ returns-in_default g c = record {
           is.fit union p at in
           let same = span_entries _ p.lengths p.codes (rows_at t p.leaf f) span.lo span.hi _ _ _ stored
           c.new-entries.ensures (c.in_ok-select.ensures.ok sound.0) refl in
-          let fit = filter_fits (IsStoredRow file p.codes) inside (rows_at t p.leaf f)
+          let fit = all_filter (IsStoredRow file p.codes) inside (rows_at t p.leaf f)
           (rows_stored file t _ maps f c.requires.asked.storable c.requires.asked.tree is.fit p at)
           in
           let rows = rows_one file t _ maps f c.requires.asked.storable c.requires.asked.tree is p
@@ -87,7 +88,7 @@ returns g c = record {
       is.fit union p at in
       let same = span_entries _ p.lengths p.codes (rows_at t p.leaf f) span.lo span.hi _ _ _ stored
       c.new-entries.ensures (c.in_ok-select.ensures.ok whole) refl in
-      let fit = filter_fits (IsStoredRow file p.codes) inside (rows_at t p.leaf f)
+      let fit = all_filter (IsStoredRow file p.codes) inside (rows_at t p.leaf f)
       (rows_stored file t _ maps f c.requires.asked.storable c.requires.asked.tree is.fit p at) in
       let rows = rows_one file t _ maps f c.requires.asked.storable c.requires.asked.tree is p
       c.requires.place
@@ -95,7 +96,7 @@ returns g c = record {
       let one = option_map (λ (vs : List Value). (key, vs)) (fin.get f key) in
       let found = c.in_ok-values.ensures.read one (subst (AllByRecursion (IsStoredRow file p.codes)) rows fit)
       (same ∙ ap (map (λ (r : Row). entry_of (entry_of_row p.lengths p.codes r))) rows) in
-      some_same c.in-Some.values _ (sym c.in-Some.is ∙ found) ∙ row_values key (fin.get f key);
+      same_Some c.in-Some.values _ (sym c.in-Some.is ∙ found) ∙ row_values key (fin.get f key);
   fits = subst (λ o. IfSome o (λ values. IfSome values (AreFit (data_fields c.args.file.now)))) c.in-Some.is
       c.in_ok-values.ensures.fits;
   steps = λ f most whole is few.

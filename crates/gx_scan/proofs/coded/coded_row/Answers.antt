@@ -1,12 +1,12 @@
 use Rattle.std.proofs.Common.{◌∙◌, Some, get_or, sym, subst, ap}
 use Rattle.std.specs.Prelude.{IfSome}
+use Rattle.std.proofs.lemmas.Option.{same_Some}
 use Rattle.gx_schema.specs.declared.schema.FileDef.{FileDef}
 use Rattle.gx_schema.specs.Lookups.{data_fields}
 use Rattle.gx_values.specs.Keys.{bytes_of}
 use Rattle.gx_values.specs.Values.{AreFit}
 use Rattle.gx_values.specs.Written.{IsRead}
 use Rattle.gx_values.proofs.CopyLemmas.{fit_sized, are_sized}
-use Rattle.gx_gather.proofs.Lists.{some_same}
 use Rattle.gx_scan.proofs.EntryLemmas.{kind_is, key_read}
 use Rattle.gx_scan.proofs.coded.coded_row.Goals as goal
 
@@ -27,6 +27,6 @@ returns-clause-read c = λ r fit key_is body_is.
     (kind_is file c.index.result.now c.requires
     (c.index.ensures ∙ ap (λ (f : FileDef). get_or f.fields 0 c.index.result.now) c.file.view_is))
     key_is read fit.0 in
-    let values = some_same c.in-Some-2.values r.1
+    let values = same_Some c.in-Some-2.values r.1
     (sym c.in-Some-2.is ∙ c.in_ok-values.ensures.read r fit body_is) in
     λ j. Some (key j, values j)

@@ -1,7 +1,7 @@
 use Rattle.std.proofs.Common.{◌≡◌, ◌∙◌, List, Option, Some, sym, ap}
 use Rattle.std.specs.Option.{option_map}
+use Rattle.std.proofs.lemmas.Option.{same_Some}
 use Rattle.gx_values.specs.declared.values.Value.{Value}
-use Rattle.gx_gather.proofs.Lists.{some_same}
 use Rattle.gx_ports.specs.declared.leaves.Entry.{Entry}
 use Rattle.gx_model.specs.States.{Row}
 use Rattle.gx_scan.specs.Entries.{entry_of_row, IsStoredRow}
@@ -20,7 +20,7 @@ returns-in-Some-clause-read c = λ one all same.
     let e : Entry = record { key = c.entry.result.key.now; body = c.entry.result.body.now } in
     let at = one_there (IsStoredRow c.args.file.now place.codes) (entry_of_row place.lengths place.codes) one c.args.entries.now e all same c.entry.ensures in
     let read = c.in_ok-values.ensures.read at.0 at.2 (ap (λ (x : Entry). x.body) at.3) in
-    let values : c.in-Some.values ≡ at.0.1 = some_same c.in-Some.values at.0.1 (sym c.in-Some.is ∙ read) in
+    let values : c.in-Some.values ≡ at.0.1 = same_Some c.in-Some.values at.0.1 (sym c.in-Some.is ∙ read) in
     ap (λ (vs : List Value). Some (Some vs)) values ∙ ap (λ (o : Option Row). Some (option_map (λ (r : Row). r.1) o)) (sym at.1)
 
 pub returns-in-None-clause-read : goal.returns-in-None-clause-read

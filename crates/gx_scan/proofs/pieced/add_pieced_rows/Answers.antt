@@ -1,12 +1,12 @@
 use Rattle.std.proofs.Common.{◌≡◌, ◌++◌, ◌∷◌, ◌≤◌, [], length, drop, sym, subst, refl, arith, append-nil}
 use Rattle.std.specs.Prelude.{IsSomeAnd, filter}
 use Rattle.std.proofs.lemmas.List.{length-drop}
-use Rattle.gx_gather.proofs.Lists.{all_at}
 use Rattle.gx_model.specs.States.{IsRowOf}
 use Rattle.gx_model.specs.Found.{meets_conds}
 use Rattle.gx_scan.proofs.CallLemmas.{extends_further}
 use Rattle.gx_scan.proofs.PiecedLemmas.{IsAdded, none_read, next_row, all_read}
 use Rattle.gx_scan.proofs.pieced.add_pieced_rows.Goals as goal
+use Rattle.gx_mapping.proofs.RuleLemmas.{all_in}
 
 pub loop-at-init : goal.loop-at-init
 loop-at-init c = record {
@@ -28,7 +28,7 @@ returns-in_default c = record {
       omega (arith, length-drop at c.args.entries.now, c.loop-at-test.true, c.len.ensures) in
       let next = next_row c.args.size rs es meets c.args.rows.now.items c.loop-at.rows.items
       (c.loop-at.invariant.rows rs all same) some in
-      let fit = all_at (IsRowOf c.args.file.now) rs next.row all next.there in
+      let fit = all_in (IsRowOf c.args.file.now) rs next.row all next.there in
       let added = c.in_ok-found.ensures.chosen next.row next.more fit next.front in
       absurd (subst (λ o. IsSomeAnd o (IsAdded c.args.entries.now next.more
       c.add_record.new.rows.items (c.loop-at.rows.items ++ filter meets (next.row ∷ []))))
@@ -47,7 +47,7 @@ loop-at-preserved c = record {
       omega (arith, length-drop at c.args.entries.now, c.loop-at-test.true, c.len.ensures) in
       let next = next_row c.args.size rs es meets c.args.rows.now.items c.loop-at.rows.items
       (c.loop-at.invariant.rows rs all same) some in
-      let fit = all_at (IsRowOf c.args.file.now) rs next.row all next.there in
+      let fit = all_in (IsRowOf c.args.file.now) rs next.row all next.there in
       let added = c.in_ok-found.ensures.chosen next.row next.more fit next.front in
       let here = subst (λ o. IsSomeAnd o (IsAdded c.args.entries.now next.more
       c.add_record.new.rows.items (c.loop-at.rows.items ++ filter meets (next.row ∷ []))))

@@ -1,13 +1,13 @@
 use Rattle.std.proofs.Common.{◌≡◌, ◌++◌, ◌∷◌, ◌∙◌, [], List, ap, sym, true, false, subst, append_assoc}
 use Rattle.std.specs.Prelude.{IfSome, IsSomeAnd}
 use Rattle.std.specs.List.{AllByRecursion}
+use Rattle.gx_laws.proofs.ListLemmas.{all_more}
 use Rattle.gx_ports.specs.declared.leaves.Entry.{Entry}
 use Rattle.gx_actual.specs.Bodies.{body_of}
 use Rattle.gx_model.specs.States.{Row, IsRowOf}
 use Rattle.gx_model.specs.Found.{meets_conds}
 use Rattle.gx_scan.specs.Files.{rec_of}
 use Rattle.gx_scan.specs.Entries.{entry_of_row}
-use Rattle.gx_scan.proofs.EntryLemmas.{all_more}
 use Rattle.gx_scan.proofs.ScanLemmas.{row_of, row_kept, row_left}
 use Rattle.gx_scan.proofs.scan.add_chosen_rows.Goals as goal
 

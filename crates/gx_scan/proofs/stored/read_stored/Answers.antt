@@ -1,10 +1,10 @@
 use Rattle.std.proofs.Common.{rules, ◌≡◌, ◌<◌, ◌+◌, ◌++◌, ◌∙◌, ◌∷◌, [], Some, length, drop, refl, sym, ap, subst, arith}
 use Rattle.std.specs.Prelude.{IfSome}
+use Rattle.std.proofs.lemmas.Option.{same_Some}
 use Rattle.gx_values.specs.Values.{Fits}
 use Rattle.gx_values.proofs.WrittenLemmas.{next_fit}
 use Rattle.gx_actual.specs.Bodies.{body_of}
 use Rattle.gx_actual.proofs.BodyLemmas.{item_short}
-use Rattle.gx_gather.proofs.Lists.{some_same}
 use Rattle.gx_scan.specs.Stored.{stored_values}
 use Rattle.gx_scan.proofs.CodeLemmas.{stored_there, all_read}
 use Rattle.gx_scan.proofs.stored.read_stored.Goals as goal
@@ -57,7 +57,7 @@ loop-at-preserved c =
           let next = body_of (stored_values (drop (i + 1) cs) (drop (i + 1) vs)) in
           let front = c.in-Some.ensures at.value next at.fits at.has at.front in
           let found = c.in_ok-value.ensures.read at.value at.fits at.has front.0 in
-          let is : value ≡ at.value = some_same value at.value (sym c.in-Some-2.is ∙ found) in (
+          let is : value ≡ at.value = same_Some value at.value (sym c.in-Some-2.is ∙ found) in (
             front.1,
             c.in_ok-push.ensures.items ∙ (λ j. so_far.1 j ++ is j ∷ []) ∙ sym at.more,
           );

@@ -2,13 +2,14 @@ use Rattle.std.proofs.Common.{◌≡◌, ◌∙◌, ℕ, List, [], Some, None, l
 use Rattle.std.specs.Prelude.{Err}
 use Rattle.std.proofs.lemmas.List.{length-replicate}
 use Rattle.std.proofs.lemmas.Result.{IfErr-weaker, on_ok_weaker}
+use Rattle.std.proofs.lemmas.Option.{same_Some}
+use Rattle.gx_laws.proofs.ResultLemmas.{on_ok_always}
 use Rattle.gx_device.specs.Content.{Moment, device_at, zero_blocks}
 use Rattle.gx_layout.specs.Head.{HasMagic}
 use Rattle.gx_store.specs.Device.{IsMadeOn, IsNoneOrEmpty}
 use Rattle.gx_store.specs.Making.{IsUnmade, IsUnmadeOn}
 use Rattle.gx_store.proofs.ShelfLemmas.{attached_at, attached_named, attached_rest, refused_rest}
-use Rattle.gx_store.proofs.AttachLemmas.{some_same}
-use Rattle.gx_store.proofs.MakeLemmas.{unmade_by, unmade_on, unmade_touched, on_ok_always, none_made}
+use Rattle.gx_store.proofs.MakeLemmas.{unmade_by, unmade_on, unmade_touched, none_made}
 use Rattle.gx_store.proofs.making.make.Goals as goal
 
 pub returns-in-Err-clause-unmade : goal.returns-in-Err-clause-unmade
@@ -95,7 +96,7 @@ returns-clause-left g c = λ can none blocks is.
     let at = attached_at c.args.name.now (zero_blocks c.args.blocks)
     (g.M.Device.content c.args.machine) mid last can.free m.attached c.make_attached.ensures.silent in
     subst (λ (bs : List (List ℕ)). IsNoneOrEmpty c.args.schema.now c.args.equation.now c.args.specs.now bs)
-    (some_same last.now.blocks blocks (sym at ∙ is))
+    (same_Some last.now.blocks blocks (sym at ∙ is))
     (c.make_attached.ensures.left can.told (λ has. none_made c.args.blocks
     (subst (λ (bs : List (List ℕ)). HasMagic (get_or bs 0 [])) m.attached.blocks_are has)))
 
@@ -119,5 +120,5 @@ returns-clause-begun g c = λ can none blocks is.
     (g.M.Device.content c.args.machine) mid last can.free m.attached c.make_attached.ensures.silent in
     let count = g.met.M.Device.sized c.attach.new.self can.told ∙ ap (λ (bs : List (List ℕ)). length bs) m.attached.blocks_are
     ∙ length-replicate c.args.blocks _ in
-    ap (λ (bs : List (List ℕ)). length bs) (sym (some_same last.now.blocks blocks (sym at ∙ is))) ∙ c.make_attached.ensures.blocks can.told
+    ap (λ (bs : List (List ℕ)). length bs) (sym (same_Some last.now.blocks blocks (sym at ∙ is))) ∙ c.make_attached.ensures.blocks can.told
     ∙ count

@@ -3,8 +3,8 @@ use Rattle.std.proofs.lemmas.Result.{IfErr-weaker, on_ok_weaker}
 use Rattle.gx_store.specs.Causes.{no_journal}
 use Rattle.gx_store.specs.Making.{IsUnmadeOn}
 use Rattle.gx_layout.specs.Head.{HasMagic, IsFormatted}
+use Rattle.gx_layout.proofs.BlockLemmas.{silent_twice}
 use Rattle.gx_journal.specs.Journal.{content_of}
-use Rattle.gx_store.proofs.ShelfLemmas.{silent_after}
 use Rattle.gx_store.proofs.CauseLemmas.{counted_after}
 use Rattle.gx_store.proofs.MakeLemmas.{unlaid_by, unlaid_on}
 use Rattle.gx_store.proofs.SettledLemmas.{settled_reopens}
@@ -29,7 +29,7 @@ returns-in-Ok-clause-left g c = λ told none.
     c.args.schema.now c.args.equation.now (ap (λ (h : List (List ℕ)). drop 1 h) head)
 
 pub returns-in-Ok-clause-silent : goal.returns-in-Ok-clause-silent
-returns-in-Ok-clause-silent g c = silent_after _ (content_of c.in-Ok.journal) _ c.in-Ok.ensures.touched.silent c.make_over.ensures.silent
+returns-in-Ok-clause-silent g c = silent_twice _ (content_of c.in-Ok.journal) _ c.in-Ok.ensures.touched.silent c.make_over.ensures.silent
 
 pub returns-in-Ok-clause-faults : goal.returns-in-Ok-clause-faults
 returns-in-Ok-clause-faults g c = counted_after _ _ _ _ (c.in-Ok.ensures.faults.same refl) c.make_over.ensures.faults

@@ -10,9 +10,9 @@ use Rattle.gx_pages.specs.View.{journal_of}
 use Rattle.gx_pages.specs.Paged.{working_sheets}
 use Rattle.gx_store.specs.Device.{AreMaps}
 use Rattle.gx_store.proofs.HeldLemmas.{ground_kept}
-use Rattle.gx_store.proofs.ShelfLemmas.{silent_after}
 use Rattle.gx_store.proofs.CauseLemmas.{counted_after}
 use Rattle.gx_store.proofs.making.make_leaves.Goals as goal
+use Rattle.gx_layout.proofs.BlockLemmas.{silent_twice}
 
 pub make_in-requires : goal.make_in-requires
 make_in-requires g c = record {
@@ -46,7 +46,7 @@ returns-in-Ok-clause-head g c =
 
 pub returns-in-Ok-clause-silent : goal.returns-in-Ok-clause-silent
 returns-in-Ok-clause-silent g c =
-    silent_after _ (content_of (journal_of c.in-Ok.pages)) _ c.in-Ok.ensures.keeps.silent c.make_in.ensures.silent
+    silent_twice _ (content_of (journal_of c.in-Ok.pages)) _ c.in-Ok.ensures.keeps.silent c.make_in.ensures.silent
 
 pub returns-in-Ok-clause-faults : goal.returns-in-Ok-clause-faults
 returns-in-Ok-clause-faults g c = counted_after _ _ _ _ c.in-Ok.ensures.keeps.faults.same c.make_in.ensures.faults

@@ -3,8 +3,8 @@ use Rattle.std.specs.FinMap.{empty}
 use Rattle.std.proofs.lemmas.Result.{on_ok_weaker}
 use Rattle.gx_ports.specs.Sheets.{Ground}
 use Rattle.gx_layout.specs.Head.{HasMagic}
+use Rattle.gx_layout.proofs.BlockLemmas.{silent_twice}
 use Rattle.gx_journal.specs.Journal.{content_of, working_of}
-use Rattle.gx_store.proofs.ShelfLemmas.{silent_after}
 use Rattle.gx_store.proofs.CauseLemmas.{counted_after}
 use Rattle.gx_store.proofs.SettledLemmas.{settled_reopens}
 use Rattle.gx_journal.specs.State.{head_told}
@@ -37,7 +37,7 @@ returns-in-Ok-clause-blocks g c = λ told.
     c.publish.ensures.blocks told ∙ ap (λ (b : Ground). b.blocks) c.in-Ok.ensures.ground
 
 pub returns-in-Ok-clause-silent : goal.returns-in-Ok-clause-silent
-returns-in-Ok-clause-silent g c = silent_after _ (content_of c.in-Ok.journal) _ c.in-Ok.ensures.silent c.publish.ensures.silent
+returns-in-Ok-clause-silent g c = silent_twice _ (content_of c.in-Ok.journal) _ c.in-Ok.ensures.silent c.publish.ensures.silent
 
 pub returns-in-Ok-clause-faults : goal.returns-in-Ok-clause-faults
 returns-in-Ok-clause-faults g c = counted_after _ _ _ _ (c.in-Ok.ensures.faults.same refl) c.publish.ensures.faults

@@ -2,9 +2,9 @@ use Rattle.std.proofs.Common.{◌∙◌, ℕ, Bool, List, [], get_or, length, sy
 use Rattle.std.proofs.lemmas.Result.{on_ok_weaker}
 use Rattle.gx_device.specs.Content.{block_of}
 use Rattle.gx_layout.specs.Head.{HasMagic}
+use Rattle.gx_layout.proofs.BlockLemmas.{silent_twice}
 use Rattle.gx_journal.specs.State.{head_told}
 use Rattle.gx_journal.specs.Journal.{content_of}
-use Rattle.gx_store.proofs.ShelfLemmas.{silent_after}
 use Rattle.gx_store.proofs.CauseLemmas.{counted_after}
 use Rattle.gx_store.proofs.JournalLemmas.{published}
 use Rattle.gx_store.proofs.making.publish.Goals as goal
@@ -30,7 +30,7 @@ pub returns-in-Ok-clause-blocks : goal.returns-in-Ok-clause-blocks
 returns-in-Ok-clause-blocks g c = λ told. c.seal.ensures.blocks told ∙ c.commit.ensures.blocks
 
 pub returns-in-Ok-clause-silent : goal.returns-in-Ok-clause-silent
-returns-in-Ok-clause-silent g c = silent_after _ (content_of c.commit.new.self) _ c.commit.ensures.silent c.seal.ensures.silent
+returns-in-Ok-clause-silent g c = silent_twice _ (content_of c.commit.new.self) _ c.commit.ensures.silent c.seal.ensures.silent
 
 pub returns-in-Ok-clause-faults : goal.returns-in-Ok-clause-faults
 returns-in-Ok-clause-faults g c = counted_after _ _ _ _ (c.in-Ok.ensures.faults.same) c.seal.ensures.faults

@@ -1,6 +1,7 @@
 use Rattle.std.proofs.Common.{◌≡◌, ◌∙◌, ℕ, Bool, true, not, List, length, refl, sym, ap, subst, arith}
 use Rattle.std.proofs.lemmas.Result.{IfOk-weaker, IfErr-weaker, on_ok_weaker}
 use Rattle.gx_layout.specs.Layout.{pages_of}
+use Rattle.gx_layout.proofs.BlockLemmas.{silent_twice}
 use Rattle.gx_journal.specs.State.{head_told}
 use Rattle.gx_journal.specs.Journal.{size_of, head_blocks, kept_of, content_of}
 use Rattle.gx_leaves.specs.Paged as leaves
@@ -12,7 +13,6 @@ use Rattle.gx_store.specs.Device.{AreTexts, IsHeadOf, IsSettled}
 use Rattle.gx_store.specs.Store.{IsJustOpened, machine_of, is_fault}
 use Rattle.gx_store.proofs.HeldLemmas.{maps_opened, ground_same, if_ok_both}
 use Rattle.gx_store.proofs.JournalLemmas.{journal_settled, maps_placed}
-use Rattle.gx_store.proofs.ShelfLemmas.{silent_after}
 use Rattle.gx_store.proofs.CauseLemmas.{counted_after, sized_by, unread_on, unread_touched}
 use Rattle.gx_store.proofs.AlikeLemmas.{alike_then, recovered_alike, unwritten_by, refused_alike, recovery_of, recovery_then, headed}
 use Rattle.gx_store.proofs.opening.open_attached.Goals as goal
@@ -29,7 +29,7 @@ returns-in-Ok-clause-holds g c = λ told maps is.
     (c.in-Ok.ensures.kept told) is.leaves)
 
 pub returns-in-Ok-clause-silent : goal.returns-in-Ok-clause-silent
-returns-in-Ok-clause-silent g c = silent_after _ (content_of c.in-Ok.journal) _ c.in-Ok.ensures.silent c.open_journal.ensures.silent
+returns-in-Ok-clause-silent g c = silent_twice _ (content_of c.in-Ok.journal) _ c.in-Ok.ensures.silent c.open_journal.ensures.silent
 
 pub returns-in-Ok-clause-untouched : goal.returns-in-Ok-clause-untouched
 returns-in-Ok-clause-untouched g c = λ told.

@@ -1,6 +1,7 @@
 use Rattle.std.proofs.Common.{◌≡◌, ◌∙◌, ℕ, Bool, true, None, get_or, refl, sym, ap, subst, rules}
 use Rattle.std.specs.Prelude.{IfOk}
 use Rattle.std.proofs.lemmas.Result.{IfOk-weaker, IfErr-weaker}
+use Rattle.gx_laws.proofs.ResultLemmas.{on_ok_always}
 use Rattle.gx_device.specs.Content.{Silent}
 use Rattle.gx_device.specs.Faults.{Counted}
 use Rattle.gx_layout.specs.Head.{DifferFirst, text_at, text_area}
@@ -11,7 +12,7 @@ use Rattle.gx_leaves.specs.Places.{specs_of}
 use Rattle.gx_leaves.proofs.PlaceLemmas.{specs_back}
 use Rattle.gx_store.specs.Opening.{AreUnread}
 use Rattle.gx_store.specs.Store.{machine_left}
-use Rattle.gx_store.proofs.HeldLemmas.{adopted, adopted_just, ground_kept, if_ok_both, on_ok_always}
+use Rattle.gx_store.proofs.HeldLemmas.{adopted, adopted_just, ground_kept, if_ok_both}
 use Rattle.gx_store.proofs.LeftLemmas.{left_is, goes_on_is}
 use Rattle.gx_store.proofs.CauseLemmas.{counted_still}
 use Rattle.gx_store.proofs.opening.open_journal.Goals as goal

@@ -1,18 +1,20 @@
 use Rattle.std.proofs.Common.{◌≡◌, ◌∷◌, [], ◌∙◌, ℕ, get_or, ap, sym, subst, arith}
 use Rattle.std.specs.Prelude.{IfOk}
 use Rattle.gx_values.specs.declared.values.Value.TheVariants as value
+use Rattle.gx_values.specs.Values.{no_field, no_value}
 use Rattle.gx_mapping.specs.declared.parts.Part.{Part}
+use Rattle.gx_mapping.proofs.FieldLemmas.{fit_length}
 use Rattle.gx_encode.specs.Codes.{code_of, IsCodable}
-use Rattle.gx_encode.specs.Forms.{no_field, no_value, changed}
+use Rattle.gx_encode.specs.Forms.{changed}
 use Rattle.gx_encode.specs.Laws.{has_code}
-use Rattle.gx_encode.proofs.GatherLemmas.{same_length, fits_at, changed_value}
+use Rattle.gx_encode.proofs.GatherLemmas.{fits_at, changed_value}
 use Rattle.gx_encode.proofs.layer.Encode.part_of.Goals as goal
 
 pub value_at-requires : goal.value_at-requires
 value_at-requires c =
     let m = c.args.self.now in
     let r = c.args.rec in
-    omega (arith, c.from-field.ensures, m.sound.place, same_length m.form.fields r.fields c.requires.fields)
+    omega (arith, c.from-field.ensures, m.sound.place, fit_length m.form.fields r.fields c.requires.fields)
 
 pub coded-requires : goal.coded-requires
 coded-requires c =
@@ -25,7 +27,7 @@ pub with_value-fields-requires : goal.with_value-fields-requires
 with_value-fields-requires c =
     let m = c.args.self.now in
     let r = c.args.rec in
-    omega (arith, c.from-field.ensures, m.sound.place, same_length m.form.fields r.fields c.requires.fields)
+    omega (arith, c.from-field.ensures, m.sound.place, fit_length m.form.fields r.fields c.requires.fields)
 
 pub returns : goal.returns
 returns c =

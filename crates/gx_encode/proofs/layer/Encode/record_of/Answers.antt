@@ -1,8 +1,9 @@
 use Rattle.std.proofs.Common.{◌∙◌, ℕ, List, Some, None, refl, get_or, ap, subst, arith}
 use Rattle.gx_values.specs.declared.values.Kind.{Kind}
 use Rattle.gx_values.specs.Written.{IsRead}
+use Rattle.gx_values.specs.Values.{no_field, no_value}
 use Rattle.gx_encode.specs.Codes.{code_of}
-use Rattle.gx_encode.specs.Forms.{no_field, no_value, changed}
+use Rattle.gx_encode.specs.Forms.{changed}
 use Rattle.gx_encode.specs.Rules.{bytes_in, only_part}
 use Rattle.gx_encode.proofs.GatherLemmas.{part_length, one_gathered, none_gathered}
 use Rattle.gx_encode.proofs.layer.Encode.record_of.Goals as goal

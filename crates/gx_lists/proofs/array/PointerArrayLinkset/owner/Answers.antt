@@ -1,17 +1,18 @@
 use Rattle.std.proofs.Common.{◌∙◌, ◌++◌, List, refl, sym, ap, subst}
 use Rattle.std.proofs.lemmas.Bool.{true≢false}
 use Rattle.std.proofs.lemmas.Result.{IfOk-weaker}
+use Rattle.gx_laws.proofs.ResultLemmas.{on_ok_always}
 use Rattle.gx_values.specs.declared.records.Rec.{Rec}
 use Rattle.gx_mapping.specs.Rule.{In}
 use Rattle.gx_stack.specs.Tree.{tree_form}
 use Rattle.gx_stack.specs.Seen.{tree_of}
 use Rattle.gx_stack.proofs.PassLemmas.{reads_given}
+use Rattle.gx_stack.proofs.Selects.{ends_empty}
 use Rattle.gx_links.specs.Rows.{node_rows}
 use Rattle.gx_lists.specs.Arrays.{array_rows, IsOwnerAmong}
 use Rattle.gx_lists.specs.ArrayLaws.{key_kind}
-use Rattle.gx_lists.proofs.SpanLemmas.{all_inside, ends_empty}
+use Rattle.gx_lists.proofs.SpanLemmas.{all_inside}
 use Rattle.gx_lists.proofs.ArrayLemmas.{in_leaves, rows_set, array_has_set, key_long, key_sized, owner_found, owner_fits, none_damaged}
-use Rattle.gx_lists.proofs.ArrayChanges.{on_ok_any}
 use Rattle.gx_lists.proofs.array.PointerArrayLinkset.owner.Goals as goal
 
 pub select-requires-clause-below : goal.select-requires-clause-below
@@ -77,7 +78,7 @@ returns-clause-reads g c =
     record {
       reads = read.reads;
       ends = record {
-        whole = on_ok_any c.owner_among.result read.ends.whole;
+        whole = on_ok_always c.owner_among.result read.ends.whole;
         later = read.ends.later;
         fault = λ e. absurd (c.owner_among.ensures.not_fault e);
         counted = λ e. read.ends.counted refl;

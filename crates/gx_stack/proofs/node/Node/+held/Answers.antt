@@ -1,4 +1,5 @@
 use Rattle.std.proofs.Common.{◌≡◌, ◌<◌, ◌≤◌, ◌+◌, ◌∙◌, ◌++◌, inl, refl, rules, sym, subst, length, map, arith}
+use Rattle.gx_laws.proofs.ResultLemmas.{on_ok_always, if_ok}
 use Rattle.gx_values.specs.declared.records.Rec.{Rec}
 use Rattle.gx_mapping.specs.declared.parts.Part.{Part}
 use Rattle.gx_mapping.specs.Rule.{In, IsOf}
@@ -12,11 +13,11 @@ use Rattle.gx_gather.proofs.Orders.{ascends}
 use Rattle.gx_stack.proofs.Seen.{seen_leaf, layer_form, child_there, child_valid, child_leaves, child_internal, kid_lower}
 use Rattle.gx_stack.proofs.Children.{child_set}
 use Rattle.gx_stack.proofs.Selects.{data_parts_add}
-use Rattle.gx_stack.proofs.StepLemmas.{tree_steps, steps_below, if_ever, leaf_steps, layer_steps, child_steps}
+use Rattle.gx_stack.proofs.StepLemmas.{tree_steps, steps_below, leaf_steps, layer_steps, child_steps}
 use Rattle.std.proofs.lemmas.Result.{on_ok_weaker}
 use Rattle.gx_stack.proofs.CountLemmas.{counts_joined}
 use Rattle.gx_stack.proofs.WholeLayer.{AreRead, read_data, read_other}
-use Rattle.gx_stack.proofs.WholeNode.{ChildHolds, if_ok, one_holds, others_fit, by_members, layer_joined}
+use Rattle.gx_stack.proofs.WholeNode.{ChildHolds, one_holds, others_fit, by_members, layer_joined}
 use Rattle.gx_stack.proofs.node.Node.+held.Goals.{then-holds_rest+in_ok-add_parts-in-Layer, else-holds_rest+in_ok-add_parts-in-Layer-2}
 use Rattle.gx_stack.proofs.node.Node.+held.Goals as goal
 
@@ -169,7 +170,7 @@ returns-after-loop-child-clause-few_steps g t c = λ whole.
     let l = c.in-Layer.layer in
     let at = c.loop-child in
     let maps = g.B.View.working c.args.leaves.now in
-    if_ever c.join_parts.result (omega (arith, at.invariant.few_steps whole, layer_steps c.args.self.now l c.in-Layer.is maps at.child))
+    on_ok_always c.join_parts.result (omega (arith, at.invariant.few_steps whole, layer_steps c.args.self.now l c.in-Layer.is maps at.child))
 
 pub returns-in_default-clause-counts : goal.returns-in_default-clause-counts
 returns-in_default-clause-counts g t c = λ w.

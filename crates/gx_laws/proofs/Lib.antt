@@ -1,0 +1,5 @@
+pub mod BoolLemmas
+pub mod ListLemmas
+pub mod NumberLemmas
+pub mod OrderingLemmas
+pub mod ResultLemmas
