@@ -3,13 +3,13 @@ ghost use Rattle.std.specs.Prelude.{◌≡◌, ◌≢◌, ◌<◌, ◌≤◌, le
 ghost use Rattle.genesis.specs.Errors.{open_stop, make_stop};
 ghost use Rattle.std.specs.IoError.{error_kind};
 
-use gx_device::AttachStop;
+use gx_device::{AttachStop, BLOCK_LEN};
 use std::fs::{self, File, OpenOptions};
 use std::io::{self, ErrorKind};
 use std::os::unix::fs::FileExt;
 use std::rt::Files;
 
-const BLOCK_BYTES: u64 = 4096;
+const BLOCK_BYTES: u64 = BLOCK_LEN as u64;
 
 /// A file of blocks, which this program alone has attached as long as it stands.
 #[derive(Drop)]

@@ -7,9 +7,10 @@ ghost use Rattle.gx_bnode.specs.declared.format.TheConstants.{MAX_SEPARATOR_LEN}
 ghost use Rattle.gx_bnode.specs.Branches.{IsFit, HoldsCount, branch_bytes, branch_len, branches_in, lent};
 
 use gx_bytes::{overwrite, split_u16, split_u32};
+use gx_values::MAX_KEY_LEN;
 
-/// The greatest number of bytes of a separator.
-pub const MAX_SEPARATOR_LEN: usize = 400;
+/// The greatest number of bytes of a separator: those of a key.
+pub const MAX_SEPARATOR_LEN: usize = MAX_KEY_LEN;
 
 /// The number of bytes of the length of a separator.
 const LENGTH_LEN: usize = 2;

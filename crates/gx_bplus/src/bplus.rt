@@ -1,7 +1,8 @@
 // The calls on a B+ tree.
 ghost use Rattle.std.specs.Prelude.{◌≡◌, ◌+◌, ◌≤◌, length};
 ghost use Rattle.gx_ports.specs.declared.kinds.LeafKind.TheVariants as kinds;
-ghost use Rattle.gx_ports.specs.declared.leaves.TheConstants.{MAX_KEY_LEN, MAX_ENTRY_LEN};
+ghost use Rattle.gx_values.specs.declared.bytes.TheConstants.{MAX_KEY_LEN};
+ghost use Rattle.gx_ports.specs.declared.leaves.TheConstants.{MAX_ENTRY_LEN};
 ghost use Rattle.gx_ports.specs.FileCalls.{MakesFile, PutsInFile, RemovesFromFile};
 ghost use Rattle.gx_ports.specs.Files.{IsPlace};
 ghost use Rattle.gx_btree.specs.Bplus.{IsBplus};

@@ -2,7 +2,7 @@
 ghost use Rattle.std.specs.Prelude.{◌≡◌, ◌≢◌, ◌<◌, ◌≤◌, length, take, drop, slice_index_or};
 ghost use Rattle.std.specs.Bool.{OnTrue, OnFalse};
 ghost use Rattle.std.specs.List.{All, sum_by};
-ghost use Rattle.gx_ports.specs.declared.pages.TheConstants.{PAGE_LEN};
+ghost use Rattle.gx_bytes.specs.declared.page.TheConstants.{PAGE_LEN};
 ghost use Rattle.gx_slots.specs.Entries.{Entry, IsFit, entry_len};
 ghost use Rattle.gx_slots.specs.Page.{IsEntryPage, entries_of};
 ghost use Rattle.gx_btree.specs.declared.reading.Shape.TheVariants as shapes;

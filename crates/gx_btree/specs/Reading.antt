@@ -1,6 +1,6 @@
 -- What a call that reads a page of a tree gives.
 use Rattle.std.specs.Prelude.{◌≡◌, ℕ, List, length, Result, IsTrue, OnOk, IfOk, IsErrOf}
-use Rattle.gx_ports.specs.declared.pages.TheConstants.{PAGE_LEN}
+use Rattle.gx_bytes.specs.declared.page.TheConstants.{PAGE_LEN}
 use Rattle.gx_ports.specs.declared.page_view.PageView.{Ghosts}
 use Rattle.gx_ports.specs.declared.stop.Stop.{Stop}
 use Rattle.gx_ports.specs.declared.stop.Stop.TheVariants.{Full, NoMemory}

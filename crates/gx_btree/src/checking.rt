@@ -2,7 +2,7 @@
 ghost use Rattle.std.specs.Prelude.{◌≡◌, ◌↔◌, ◌++◌, ◌∷◌, [], None, false, ◌<◌, length, replicate, IsTrue, OnOk, IfOk, IsErrOf};
 ghost use Rattle.std.specs.Bool.{OnTrue};
 ghost use Rattle.gx_ports.specs.declared.kinds.LeafKind.TheVariants as kinds;
-ghost use Rattle.gx_ports.specs.declared.pages.TheConstants.{PAGE_LEN};
+ghost use Rattle.gx_bytes.specs.declared.page.TheConstants.{PAGE_LEN};
 ghost use Rattle.gx_ports.specs.FileCalls.{ChecksFile};
 ghost use Rattle.gx_ports.specs.Files.{IsPlace, EndsFile, IsWhole};
 ghost use Rattle.gx_ports.specs.PageCalls.{ReadsPages};

@@ -4,7 +4,7 @@ ghost use Rattle.std.specs.Bool.{OnFalse};
 ghost use Rattle.std.specs.Cmp.Lexicographic.{slice_cmp};
 ghost use Rattle.std.specs.Ordering.{nat_cmp, is_le, is_gt};
 ghost use Rattle.gx_ports.specs.declared.kinds.LeafKind.TheVariants as kinds;
-ghost use Rattle.gx_ports.specs.declared.pages.TheConstants.{PAGE_LEN};
+ghost use Rattle.gx_bytes.specs.declared.page.TheConstants.{PAGE_LEN};
 ghost use Rattle.gx_ports.specs.FileCalls.{SelectsInFile};
 ghost use Rattle.gx_ports.specs.Files.{IsPlace};
 ghost use Rattle.gx_ports.specs.LeafMaps.{Extends};

@@ -3,6 +3,7 @@ use Rattle.std.specs.Prelude.{◌≡◌, ℕ, ◌+◌, ◌^◌, ◌<◌, List, �
 use Rattle.std.specs.Int.{w16, w32, to_be_bytes, from_be_bytes}
 use Rattle.std.specs.List.{sum_by}
 use Rattle.gx_bytes.specs.Records.{records, HoldsRecords}
+use Rattle.gx_bytes.specs.declared.page.TheConstants.{PAGE_LEN}
 
 -- a page begins with the byte of its kind, 0, the number of its records and a page number
 abbrev pub header : ℕ → ℕ → ℕ → List ℕ
@@ -11,7 +12,7 @@ header kind count number = kind ∷ 0 ∷ (to_be_bytes w16 count ++ to_be_bytes 
 -- the bytes are a page of this kind with these records, in their order, and this page number
 pub record IsRecordPage {R : Type 0} (written : R → List ℕ) (Fits : R → Type 0) (kind : ℕ)
     (rs : List R) (number : ℕ) (bytes : List ℕ) : Type 0 where
-  pub size : length bytes ≡ 4096
+  pub size : length bytes ≡ PAGE_LEN
   pub number_fits : number < 2 ^ 32
   pub body : List ℕ
   pub is : bytes ≡ header kind (length rs) number ++ body

@@ -5,9 +5,10 @@ ghost use Rattle.gx_bytes.specs.Parts.{overwritten};
 ghost use Rattle.gx_bytes.specs.Page.{header, count_of, number_of};
 
 use crate::parts::overwrite;
+use gx_device::BLOCK_LEN;
 
-/// The number of bytes of a page.
-pub const PAGE_LEN: usize = 4096;
+/// The number of bytes of a page: those of a block.
+pub const PAGE_LEN: usize = BLOCK_LEN;
 
 /// The number of bytes of the header that a page of records begins with.
 pub const HEADER_LEN: usize = 8;

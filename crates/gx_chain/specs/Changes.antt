@@ -1,8 +1,7 @@
 -- What changes make of a chain.
 use Rattle.std.specs.Prelude.{◌≡◌, ◌≢◌, ◌↔◌, ◌⊎◌, ℕ, ◌<◌, ◌≤◌, List, [], ◌∷◌, length, slice_get, Some, IsTrue}
 use Rattle.std.specs.List.{All, Contains, HoldsAt, insert, remove}
-use Rattle.gx_bytes.specs.declared.page.TheConstants.{NONE}
-use Rattle.gx_ports.specs.declared.pages.TheConstants.{PAGE_LEN}
+use Rattle.gx_bytes.specs.declared.page.TheConstants.{NONE, PAGE_LEN}
 use Rattle.gx_ports.specs.declared.page_view.PageView.{Ghosts}
 use Rattle.gx_ports.specs.Sheets.{Sheets, Ground, IsClaimed, IsOwnedAnew, bytes_at}
 use Rattle.gx_slots.specs.Entries.{Entry}

@@ -1,7 +1,9 @@
 // An entry is put into a chain.
 ghost use Rattle.std.specs.Prelude.{◌≡◌, ◌+◌, ◌≤◌, ℕ, List, length, IsTrue, OnOk, IsErrOf, MatchOption};
-ghost use Rattle.gx_ports.specs.declared.leaves.TheConstants.{MAX_KEY_LEN, MAX_ENTRY_LEN};
-ghost use Rattle.gx_ports.specs.declared.pages.TheConstants.{PAGE_LEN, MAX_OWNER};
+ghost use Rattle.gx_values.specs.declared.bytes.TheConstants.{MAX_KEY_LEN};
+ghost use Rattle.gx_ports.specs.declared.leaves.TheConstants.{MAX_ENTRY_LEN};
+ghost use Rattle.gx_bytes.specs.declared.page.TheConstants.{PAGE_LEN};
+ghost use Rattle.gx_ports.specs.declared.pages.TheConstants.{MAX_OWNER};
 ghost use Rattle.gx_ports.specs.Files.{EndsFile};
 ghost use Rattle.gx_ports.specs.PageCalls.{KeepsPages};
 ghost use Rattle.gx_ports.specs.Sheets.{IsPast, HasNone};

@@ -1,6 +1,6 @@
 // Pages of a chain are read.
 ghost use Rattle.std.specs.Prelude.{◌≡◌, length, IsTrue, OnOk, IfOk, IsErrOf};
-ghost use Rattle.gx_ports.specs.declared.pages.TheConstants.{PAGE_LEN};
+ghost use Rattle.gx_bytes.specs.declared.page.TheConstants.{PAGE_LEN};
 ghost use Rattle.gx_ports.specs.Files.{EndsFile};
 ghost use Rattle.gx_ports.specs.PageCalls.{ReadsPages};
 ghost use Rattle.gx_ports.specs.Sheets.{IsPast, bytes_at};

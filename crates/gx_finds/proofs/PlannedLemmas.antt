@@ -20,7 +20,7 @@ use Rattle.gx_schema.specs.declared.schema.FileDef.{FileDef}
 use Rattle.gx_schema.specs.Lookups.{field_at, key_kind}
 use Rattle.gx_commands.specs.declared.command.Cond.{Cond}
 use Rattle.gx_commands.specs.declared.command.Find.{Find}
-use Rattle.gx_ports.specs.declared.leaves.TheConstants.{MAX_KEY_LEN}
+use Rattle.gx_values.specs.declared.bytes.TheConstants.{MAX_KEY_LEN}
 use Rattle.gx_gather.proofs.Lists.{none_some}
 use Rattle.gx_mapping.specs.Rule.{In}
 use Rattle.gx_mapping.proofs.FieldLemmas.{fit_at}

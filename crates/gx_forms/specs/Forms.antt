@@ -12,6 +12,7 @@ use Rattle.gx_equation.specs.declared.heads.Head.{Head}
 use Rattle.gx_equation.specs.declared.heads.Head.TheVariants as heads
 use Rattle.gx_equation.specs.declared.heads.Linkset.{Linkset}
 use Rattle.gx_equation.specs.declared.heads.Linkset.TheVariants as linksets
+use Rattle.gx_schema.specs.declared.schema.TheConstants.{MOST_MEMBERS}
 pub use Rattle.gx_actual.specs.Forms.{actual_form}
 use Rattle.gx_forms.specs.Fields.{field, kind_in, has_name}
 
@@ -85,11 +86,11 @@ kid_form (heads.Index name) form i = index_forms name form i
 abbrev pub key_field : List ℕ → Kind → List Field
 key_field name kind = field name kind ∷ []
 
--- (`owner` O; `members` bytes 500 w(M))
+-- (`owner` O; `members` bytes MOST_MEMBERS w(M))
 abbrev pub array_form : Kind → Kind → Form
 array_form o m =
     record
-    { keys = key_field (codes "owner") o; fields = field (codes "members") (kinds.Bytes (500 * width_of m)) ∷ [] }
+    { keys = key_field (codes "owner") o; fields = field (codes "members") (kinds.Bytes (MOST_MEMBERS * width_of m)) ∷ [] }
 
 -- (`owner` O; `first` M) and (`member` M; `last` int, `next` bytes max (w(O), w(M)), `owner` O)
 abbrev pub ring_form : Kind → Kind → ℕ → Form

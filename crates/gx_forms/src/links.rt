@@ -2,25 +2,24 @@
 // file and of the member file.
 ghost use Rattle.std.specs.Prelude.{◌≡◌, ◌≤◌, ◌*◌, ◌∷◌, [], max, min, codes, IfOk};
 ghost use Rattle.gx_values.specs.Keys.{width_of};
+ghost use Rattle.gx_schema.specs.declared.schema.TheConstants.{MOST_MEMBERS};
 ghost use Rattle.gx_forms.specs.Fields.{field};
 ghost use Rattle.gx_forms.specs.Forms.{array_form, ring_form, inverted_form};
 ghost use Rattle.gx_forms.specs.Narrow.{narrow};
 
 use crate::fields::key_width;
 use crate::forms::make_field;
+use gx_schema::MOST_MEMBERS;
 use gx_values::{Fields, Form, Kind};
 use std::alloc::{AllocError, Global};
-
-/// The most members of an owner in a link.
-const MOST_MEMBERS: u16 = 500;
 
 /// The form of the child of `array`: an owner, and the keys of its members.
 pub fn array_form(alloc: Global, owner: Kind, member: Kind) -> Result<Form, AllocError>
     ensures narrow { IfOk result (λ made. narrow made ≡ narrow (array_form owner member)) }
-    ensures exact { 500 * width_of member ≤ 65535 →
+    ensures exact { MOST_MEMBERS * width_of member ≤ 65535 →
         IfOk result (λ made. made ≡ array_form owner member) }
 {
-    let members = Kind::Bytes(key_width(member).saturating_mul(MOST_MEMBERS));
+    let members = Kind::Bytes(key_width(member).saturating_mul(MOST_MEMBERS as u16));
     Ok(Form {
         keys: Fields(vec![in alloc; make_field(b"owner", owner)]?),
         fields: Fields(vec![in alloc; make_field(b"members", members)]?),

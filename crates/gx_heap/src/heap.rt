@@ -1,7 +1,8 @@
 // The calls on a heap.
 ghost use Rattle.std.specs.Prelude.{◌≡◌, ◌+◌, ◌≤◌, length};
 ghost use Rattle.gx_ports.specs.declared.kinds.LeafKind.TheVariants as kinds;
-ghost use Rattle.gx_ports.specs.declared.leaves.TheConstants.{MAX_KEY_LEN, MAX_ENTRY_LEN};
+ghost use Rattle.gx_values.specs.declared.bytes.TheConstants.{MAX_KEY_LEN};
+ghost use Rattle.gx_ports.specs.declared.leaves.TheConstants.{MAX_ENTRY_LEN};
 ghost use Rattle.gx_ports.specs.FileCalls.{MakesFile, PutsInFile, RemovesFromFile, SelectsInFile, ChecksFile};
 ghost use Rattle.gx_ports.specs.Files.{IsPlace};
 ghost use Rattle.gx_heap.specs.Heap.{IsHeap};

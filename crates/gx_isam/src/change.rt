@@ -1,7 +1,8 @@
 // The chain of a bucket begins, and its first page leaves it.
 ghost use Rattle.std.specs.Prelude.{◌≡◌, ◌+◌, ◌<◌, ◌≤◌, ◌≢◌, ◌∷◌, ℕ, [], length, IsTrue, OnOk, IsErrOf};
-ghost use Rattle.gx_ports.specs.declared.leaves.TheConstants.{MAX_KEY_LEN, MAX_ENTRY_LEN};
-ghost use Rattle.gx_ports.specs.declared.pages.TheConstants.{PAGE_LEN};
+ghost use Rattle.gx_values.specs.declared.bytes.TheConstants.{MAX_KEY_LEN};
+ghost use Rattle.gx_ports.specs.declared.leaves.TheConstants.{MAX_ENTRY_LEN};
+ghost use Rattle.gx_bytes.specs.declared.page.TheConstants.{PAGE_LEN};
 ghost use Rattle.gx_ports.specs.Files.{IsPlace, EndsFile};
 ghost use Rattle.gx_ports.specs.PageCalls.{KeepsPages, CountsPageFaults};
 ghost use Rattle.gx_ports.specs.Sheets.{IsPast, HasNone, bytes_at};

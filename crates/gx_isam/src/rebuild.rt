@@ -2,7 +2,7 @@
 // any two steps.
 ghost use Rattle.std.specs.Prelude.{◌≡◌, ◌<◌, ◌≤◌, length, IsTrue, OnOk, IsErrOf};
 ghost use Rattle.gx_ports.specs.declared.kinds.LeafKind.TheVariants.{Isam};
-ghost use Rattle.gx_ports.specs.declared.pages.TheConstants.{PAGE_LEN};
+ghost use Rattle.gx_bytes.specs.declared.page.TheConstants.{PAGE_LEN};
 ghost use Rattle.gx_ports.specs.Files.{IsPlace, Holds, EndsFile, IsWhole};
 ghost use Rattle.gx_ports.specs.LeafMaps.{LeafMap};
 ghost use Rattle.gx_ports.specs.PageCalls.{KeepsPages};

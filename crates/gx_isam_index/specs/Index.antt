@@ -9,7 +9,7 @@ use Rattle.std.specs.Ordering.{is_le}
 use Rattle.std.specs.declared.cmp.Ordering.TheVariants.{Less}
 use Rattle.gx_bytes.specs.Page.{count_of}
 use Rattle.gx_bytes.specs.Records.{records, HoldsRecordCount, HoldsAscendingRecords}
-use Rattle.gx_ports.specs.declared.pages.TheConstants.{PAGE_LEN}
+use Rattle.gx_bytes.specs.declared.page.TheConstants.{PAGE_LEN}
 use Rattle.gx_ports.specs.Keyed.{key_cmp}
 
 -- a separator is written as its length, in two bytes, and its bytes

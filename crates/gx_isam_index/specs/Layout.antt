@@ -2,7 +2,7 @@
 use Rattle.std.specs.Prelude.{◌≡◌, ℕ, ◌+◌, ◌-◌, ◌*◌, ◌<◌, ◌≤◌, List, length, drop, map, slice_get, slice_index, slice_index_or, Some}
 use Rattle.std.specs.declared.cmp.Ordering.TheVariants.{Less}
 use Rattle.gx_bytes.specs.Records.{HoldsRecords}
-use Rattle.gx_ports.specs.declared.pages.TheConstants.{PAGE_LEN}
+use Rattle.gx_bytes.specs.declared.page.TheConstants.{PAGE_LEN}
 use Rattle.gx_ports.specs.declared.leaves.Entry.{Entry as LeafEntry}
 use Rattle.gx_ports.specs.Keyed.{key_cmp}
 use Rattle.gx_slots.specs.Entries.{IsFit}

@@ -2,8 +2,7 @@
 ghost use Rattle.std.specs.Prelude.{◌≡◌, ◌≢◌, ◌↔◌, ℕ, ◌+◌, ◌-◌, ◌*◌, ◌<◌, ◌≤◌, length, take, IsTrue};
 ghost use Rattle.std.specs.Ordering.{is_le};
 ghost use Rattle.gx_bytes.specs.Records.{SplitsRecord};
-ghost use Rattle.gx_bytes.specs.declared.page.TheConstants.{NONE};
-ghost use Rattle.gx_ports.specs.declared.pages.TheConstants.{PAGE_LEN};
+ghost use Rattle.gx_bytes.specs.declared.page.TheConstants.{NONE, PAGE_LEN};
 ghost use Rattle.gx_ports.specs.Keyed.{key_cmp};
 ghost use Rattle.gx_isam_index.specs.Index.{IsFit, HoldsAscending, IsIndexPage, behind_firsts, bucket_count, bucket_of, first_of, last_bucket, lent, separator_bytes, separators_of};
 

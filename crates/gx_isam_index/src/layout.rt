@@ -1,9 +1,8 @@
 // The index of entries that are laid out anew.
 ghost use Rattle.std.specs.Prelude.{◌≡◌, ◌↔◌, ◌+◌, ◌*◌, ◌<◌, ◌≤◌, ℕ, length, IsTrue};
 ghost use Rattle.gx_bytes.specs.Parts.{overwritten};
-ghost use Rattle.gx_bytes.specs.declared.page.TheConstants.{NONE};
-ghost use Rattle.gx_ports.specs.declared.leaves.TheConstants.{MAX_KEY_LEN};
-ghost use Rattle.gx_ports.specs.declared.pages.TheConstants.{PAGE_LEN};
+ghost use Rattle.gx_bytes.specs.declared.page.TheConstants.{NONE, PAGE_LEN};
+ghost use Rattle.gx_values.specs.declared.bytes.TheConstants.{MAX_KEY_LEN};
 ghost use Rattle.gx_isam_index.specs.Fresh.{HasFreshBuckets, begin_of, fresh_count, longest_of};
 ghost use Rattle.gx_isam_index.specs.Index.{IsIndexPage, bucket_count, first_of, separator_bytes};
 ghost use Rattle.gx_isam_index.specs.Layout.{AreOrdered, FitsPage, HasFront, HasSeparators, keys_of};

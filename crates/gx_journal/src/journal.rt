@@ -10,7 +10,7 @@ ghost use Rattle.gx_layout.specs.Besides.{IsImageBesides, IsUnsealed};
 ghost use Rattle.gx_layout.specs.Recovered.{Recovers, IsOfRecovery, replayed_pages, view_now};
 ghost use Rattle.gx_journal.specs.Sources.{IsCached};
 ghost use Rattle.gx_device.specs.declared.device.TheConstants.{BLOCK_LEN};
-ghost use Rattle.gx_layout.specs.declared.formatting.TheConstants.{MAX_TEXTS_LEN};
+ghost use Rattle.gx_layout.specs.declared.formatting.TheConstants.{MAX_BLOCKS, MAX_TEXTS_LEN};
 
 use crate::access::{read, write};
 use crate::commit::commit;
@@ -32,7 +32,7 @@ pub struct Journal<D: Device> {
     working: WorkingPages,
     failed: bool,
     ghost room: { 7 + 2 * length working.spilled.items ≤ D.size device },
-    ghost limit: { D.size device ≤ 65543 },
+    ghost limit: { D.size device ≤ MAX_BLOCKS },
     ghost count: { length working.spilled.items ≡ pages_of (D.size device) },
     ghost closed: { IsTrue D.tells → failed ≡ false →
         is_open (block_of (D.content device).now 1) ≡ false },
@@ -50,7 +50,7 @@ impl<D: Device> Journal<D> {
     // A journal whose working pages are all at home.
     fn over(device: D, working: WorkingPages) -> Journal<D>
         requires blocks { 7 + 2 * size_in working ≤ D.size device }
-        requires limit { D.size device ≤ 65543 }
+        requires limit { D.size device ≤ MAX_BLOCKS }
         requires count { size_in working ≡ pages_of (D.size device) }
         requires closed { IsTrue D.tells → is_open (block_of (D.content device).now 1) ≡ false }
         requires absent { working.frames.resident ≡ [] }
@@ -78,7 +78,7 @@ impl<D: Device> Journal<D> {
         requires least { 8 ≤ frames }
         requires most { frames ≤ 1024 }
         requires blocks { 7 ≤ D.size device }
-        requires limit { D.size device ≤ 65543 }
+        requires limit { D.size device ≤ MAX_BLOCKS }
         ensures kept { IsTrue D.tells →
             IfOk result (λ j. kept_of j ≡ replayed_pages (D.content device).now.blocks) }
         ensures working { IfOk result (λ j. working_of j ≡ kept_of j) }
@@ -130,7 +130,7 @@ impl<D: Device> Journal<D> {
         requires least { 8 ≤ frames }
         requires most { frames ≤ 1024 }
         requires blocks { 7 ≤ D.size device }
-        requires limit { D.size device ≤ 65543 }
+        requires limit { D.size device ≤ MAX_BLOCKS }
         requires texts { length schema.now + length equation.now ≤ MAX_TEXTS_LEN }
         ensures kept { IfOk result
             (λ j. kept_of j ≡ homes_told D.tells (size_of j) (D.content device)) }

@@ -3,6 +3,7 @@ ghost use Rattle.std.specs.Prelude.{◌≡◌, ◌≤◌, [], false, length, rep
 ghost use Rattle.gx_layout.specs.Layout.{pages_of};
 ghost use Rattle.gx_journal.specs.Sources.{IsListed};
 ghost use Rattle.gx_layout.specs.declared.bitmap.TheConstants.{MAX_PAGES};
+ghost use Rattle.gx_layout.specs.declared.formatting.TheConstants.{MAX_BLOCKS};
 
 use gx_device::NoMemory;
 use gx_frames::Frames;
@@ -27,7 +28,7 @@ impl WorkingPages {
         requires least { 8 ≤ frames }
         requires most { frames ≤ 1024 }
         requires head { 7 ≤ blocks }
-        requires limit { blocks ≤ 65543 }
+        requires limit { blocks ≤ MAX_BLOCKS }
         ensures count { IfOk result (λ working. length working.spilled.items ≡ pages_of blocks) }
         ensures absent { IfOk result (λ working. working.frames.resident ≡ []) }
         ensures unspilled { IfOk result (λ working. working.spilled.items

@@ -3,6 +3,7 @@ use Rattle.std.specs.Prelude.{◌≡◌, ◌≢◌, ◌≤◌, ◌<◌, ◌+◌,
 use Rattle.std.specs.Int.{w16, to_be_bytes}
 use Rattle.gx_device.specs.Quiet.{IsPrefix}
 use Rattle.gx_device.specs.declared.device.TheConstants.{BLOCK_LEN}
+use Rattle.gx_layout.specs.declared.formatting.TheConstants.{TEXT_AREA_LEN}
 
 -- the bytes that the first block of a database begins with
 abbrev pub magic : List ℕ
@@ -19,7 +20,7 @@ written_texts schema equation =
 -- the bytes of the text blocks: the lengths, the texts, and zeros
 abbrev pub text_area : List ℕ → List ℕ → List ℕ
 text_area schema equation =
-    written_texts schema equation ++ replicate (16384 - length (written_texts schema equation)) 0
+    written_texts schema equation ++ replicate (TEXT_AREA_LEN - length (written_texts schema equation)) 0
 
 -- block i of those that hold these bytes
 abbrev pub block_in : List ℕ → ℕ → List ℕ
@@ -45,5 +46,5 @@ text_at head q = get_or (get_or head (1 + q / BLOCK_LEN) []) (q % BLOCK_LEN) 0
 -- the first place of the text area in which the bytes differ, or none
 abbrev pub DifferFirst : (ℕ → ℕ) → (ℕ → ℕ) → Option ℕ → Type 0
 DifferFirst xs ys found =
-    MatchOption found ((q : ℕ) → q < 16384 → xs q ≡ ys q)
-    (λ q. (q < 16384) × (xs q ≢ ys q) × ((p : ℕ) → p < q → xs p ≡ ys p))
+    MatchOption found ((q : ℕ) → q < TEXT_AREA_LEN → xs q ≡ ys q)
+    (λ q. (q < TEXT_AREA_LEN) × (xs q ≢ ys q) × ((p : ℕ) → p < q → xs p ≡ ys p))

@@ -8,20 +8,23 @@ ghost use Rattle.gx_layout.specs.Layout.{OnlyBlocks, head_of, is_open, has_bit};
 ghost use Rattle.gx_layout.specs.Head.{text_area, text_blocks, block_in, IsText, IsFormatted};
 ghost use Rattle.gx_layout.specs.Besides.{IsImageBesides};
 ghost use Rattle.gx_device.specs.declared.device.TheConstants.{BLOCK_LEN};
-ghost use Rattle.gx_layout.specs.declared.formatting.TheConstants.{MAX_TEXTS_LEN};
+ghost use Rattle.gx_layout.specs.declared.formatting.TheConstants.{TEXT_AREA_LEN, MAX_TEXTS_LEN};
 
-use crate::bitmap::write_bitmap;
+use crate::bitmap::{MAX_PAGES, write_bitmap};
 use crate::gate::set_gate;
 use gx_bytes::overwrite;
 use gx_device::{BLOCK_LEN, Device, Failed};
-
-const TEXT_AREA_LEN: usize = 16384;
 
 pub(crate) const FIRST_TEXT_BLOCK: u32 = 3;
 
 pub(crate) const TEXT_BLOCKS: u32 = 4;
 
+const TEXT_AREA_LEN: usize = TEXT_BLOCKS as usize * BLOCK_LEN;
+
 const LENGTH_LEN: usize = 2;
+
+/// The most blocks of a device: those before its pages, and two for each page.
+pub const MAX_BLOCKS: u32 = FIRST_TEXT_BLOCK + TEXT_BLOCKS + 2 * MAX_PAGES as u32;
 
 /// The most bytes of the two texts: with their lengths they fill the text blocks.
 pub const MAX_TEXTS_LEN: usize = TEXT_AREA_LEN - 2 * LENGTH_LEN;
@@ -50,7 +53,7 @@ pub(crate) fn text_area(schema: &[u8], equation: &[u8]) -> [u8; TEXT_AREA_LEN]
 /// One of the text blocks.
 pub(crate) fn text_block(area: &[u8], i: u32) -> &[u8]
     requires below { i < 4 }
-    requires bytes { length area.now ≡ 16384 }
+    requires bytes { length area.now ≡ TEXT_AREA_LEN }
     ensures is { result.now ≡ block_in area.now i }
     ensures long { length result.now ≡ BLOCK_LEN }
 {
@@ -60,7 +63,7 @@ pub(crate) fn text_block(area: &[u8], i: u32) -> &[u8]
 
 fn write_texts<D: Device>(device: &mut D, area: &[u8]) -> Result<(), Failed>
     requires room { 7 ≤ D.size device.old }
-    requires bytes { length area.now ≡ 16384 }
+    requires bytes { length area.now ≡ TEXT_AREA_LEN }
     ensures texts { IsTrue D.tells → OnOk result
         ((i : ℕ) → i < 4 → block_of (D.content device.new).now (3 + i) ≡ block_in area.now i) }
     ensures run { Through (Outside IsText (D.content device.old).now) (D.content device.old)

@@ -1,6 +1,7 @@
 // The calls on a file, by the kind of its place.
 ghost use Rattle.std.specs.Prelude.{◌+◌, ◌≤◌, length, IsTrue, OnOk};
-ghost use Rattle.gx_ports.specs.declared.leaves.TheConstants.{MAX_KEY_LEN, MAX_ENTRY_LEN};
+ghost use Rattle.gx_values.specs.declared.bytes.TheConstants.{MAX_KEY_LEN};
+ghost use Rattle.gx_ports.specs.declared.leaves.TheConstants.{MAX_ENTRY_LEN};
 ghost use Rattle.gx_ports.specs.FileCalls.{MakesFile, PutsInFile, RemovesFromFile, SelectsInFile, ChecksFile};
 ghost use Rattle.gx_ports.specs.Files.{IsPlace, Holds, EndsFile, SparesOthers, IsFull, IsWhole};
 ghost use Rattle.gx_ports.specs.LeafMaps.{LeafMap};

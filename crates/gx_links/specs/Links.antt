@@ -5,6 +5,7 @@ use Rattle.std.specs.Ordering.{eq_by_cmp, is_lt}
 use Rattle.gx_values.specs.declared.values.Kind.{Kind}
 use Rattle.gx_values.specs.declared.values.Value.{Value}
 use Rattle.gx_values.specs.Values.{value_cmp, Fits}
+use Rattle.gx_schema.specs.declared.schema.TheConstants.{MOST_MEMBERS}
 
 -- from the key of each member to the key of its owner
 abbrev pub Link : Type 0
@@ -30,7 +31,7 @@ owners_of link = distinct (map (λ pair. pair.1) (fin.entries link))
 
 -- the most members that an owner has in one link
 abbrev pub most_members : ℕ
-most_members = 500
+most_members = MOST_MEMBERS
 
 -- a link that nodes can hold: members and owners are of their kinds, and no owner has too many
 -- members

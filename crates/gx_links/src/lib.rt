@@ -12,8 +12,9 @@ mod spans;
 mod told;
 
 pub use changes::{Change, replace_both};
+pub use gx_schema::MOST_MEMBERS;
 pub use held::held_both;
-pub use linkset::{Joining, Linkset, MOST_MEMBERS};
+pub use linkset::{Joining, Linkset};
 pub use members::without;
 pub use owners::owners_of;
 pub use pairs::{Owned, Owners, Pairs};

@@ -15,9 +15,6 @@ use gx_ports::{Leaves, Stop};
 use gx_values::{Value, Values};
 use std::alloc::Global;
 
-/// The most members that an owner has in one link.
-pub const MOST_MEMBERS: usize = 500;
-
 /// What became of a member that was to join an owner.
 #[derive(Clone, Copy, Debug, PartialEq, Eq)]
 pub enum Joining {

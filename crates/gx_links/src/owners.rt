@@ -10,8 +10,8 @@ ghost use Rattle.gx_links.specs.declared.pairs.Owned.{Owned as Group};
 ghost use Rattle.gx_links.specs.Links.{Link, most_members};
 ghost use Rattle.gx_links.specs.Owners.{owner_cmp, pairs_of, is_last, with_pair, AreOwners, IsGroupOf};
 
-use crate::linkset::MOST_MEMBERS;
 use crate::pairs::{Owned, Owners, Pairs};
+use gx_schema::MOST_MEMBERS;
 use gx_values::{NoMemory, Value, compare};
 use std::alloc::{AllocError, Global};
 use std::cmp::Ordering;

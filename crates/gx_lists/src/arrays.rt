@@ -4,7 +4,7 @@ ghost use Rattle.gx_values.specs.declared.values.Value.{Value as FieldValue};
 ghost use Rattle.gx_values.specs.declared.records.Rec.{Rec as Record};
 ghost use Rattle.gx_values.specs.Keys.{bytes_of, key_of, IsKeyKind};
 ghost use Rattle.gx_values.specs.Values.{IsSized, AreSized};
-ghost use Rattle.gx_ports.specs.declared.leaves.TheConstants.{MAX_KEY_LEN};
+ghost use Rattle.gx_values.specs.declared.bytes.TheConstants.{MAX_KEY_LEN};
 ghost use Rattle.gx_mapping.specs.Rule.{In};
 ghost use Rattle.gx_stack.specs.Tree.{leaf_body};
 ghost use Rattle.gx_links.specs.Links.{with_member};

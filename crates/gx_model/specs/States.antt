@@ -8,6 +8,7 @@ use Rattle.gx_values.specs.Values.{value_cmp, Fits, AreFit}
 use Rattle.gx_schema.specs.declared.schema.FileDef.{FileDef}
 use Rattle.gx_schema.specs.declared.schema.LinkDef.{LinkDef}
 use Rattle.gx_schema.specs.declared.schema.Schema.{Schema}
+use Rattle.gx_schema.specs.declared.schema.TheConstants.{MOST_MEMBERS}
 use Rattle.gx_schema.specs.Lookups.{file_at, link_at, key_kind, data_fields}
 
 -- a file: from the key of each record to its other values, in the order of the fields
@@ -48,7 +49,7 @@ pairs_of link owner = filter (λ pair. is_same pair.1 owner) (fin.entries link)
 
 -- the most members that an owner has in one link
 abbrev pub most_members : ℕ
-most_members = 500
+most_members = MOST_MEMBERS
 
 -- ---- valid states
 

@@ -2,7 +2,8 @@
 ghost use Rattle.std.specs.Prelude.{◌≡◌, ◌*◌, ◌%◌, ◌≤◌, ◌<◌, ℕ, Some, length, slice_get};
 ghost use Rattle.std.specs.Int.{w16, to_be_bytes};
 ghost use Rattle.gx_bytes.specs.Parts.{overwritten};
-ghost use Rattle.gx_ports.specs.declared.pages.TheConstants.{PAGE_LEN, OWNERS};
+ghost use Rattle.gx_bytes.specs.declared.page.TheConstants.{PAGE_LEN};
+ghost use Rattle.gx_ports.specs.declared.pages.TheConstants.{OWNERS};
 ghost use Rattle.gx_pages.specs.Owners.{number_of, IsFreeBetween, IsClear};
 
 use gx_bytes::overwrite;

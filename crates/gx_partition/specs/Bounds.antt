@@ -13,6 +13,7 @@ use Rattle.gx_values.specs.declared.values.Value.TheVariants as value
 use Rattle.gx_values.specs.declared.records.Form.{Form}
 use Rattle.gx_values.specs.Values.{value_cmp, Fits}
 use Rattle.gx_values.specs.Keys.{bytes_of, width_of, IsKeyKind}
+use Rattle.gx_values.specs.declared.bytes.TheConstants.{MAX_KEY_LEN}
 use Rattle.gx_partition.specs.declared.place.Where.{Where}
 use Rattle.gx_partition.specs.declared.place.Where.TheVariants.{Key, Rest}
 use Rattle.gx_partition.specs.Places.{IsPlace, kind_at}
@@ -22,7 +23,7 @@ use Rattle.gx_partition.specs.Places.{IsPlace, kind_at}
 pub record IsPartition (form : Form) (at : Where) (bounds : List Value) : Type 0 where
   pub place : IsPlace at form
   pub kind : IsKeyKind (kind_at at form)
-  pub narrow : width_of (kind_at at form) ≤ 400
+  pub narrow : width_of (kind_at at form) ≤ MAX_KEY_LEN
   pub fit : AllByRecursion (Fits (kind_at at form)) bounds
   pub ascending : IsStrictlySortedBy value_cmp bounds
   pub few : length bounds < 65535

@@ -10,10 +10,8 @@ ghost use Rattle.gx_plain.specs.Plain.{HasParts, IsOfLink, refusal_line};
 
 use gx_commands::{Command, Of};
 use gx_plain_state::{PlainLink, PlainState};
-use gx_schema::{LinkDef, Schema};
+use gx_schema::{LinkDef, MOST_MEMBERS, Schema};
 use gx_values::Value;
-
-const MOST_MEMBERS: usize = 500;
 
 const KEY_EXISTS: &[u8] = b"refused: key exists\n";
 

@@ -5,13 +5,11 @@ ghost use Rattle.gx_ports.specs.Sheets.{Sheets, IsPast, IsHomeOf, IsClaimed, IsO
 ghost use Rattle.gx_ports.specs.PageCalls.{KeepsPages, ReadsPages, TalksPages, SettlesPages, CountsPageFaults, PagesHear, PagesSay};
 ghost use Rattle.gx_ports.specs.Stops.{HasStopCause};
 ghost use Rattle.gx_device.specs.Quiet.{QuietSince};
-ghost use Rattle.gx_ports.specs.declared.pages.TheConstants.{PAGE_LEN, MAX_OWNER, OWNERS};
+ghost use Rattle.gx_bytes.specs.declared.page.TheConstants.{PAGE_LEN};
+ghost use Rattle.gx_ports.specs.declared.pages.TheConstants.{MAX_OWNER, OWNERS};
 
 use crate::{LeafSpec, PageView, Stop};
 use gx_device::Failed;
-
-/// The bytes of a page.
-pub const PAGE_LEN: usize = 4096;
 
 /// The greatest owner of a page past the table. The least is 1; a page of the owner 0 is free.
 pub const MAX_OWNER: u16 = 65534;

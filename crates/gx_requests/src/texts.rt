@@ -4,13 +4,14 @@ ghost use Rattle.gx_requests.specs.Requests.{IsText, IsUnfetched, text_limit};
 ghost use Rattle.gx_requests.specs.Fetched.{Fetches};
 
 use gx_device::{FetchStop, Machine};
+use gx_layout::MAX_TEXTS_LEN;
 use gx_play::Ending;
 use std::alloc::Global;
 
 /// The most bytes that a text may have, and that the two canonical texts may have together.
-pub const TEXT_LIMIT: u32 = 16380;
+pub const TEXT_LIMIT: u32 = MAX_TEXTS_LEN as u32;
 
-/// The text of that name, of at most 16,380 bytes. `Missing` comes only where there is none,
+/// The text of that name, of at most `TEXT_LIMIT` bytes. `Missing` comes only where there is none,
 /// `TooLong` only where it is longer, `Fault` only where a call of the machine failed.
 pub fn fetch_text<'a, M: Machine>(
     alloc: Global,

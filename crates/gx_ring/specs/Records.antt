@@ -5,6 +5,7 @@ use Rattle.gx_values.specs.declared.values.Value.{Value}
 use Rattle.gx_values.specs.declared.records.Rec.{Rec}
 use Rattle.gx_values.specs.Values.{Fits, IsSized}
 use Rattle.gx_values.specs.Keys.{bytes_of}
+use Rattle.gx_values.specs.declared.bytes.TheConstants.{MAX_KEY_LEN}
 use Rattle.gx_stack.specs.Internal.{IfThere}
 use Rattle.gx_ring.specs.declared.records.Behind.{Behind}
 use Rattle.gx_ring.specs.declared.records.Behind.TheVariants as found
@@ -12,7 +13,7 @@ use Rattle.gx_ring.specs.Ring.{chain_rec}
 
 -- a value that can be copied, and whose bytes a key has room for
 abbrev pub IsKeyValue : Value → Type 0
-IsKeyValue v = IsSized v × (length (bytes_of v) ≤ 400)
+IsKeyValue v = IsSized v × (length (bytes_of v) ≤ MAX_KEY_LEN)
 
 -- what a record of a chain has behind its member
 abbrev pub behind_of : Option Value → Behind

@@ -16,7 +16,7 @@ use Rattle.gx_mapping.specs.Rule.{is_field, first_in}
 use Rattle.gx_schema.specs.Rules.{IsKind, AreFields}
 use Rattle.gx_schema.proofs.WellFormedLaws.{HasRules}
 use Rattle.gx_actual.specs.Bodies.{IsShort, AreShort}
-use Rattle.gx_ports.specs.declared.leaves.TheConstants.{MAX_KEY_LEN}
+use Rattle.gx_values.specs.declared.bytes.TheConstants.{MAX_KEY_LEN}
 use Rattle.gx_scan.specs.Files.{IsStorable}
 use Rattle.gx_scan.specs.Where.{AreNamed}
 

@@ -7,7 +7,7 @@ use Rattle.gx_schema.specs.declared.schema.FileDef.{FileDef}
 use Rattle.gx_schema.specs.Lookups.{key_kind, data_fields}
 use Rattle.gx_actual.specs.Bodies.{AreShort}
 use Rattle.gx_ports.specs.LeafMaps.{LeafMap}
-use Rattle.gx_ports.specs.declared.leaves.TheConstants.{MAX_KEY_LEN}
+use Rattle.gx_values.specs.declared.bytes.TheConstants.{MAX_KEY_LEN}
 use Rattle.gx_mapping.specs.Rule.{In}
 use Rattle.gx_stack.specs.Tree.{Tree, leaves_of, tree_form, IsValid}
 use Rattle.gx_stack.specs.Internal.{IsInternal as IsHeld}

@@ -13,4 +13,4 @@ mod schema;
 pub use gx_tokens::{Unread, Why};
 pub use print::print_schema;
 pub use read::read_schema;
-pub use schema::{FileDef, FileDefs, LinkDef, LinkDefs, Schema};
+pub use schema::{FileDef, FileDefs, LinkDef, LinkDefs, MOST_MEMBERS, Schema};

@@ -13,6 +13,9 @@ pub struct FileDef {
     pub fields: Fields,
 }
 
+/// The most members that an owner has in one link.
+pub const MOST_MEMBERS: usize = 500;
+
 /// A link: its name, and the numbers of its owner file and its member file, counted from 0.
 #[derive(Debug, Drop)]
 pub struct LinkDef {

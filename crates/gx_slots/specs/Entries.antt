@@ -7,7 +7,8 @@ use Rattle.std.specs.List.{AllPairs}
 use Rattle.std.specs.Ordering.{nat_cmp}
 use Rattle.std.specs.declared.cmp.Ordering.TheVariants.{Less}
 use Rattle.gx_bytes.specs.Records.{records, HoldsRecordCount}
-use Rattle.gx_slots.specs.declared.format.TheConstants.{MAX_KEY_LEN, MAX_ENTRY_LEN}
+use Rattle.gx_values.specs.declared.bytes.TheConstants.{MAX_KEY_LEN}
+use Rattle.gx_ports.specs.declared.leaves.TheConstants.{MAX_ENTRY_LEN}
 
 -- a key and the body stored under it
 pub record Entry : Type 0 where

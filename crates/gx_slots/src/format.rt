@@ -7,12 +7,7 @@ ghost use Rattle.gx_bytes.specs.Records.{SplitsRecord};
 ghost use Rattle.gx_slots.specs.Entries.{IsFit, HoldsCount, entry_bytes, entry_len, entries_in, lent};
 
 use gx_bytes::{overwrite, split_u16};
-
-/// The greatest number of bytes of a key.
-pub const MAX_KEY_LEN: usize = 400;
-
-/// The greatest number of bytes of a key and its body together.
-pub const MAX_ENTRY_LEN: usize = 1000;
+use gx_ports::{MAX_ENTRY_LEN, MAX_KEY_LEN};
 
 /// The number of bytes of a length.
 const LENGTH_LEN: usize = 2;

@@ -9,7 +9,7 @@ mod page;
 mod splitting;
 mod validity;
 
-pub use format::{MAX_ENTRY_LEN, MAX_KEY_LEN, split_entry};
+pub use format::split_entry;
 pub use gx_bytes::NONE;
 pub use iter::Entries;
 pub use order::{is_ascending, rank};

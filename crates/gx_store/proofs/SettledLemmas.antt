@@ -15,7 +15,8 @@ use Rattle.gx_layout.proofs.ReplayLemmas.{length-replayed, homes_long}
 use Rattle.gx_layout.proofs.TextLemmas.{more_same}
 use Rattle.gx_journal.specs.State.{homes_told, head_told}
 use Rattle.gx_pages.specs.Owners.{sheets_of}
-use Rattle.gx_store.specs.Device.{AreMaps, AreTexts, IsDatabase, IsSettled, Reopens, home_pages, ground_on, most_blocks}
+use Rattle.gx_store.specs.Device.{AreMaps, AreTexts, IsDatabase, IsSettled, Reopens, home_pages, ground_on}
+use Rattle.gx_layout.specs.declared.formatting.TheConstants.{MAX_BLOCKS}
 use Rattle.gx_store.proofs.GroundLemmas.{maps_moved}
 
 -- the text blocks of a device, byte by byte
@@ -66,7 +67,7 @@ homes_are tells P c told many = ap (λ (b : Bool). homes_told b P c) told ∙ ap
 -- Behind a closed gate the blocks hold what the kept pages hold.
 pub closed_settled : (schema equation : List ℕ) (specs : List LeafSpec) (maps : List LeafMap) (tells : Bool) (P : ℕ) (c : Content)
     → IsTrue tells
-    → P ≡ pages_of (length c.now.blocks) → is_open (block_of c.now 1) ≡ false → length c.now.blocks ≤ most_blocks
+    → P ≡ pages_of (length c.now.blocks) → is_open (block_of c.now 1) ≡ false → length c.now.blocks ≤ MAX_BLOCKS
     → 16 + root_pages specs ≤ P
     → HasMagic (get_or (head_told tells c) 0 []) → AreTexts schema equation (head_told tells c)
     → (base : Ground) → base.size ≡ P → base.tables ≡ 16 → AreMaps base specs maps (sheets_of (homes_told tells P c))

@@ -9,18 +9,15 @@ use Rattle.gx_ports.specs.Sheets.{Sheets, Ground}
 use Rattle.gx_layout.specs.Layout.{pages_of, head_of, is_open}
 use Rattle.gx_layout.specs.Recovered.{replayed_pages}
 use Rattle.gx_layout.specs.Head.{HasMagic, text_at, text_area}
+use Rattle.gx_layout.specs.declared.formatting.TheConstants.{MAX_BLOCKS, TEXT_AREA_LEN}
 use Rattle.gx_pages.specs.Owners.{sheets_of}
 use Rattle.gx_leaves.specs.Places.{places_of}
 use Rattle.gx_leaves.specs.Wholeness.{AreLaid, maps_of}
 
--- the blocks of the largest device
-abbrev pub most_blocks : ℕ
-most_blocks = 65543
-
 -- there is room for such leaves, and no more than a device may have
 pub record IsSize (specs : List LeafSpec) (blocks : ℕ) : Type 0 where
   pub least : smallest_device specs ≤ blocks
-  pub most : blocks ≤ most_blocks
+  pub most : blocks ≤ MAX_BLOCKS
 
 -- how many pages and blocks there are, and of which database
 abbrev pub ground_on : List (List ℕ) → Ground
@@ -35,7 +32,7 @@ ground_on blocks =
 
 -- the bytes of the text blocks of a head are the lengths of these two texts, the texts, and zeros
 abbrev pub AreTexts : List ℕ → List ℕ → List (List ℕ) → Type 0
-AreTexts schema equation head = (q : ℕ) → q < 16384
+AreTexts schema equation head = (q : ℕ) → q < TEXT_AREA_LEN
     → text_at head q ≡ slice_index_or (text_area schema equation) q 0
 
 abbrev pub HasTexts : List ℕ → List ℕ → List (List ℕ) → Type 0

@@ -6,15 +6,13 @@ ghost use Rattle.gx_store.specs.Device.{IsSize, IsHeadOf, IsSettled};
 ghost use Rattle.gx_store.specs.Store.{machine_of};
 
 use gx_device::Machine;
+use gx_layout::MAX_BLOCKS;
 use gx_leaves::PagedLeaves;
 use gx_pages::Paged;
 use gx_ports::{LeafSpec, smallest_device};
 
 /// How many pages of a device are in memory at once.
 pub const FRAMES: u32 = 64;
-
-// The blocks of the largest device.
-const MOST_BLOCKS: u32 = 65543;
 
 /// The leaves of a database on a device of a machine.
 pub type Store<M> = PagedLeaves<Paged<M>>;
@@ -24,7 +22,7 @@ pub(crate) fn is_size(specs: &[LeafSpec], blocks: u32) -> bool
     requires { length specs.now ≤ 255 }
     ensures { IsTrue result ↔ IsSize specs.now blocks }
 {
-    smallest_device(specs) <= blocks && blocks <= MOST_BLOCKS
+    smallest_device(specs) <= blocks && blocks <= MAX_BLOCKS
 }
 
 /// The machine. Where no commit failed, and the leaves were whole at the last one, its device holds

@@ -3,12 +3,14 @@
 use Rattle.std.specs.Prelude.{ℕ, suc, ◌+◌, Bool, false, ◌&&◌, List, [], ◌∷◌, length, Option, Some, None, Result, Ok, Err, nat_lt, nat_le, ◌==◌, if◌then◌else◌}
 use Rattle.std.specs.List.{list_all}
 use Rattle.gx_values.specs.Keys.{widths}
+use Rattle.gx_values.specs.declared.bytes.TheConstants.{MAX_KEY_LEN}
 use Rattle.gx_values.specs.declared.values.Code.{Code}
 use Rattle.gx_values.specs.declared.values.Kind.{Kind}
 use Rattle.gx_values.specs.declared.values.Kind.TheVariants as kinds
 use Rattle.gx_values.specs.declared.values.Value.{Value}
 use Rattle.gx_values.specs.declared.records.Field.{Field}
 use Rattle.gx_values.specs.declared.records.Form.{Form}
+use Rattle.gx_ports.specs.declared.leaves.TheConstants.{MAX_ENTRY_LEN}
 use Rattle.gx_equation.specs.declared.heads.Head.{Head}
 use Rattle.gx_equation.specs.declared.heads.Head.TheVariants as heads
 use Rattle.gx_typing.specs.declared.reasons.TypeWhy.{TypeWhy}
@@ -61,8 +63,8 @@ leaf_body (f ∷ g ∷ fs) = Err why.LeafForm
 abbrev pub leaf_row : Form → Result (Unit {0}) TypeWhy
 leaf_row form = do
   body ← leaf_body form.fields
-  short ← tested why.KeyLength (nat_le (widths form.keys) 400)
-  tested why.EntryLength (nat_le (widths form.keys + body) 1000)
+  short ← tested why.KeyLength (nat_le (widths form.keys) MAX_KEY_LEN)
+  tested why.EntryLength (nat_le (widths form.keys + body) MAX_ENTRY_LEN)
 
 abbrev pub encode_row : List ℕ → Code → Form → Result (Unit {0}) TypeWhy
 encode_row name code form = do

@@ -4,6 +4,7 @@ use Rattle.std.specs.List.{list_all, AllByRecursion}
 use Rattle.std.specs.declared.cmp.Ordering.TheVariants.{Less}
 use Rattle.gx_values.specs.Keys.{widths, IsKeyKind}
 use Rattle.gx_values.specs.Values.{value_cmp, is_printable}
+use Rattle.gx_values.specs.declared.bytes.TheConstants.{MAX_KEY_LEN}
 use Rattle.gx_values.specs.declared.values.Code.{Code}
 use Rattle.gx_values.specs.declared.values.Code.TheVariants as code
 use Rattle.gx_values.specs.declared.values.Kind.{Kind}
@@ -12,6 +13,7 @@ use Rattle.gx_values.specs.declared.values.Value.{Value}
 use Rattle.gx_values.specs.declared.values.Value.TheVariants as values
 use Rattle.gx_values.specs.declared.records.Field.{Field}
 use Rattle.gx_values.specs.declared.records.Form.{Form}
+use Rattle.gx_ports.specs.declared.leaves.TheConstants.{MAX_ENTRY_LEN}
 use Rattle.gx_ports.specs.declared.kinds.LeafSpec.{LeafSpec}
 use Rattle.gx_schema.specs.declared.schema.Schema.{Schema}
 use Rattle.gx_equation.specs.declared.heads.Head.{Head}
@@ -79,8 +81,8 @@ IsOneBytes (f ∷ g ∷ fs) = ⊥
 pub record IsLeaf (form : Form) : Type 0 where
   pub bytes : ℕ
   pub fields : IsLeafData form.fields bytes
-  pub key : widths form.keys ≤ 400
-  pub entry : widths form.keys + bytes ≤ 1000
+  pub key : widths form.keys ≤ MAX_KEY_LEN
+  pub entry : widths form.keys + bytes ≤ MAX_ENTRY_LEN
 
 pub record IsEncoded (name : List ℕ) (code : Code) (form : Form) : Type 0 where
   pub kind : Kind

@@ -29,7 +29,7 @@ pub enum TypeWhy {
     OneBytes,
     /// A leaf has other data than none or one field of bytes.
     LeafForm,
-    /// The key of a leaf may have more than 400 bytes.
+    /// The key of a leaf may have more than `MAX_KEY_LEN` bytes.
     KeyLength,
     /// The key and the bytes of a leaf may together be more than 1,000.
     EntryLength,

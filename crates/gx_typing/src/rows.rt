@@ -1,6 +1,7 @@
 // What each head asks of the form that it gets.
 ghost use Rattle.std.specs.Prelude.{◌≡◌, ◌≤◌, ◌==◌, min, length, not, OnOk};
 ghost use Rattle.gx_values.specs.Keys.{widths};
+ghost use Rattle.gx_values.specs.declared.bytes.TheConstants.{MAX_KEY_LEN};
 ghost use Rattle.gx_typing.specs.Conditions.{is_bound, ascends, is_coded, is_key_kind, is_data, are_data, leaves_some};
 ghost use Rattle.gx_forms.specs.Fields.{has_name};
 ghost use Rattle.gx_equation.specs.Seen.{tree_of};
@@ -11,13 +12,8 @@ ghost use Rattle.std.specs.List.{list_all, list_any};
 use crate::reasons::TypeWhy;
 use gx_equation::{Names, Term};
 use gx_forms::{has_name, key_widths, kind_in};
+use gx_ports::{MAX_ENTRY_LEN, MAX_KEY_LEN};
 use gx_values::{Code, Field, Form, Kind, Name, Value, Values, compare, is_printable_text};
-
-/// The most bytes that a key of a leaf has.
-const LONGEST_KEY: u16 = 400;
-
-/// The most bytes that a key of a leaf and its body have together.
-const LONGEST_ENTRY: u32 = 1000;
 
 /// The reason, unless the condition is met.
 pub fn tested(why: TypeWhy, met: bool) -> Result<(), TypeWhy>
@@ -137,16 +133,14 @@ fn leaf_body(fields: &[Field]) -> Result<u16, TypeWhy>
 
 /// What a leaf asks: no data field, or one of bytes; and a short key and a short entry.
 pub fn leaf_row(form: &Form) -> Result<(), TypeWhy>
-    ensures short { OnOk result (widths form.now.keys ≤ 400) }
+    ensures short { OnOk result (widths form.now.keys ≤ MAX_KEY_LEN) }
     ensures exact { result ≡ leaf_row form.now }
 {
     let body = leaf_body(&form.fields.0)?;
     let key = key_widths(&form.keys.0);
-    tested(TypeWhy::KeyLength, key <= LONGEST_KEY)?;
-    tested(
-        TypeWhy::EntryLength,
-        u32::from(key) + u32::from(body) <= LONGEST_ENTRY,
-    )
+    tested(TypeWhy::KeyLength, usize::from(key) <= MAX_KEY_LEN)?;
+    let entry = usize::from(key) + usize::from(body);
+    tested(TypeWhy::EntryLength, entry <= MAX_ENTRY_LEN)
 }
 
 fn is_coded(code: Code, kind: Kind) -> bool

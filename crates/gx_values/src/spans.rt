@@ -2,6 +2,7 @@
 ghost use Rattle.std.specs.Prelude.{◌≡◌, ◌≢◌, ◌↔◌, ◌≤◌, ◌+◌, ◌++◌, ◌∷◌, [], false, length, IsNone, IfSome};
 ghost use Rattle.gx_values.specs.Values.{Fits, value_cmp, is_met};
 ghost use Rattle.gx_values.specs.Spans.{IsSpanKind, IsSpanBound, HoldsThoseMet, IsValueSpan, IsBeyond, IsLow, IsHigh};
+ghost use Rattle.gx_values.specs.declared.bytes.TheConstants.{MAX_KEY_LEN};
 ghost use Rattle.gx_values.specs.declared.values.Op.TheVariants as the_op;
 ghost use Rattle.gx_values.specs.declared.values.Kind.{Kind as TheKind};
 ghost use Rattle.gx_values.specs.declared.values.Value.{Value as FieldValue};
@@ -74,7 +75,7 @@ fn above(bound: &Value) -> Option<KeyBuf>
 
 // The bytes and one more.
 fn joined(front: &[u8], last: u8) -> KeyBuf
-    requires { length front.now + 1 ≤ 400 }
+    requires { length front.now + 1 ≤ MAX_KEY_LEN }
     ensures { result ≡ front.now ++ last ∷ [] }
 {
     let mut bytes = ArrayVec::new();

@@ -1,7 +1,8 @@
 // A file of any kind, alone on a device in memory.
 ghost use Rattle.std.specs.Prelude.{◌+◌, ◌≤◌, length, IsTrue};
 ghost use Rattle.gx_ports.specs.Files.{IsPlace};
-ghost use Rattle.gx_ports.specs.declared.leaves.TheConstants.{MAX_KEY_LEN, MAX_ENTRY_LEN};
+ghost use Rattle.gx_values.specs.declared.bytes.TheConstants.{MAX_KEY_LEN};
+ghost use Rattle.gx_ports.specs.declared.leaves.TheConstants.{MAX_ENTRY_LEN};
 ghost use Rattle.gx_pages.specs.Paged.{ground_of};
 ghost use Rattle.gx_pages.specs.View.{journal_of};
 

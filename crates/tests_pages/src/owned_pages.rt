@@ -1,7 +1,8 @@
 // Pages with owners on a device in memory, with the owners worked out by hand.
 ghost use Rattle.std.specs.Prelude.{◌≡◌, ◌≤◌, length, IsTrue};
 ghost use Rattle.gx_ports.specs.Sheets.{IsPast};
-ghost use Rattle.gx_ports.specs.declared.pages.TheConstants.{MAX_OWNER, PAGE_LEN};
+ghost use Rattle.gx_bytes.specs.declared.page.TheConstants.{PAGE_LEN};
+ghost use Rattle.gx_ports.specs.declared.pages.TheConstants.{MAX_OWNER};
 ghost use Rattle.gx_pages.specs.Paged.{ground_of};
 ghost use Rattle.gx_pages.specs.View.{journal_of};
 
