@@ -46,18 +46,8 @@ abbrev pub MayHaveClaimed : Ground → ℕ → Sheets → Sheets → Type 0
 MayHaveClaimed ground owner old new =
     (new ≡ old) ⊎ ((page : ℕ) × IsClaimed page owner ground old new)
 
--- What a call that claims one page at most keeps, and when it is given up. `Full`: nothing has
--- changed. Damage is found only where something was not sound.
-pub record ClaimsOnePage {S T : Type 0} (g : Ghosts S) (sound : Type 0) (old new : S)
-    (result : Result T Stop) : Type 0
-  where
-    pub full : IsTrue g.tells → IsErrOf result Full → HasNone (g.ground old) (g.working old)
-    pub unchanged : IsErrOf result Full → g.working new ≡ g.working old
-    pub keeps : KeepsPages g old new
-    pub ends : EndsFile g sound old new result
-    pub frugal : ¬ IsErrOf result NoMemory
-
--- The same of a call that claims two pages for an owner at most. `Full`: it may have one of them.
+-- What a call that claims two pages for an owner at most keeps, and when it is given up. `Full`: it
+-- may have one of them.
 pub record ClaimsTwoPages {S T : Type 0} (g : Ghosts S) (owner : ℕ) (old new : S)
     (result : Result T Stop) : Type 0
   where

@@ -1,6 +1,7 @@
 // An entry is put on the pages where a search for its key ended.
 ghost use Rattle.std.specs.Prelude.{◌≡◌, ◌≤◌, ℕ, IsTrue, OnOk};
 ghost use Rattle.gx_ports.specs.declared.pages.TheConstants.{MAX_OWNER};
+ghost use Rattle.gx_ports.specs.FileCalls.{ClaimsOnePage};
 ghost use Rattle.gx_ports.specs.Sheets.{IsPast};
 ghost use Rattle.gx_slots.specs.Entries.{IsFit};
 ghost use Rattle.gx_bnode.specs.Page.{IsInnerPage, HasRoom, first_of, branches_of, separators_of};
@@ -8,7 +9,7 @@ ghost use Rattle.gx_btree.specs.declared.reading.Shape.TheVariants as shapes;
 ghost use Rattle.gx_btree.specs.Bplus.{Shows};
 ghost use Rattle.gx_btree.specs.Tree.{Tree, child_for};
 ghost use Rattle.gx_bplus.specs.Search.{IsHeld, IsReached, HasReached, HasPut};
-ghost use Rattle.gx_bplus.specs.Splits.{ClaimsOnePage, ClaimsTwoPages};
+ghost use Rattle.gx_bplus.specs.Splits.{ClaimsTwoPages};
 
 use crate::insertion::{set_entry, spread};
 use crate::splitting::{divide, raise};

@@ -4,6 +4,7 @@ ghost use Rattle.std.specs.Bool.{OnTrue, OnFalse};
 ghost use Rattle.std.specs.List.{insert};
 ghost use Rattle.gx_bytes.specs.declared.page.TheConstants.{PAGE_LEN};
 ghost use Rattle.gx_ports.specs.declared.pages.TheConstants.{MAX_OWNER};
+ghost use Rattle.gx_ports.specs.FileCalls.{ClaimsOnePage};
 ghost use Rattle.gx_ports.specs.Sheets.{IsPast};
 ghost use Rattle.gx_bnode.specs.declared.format.TheConstants.{MAX_SEPARATOR_LEN};
 ghost use Rattle.gx_bnode.specs.Branches.{AreAscending};
@@ -12,7 +13,7 @@ ghost use Rattle.gx_btree.specs.Order.{IsBelow};
 ghost use Rattle.gx_btree.specs.Tree.{Tree, ShowsInner, child_for, with_branch};
 ghost use Rattle.gx_bplus.specs.Changes.{MayStand};
 ghost use Rattle.gx_bplus.specs.Search.{IsHeld, IsReached, HasReached, HasCome};
-ghost use Rattle.gx_bplus.specs.Splits.{IsDivided, IsRaised, ClaimsOnePage, ClaimsTwoPages};
+ghost use Rattle.gx_bplus.specs.Splits.{IsDivided, IsRaised, ClaimsTwoPages};
 
 use gx_bnode::{child_of, has_room, insert, make_inner, separator, separators, split};
 use gx_btree::child_for;

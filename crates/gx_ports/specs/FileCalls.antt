@@ -12,7 +12,18 @@ use Rattle.gx_ports.specs.declared.stop.Stop.TheVariants.{Full, NoMemory}
 use Rattle.gx_ports.specs.Files.{IsVacant, ClaimsRoots, OthersStay, EndsFile, Holds, IsWhole, SparesOthers, IsFull}
 use Rattle.gx_ports.specs.LeafMaps.{LeafMap, Extends, selected}
 use Rattle.gx_ports.specs.PageCalls.{KeepsPages, ReadsPages, CountsPageFaults}
-use Rattle.gx_ports.specs.Sheets.{Sheets}
+use Rattle.gx_ports.specs.Sheets.{Sheets, HasNone}
+
+-- What a call that claims one page at most keeps, and when it is given up. `Full`: nothing has
+-- changed. Damage is found only where something was not sound.
+pub record ClaimsOnePage {S T : Type 0} (g : Ghosts S) (sound : Type 0) (old new : S)
+    (result : Result T Stop) : Type 0
+  where
+    pub full : IsTrue g.tells → IsErrOf result Full → HasNone (g.ground old) (g.working old)
+    pub unchanged : IsErrOf result Full → g.working new ≡ g.working old
+    pub keeps : KeepsPages g old new
+    pub ends : EndsFile g sound old new result
+    pub frugal : ¬ IsErrOf result NoMemory
 
 module _ {S : Type 0} (g : Ghosts S) (IsFile : Sheets → LeafMap → Type 0) where
   -- an empty file is made, where the roots are free and the owner has no page
