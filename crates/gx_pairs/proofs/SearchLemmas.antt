@@ -1,34 +1,17 @@
 -- Calls that read a stored file or link: one that passes, and one that stops.
-use Rattle.std.proofs.Common.{◌≡◌, ℕ, List, Result, Ok, Err, arith}
+use Rattle.std.proofs.Common.{◌≡◌, ℕ, List, Result, Ok, Err}
 use Rattle.std.specs.Prelude.{Bool, IsErrAnd, IfOk}
 use Rattle.gx_values.specs.declared.values.Value.{Value}
 use Rattle.gx_ports.specs.declared.stop.Stop.{Stop}
 use Rattle.gx_ports.specs.declared.view.View.{Ghosts}
 use Rattle.gx_ports.specs.LeafMaps.{LeafMap}
 use Rattle.gx_ports.specs.Calls.{ReadsMaps}
-use Rattle.gx_stack.proofs.PassLemmas.{Passes}
 use Rattle.gx_model.specs.States.{File}
 use Rattle.gx_links.specs.Links.{Link}
 use Rattle.gx_links.specs.Linksets.{LinkRule, HasLink}
 use Rattle.gx_pairs.specs.declared.stored.StoredLink.{StoredLink}
 use Rattle.gx_pairs.specs.Stored.{HaveLink}
 use Rattle.gx_pairs.specs.Search.{ReadsLink, LooksInLink, ReadsLinkedFiles, FindsMembers}
-
--- calls that passed, and an answer
-pub reads_passed : {S T : Type 0} (g : Ghosts S) {sound : Type 0} {old new : S} (x : T)
-    → Passes g old new → ReadsMaps g sound old new (Ok x)
-reads_passed g x passed = record {
-  reads = passed.reads;
-  ends = record {
-    whole = passed.whole;
-    later = omega (arith, passed.counted);
-    fault = λ is. let clash : ⊥ = cc in absurd clash;
-    counted = λ _. passed.counted;
-    damaged = λ block is sound. let clash : ⊥ = cc in clash;
-  };
-  block = λ n is whole. let clash : ⊥ = cc in absurd clash;
-  not_full = λ is. let clash : ⊥ = cc in clash;
-}
 
 -- nothing is said of what is in an answer that is none
 pub if_stopped : {T : Type 0} (why : Stop) (result : Result T Stop) (P : T → Type 0)

@@ -21,7 +21,7 @@ use Rattle.gx_ports.specs.declared.leaves.Entry.{Entry}
 use Rattle.gx_ports.specs.LeafMaps.{LeafMap, map_at, entry_of, selected, counted}
 use Rattle.gx_actual.specs.Bodies.{body_of}
 use Rattle.gx_split.specs.Groups.{chosen, defaults_of}
-use Rattle.gx_split.specs.GroupLaws.{fit_length}
+use Rattle.gx_mapping.proofs.FieldLemmas.{fit_length}
 use Rattle.gx_gather.proofs.Lists.{none_some, bool_cases}
 use Rattle.gx_stack.specs.Tree.{Tree, leaves_of}
 use Rattle.gx_types.specs.declared.any.AnyMapping.{AnyMapping}

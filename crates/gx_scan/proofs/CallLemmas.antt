@@ -1,12 +1,13 @@
 -- How calls end, told of other answers and of other states that are sound.
-use Rattle.std.proofs.Common.{◌∙◌, ◌++◌, List, Result, Ok, Err, sym, ap, subst, append_assoc}
+use Rattle.std.proofs.Common.{◌∙◌, ◌++◌, List, Result, Ok, Err, sym, ap, subst, arith, append_assoc}
 use Rattle.std.specs.Prelude.{IfOk, OnOk}
 use Rattle.gx_schema.specs.declared.schema.FileDef.{FileDef}
-use Rattle.gx_ports.specs.Calls.{Ends, Reads}
+use Rattle.gx_ports.specs.Calls.{Ends, Reads, ReadsMaps}
 use Rattle.gx_ports.specs.LeafMaps.{LeafMap, Extends}
 use Rattle.gx_ports.specs.declared.stop.Stop.{Stop}
 use Rattle.gx_ports.specs.declared.view.View.{Ghosts}
 use Rattle.gx_stack.specs.Tree.{Tree}
+use Rattle.gx_stack.proofs.PassLemmas.{Passes}
 use Rattle.gx_types.specs.declared.any.AnyMapping.{AnyMapping}
 use Rattle.gx_scan.specs.Files.{IsInternal, HasFile}
 
@@ -58,3 +59,19 @@ extends_further {A} xs ys zs front more = (
   front.0 ++ more.0,
   more.1 ∙ ap (λ (l : List A). l ++ more.0) front.1 ∙ append_assoc xs front.0 more.0,
 )
+
+-- a call that passed, with an answer
+pub reads_passed : {S T : Type 0} (g : Ghosts S) {before : Type 0} {a b : S} (x : T)
+    → Passes g a b → ReadsMaps g before a b (Ok x)
+reads_passed g x p = record {
+  reads = p.reads;
+  ends = record {
+    whole = p.whole;
+    later = omega (arith, p.counted);
+    fault = λ is. absurd cc;
+    counted = λ _. p.counted;
+    damaged = λ block is. absurd cc;
+  };
+  block = λ n is. absurd cc;
+  not_full = λ is. cc;
+}

@@ -27,7 +27,7 @@ use Rattle.gx_mapping.specs.declared.parts.Part.{Part}
 use Rattle.gx_mapping.specs.Rule.{Rule, In, IsOf}
 use Rattle.gx_mapping.proofs.RuleLemmas.{all_in}
 use Rattle.gx_split.specs.Forms.{column_form}
-use Rattle.gx_split.specs.GroupLaws.{fit_length}
+use Rattle.gx_mapping.proofs.FieldLemmas.{fit_length}
 use Rattle.gx_split.specs.TransposeRules.{column_part, columns, transpose_rule}
 use Rattle.gx_stack.specs.declared.entries.LeafEntry.{LeafEntry}
 use Rattle.gx_stack.specs.Tree.{Tree, Kids, layer, kid, no_kids, kid_count, leaves_of, kids_leaves, tree_form, entries_of, kid_entries, IsValid, AreValid}

@@ -1,6 +1,6 @@
 -- The places of a transposition's children, and what is read of the entries in its columns.
 use Rattle.std.proofs.Common.{[], ◌≡◌, ℕ, Bool, zero, suc, ◌+◌, ◌<◌, ◌≤◌, List, ◌∷◌, ◌++◌, length, take, drop, get_or, map, Option, Some, refl, sym, ap, subst, ◌∙◌, arith, append_assoc}
-use Rattle.std.specs.Prelude.{filter, slice_get, Ok}
+use Rattle.std.specs.Prelude.{filter, slice_get}
 use Rattle.std.specs.List.{AllByRecursion}
 use Rattle.std.proofs.lemmas.Grind.{flat_map-append}
 use Rattle.std.proofs.lemmas.List.{length-map, take_all, take_more}
@@ -17,11 +17,9 @@ use Rattle.gx_schema.specs.declared.schema.FileDef.{FileDef}
 use Rattle.gx_schema.specs.Lookups.{data_fields}
 use Rattle.gx_ports.specs.declared.leaves.Entry.{Entry}
 use Rattle.gx_ports.specs.LeafMaps.{entry_of}
-use Rattle.gx_ports.specs.Calls.{ReadsMaps}
-use Rattle.gx_ports.specs.declared.view.View.{Ghosts}
 use Rattle.gx_actual.specs.Bodies.{field_bytes, body_of}
 use Rattle.gx_mapping.specs.Rule.{Rule}
-use Rattle.gx_split.specs.GroupLaws.{fit_length}
+use Rattle.gx_mapping.proofs.FieldLemmas.{fit_length}
 use Rattle.gx_split.specs.TransposeRules.{transpose_rule, form_of, rule_of}
 use Rattle.gx_split.specs.declared.layer.Transpose.{Transpose}
 use Rattle.gx_stack.specs.declared.node.Node.{Node}
@@ -29,7 +27,6 @@ use Rattle.gx_stack.specs.declared.node.LayerNode.{LayerNode}
 use Rattle.gx_stack.specs.declared.node.Node.TheVariants as nodes
 use Rattle.gx_stack.specs.Tree.{tree_form, IsValid}
 use Rattle.gx_stack.specs.Seen.{tree_of, kids_from}
-use Rattle.gx_stack.proofs.PassLemmas.{Passes}
 use Rattle.gx_stack.proofs.Seen.{seen_layer, layer_form, count_kids, child_there, child_valid}
 use Rattle.gx_gather.proofs.Lists.{none_some}
 use Rattle.gx_types.specs.declared.any.AnyMapping.{AnyMapping}
@@ -241,20 +238,3 @@ value_pushed vs i before items after bytes lt so_far is pushed =
     pushed ∙ (λ j. so_far j ++ is j) ∙ append_assoc before (body_of (take i vs)) (body_of last)
     ∙ ap (λ (l : List ℕ). before ++ l) (sym (ap body_of (take_more vs i no_value lt)
     ∙ flat_map-append field_bytes (take i vs) last))
-
--- ---- calls that passed
-
-pub reads_passed : {S T : Type 0} (g : Ghosts S) {before : Type 0} {a b : S} (x : T)
-    → Passes g a b → ReadsMaps g before a b (Ok x)
-reads_passed g x p = record {
-  reads = p.reads;
-  ends = record {
-    whole = p.whole;
-    later = omega (arith, p.counted);
-    fault = λ is. absurd cc;
-    counted = λ _. p.counted;
-    damaged = λ block is. absurd cc;
-  };
-  block = λ n is. absurd cc;
-  not_full = λ is. cc;
-}

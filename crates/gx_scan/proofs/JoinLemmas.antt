@@ -30,7 +30,8 @@ use Rattle.gx_mapping.proofs.RuleLemmas.{all_in}
 use Rattle.gx_gather.proofs.Lists.{from_map, in_filter, all_of}
 use Rattle.gx_gather.proofs.Orders.{Ascends, not_before_itself}
 use Rattle.gx_split.specs.Groups.{chosen, defaults_of, are_default}
-use Rattle.gx_split.specs.GroupLaws.{fit_length, chosen_fit, only_defaults}
+use Rattle.gx_mapping.proofs.FieldLemmas.{fit_length}
+use Rattle.gx_split.specs.GroupLaws.{chosen_fit, only_defaults}
 use Rattle.gx_model.specs.States.{Row, IsRowOf}
 use Rattle.gx_model.specs.Found.{meets_cond, meets_conds}
 use Rattle.gx_scan.specs.declared.groups.Groups.{Groups}

@@ -1,5 +1,5 @@
 -- The entries of records whose bytes stand in pieces, in the one leaf of their node.
-use Rattle.std.proofs.Common.{[], ◌≡◌, ℕ, zero, suc, ◌+◌, ◌-◌, ◌*◌, ◌/◌, ◌<◌, ◌≤◌, ◌^◌, List, ◌∷◌, ◌++◌, length, length-append, get_or, map, cond, Bool, true, false, Option, inl, inr, refl, sym, ap, subst, ◌∙◌, arith, append-nil}
+use Rattle.std.proofs.Common.{[], ◌≡◌, ℕ, suc, ◌+◌, ◌-◌, ◌*◌, ◌/◌, ◌<◌, ◌≤◌, ◌^◌, List, ◌∷◌, ◌++◌, length, length-append, get_or, map, cond, Bool, true, false, Option, inl, inr, refl, sym, ap, subst, ◌∙◌, arith, append-nil}
 use Rattle.std.specs.Prelude.{filter, pos, ◌&&◌}
 use Rattle.std.specs.FinMap as fin
 use Rattle.std.specs.Int.{w64}
@@ -33,7 +33,8 @@ use Rattle.gx_actual.specs.Forms.{actual_form}
 use Rattle.gx_actual.specs.Laws.{body_width}
 use Rattle.gx_actual.specs.Rules.{actual_rec, actual_rule}
 use Rattle.gx_divide.specs.declared.layer.Divide.{Divide}
-use Rattle.gx_divide.specs.Pieces.{cut, pieces}
+use Rattle.gx_divide.specs.Laws.{cut_count}
+use Rattle.gx_divide.specs.Pieces.{pieces}
 use Rattle.gx_divide.specs.Rules.{divide_rule, numbered, size_of}
 use Rattle.gx_ports.specs.declared.leaves.Entry.{Entry}
 use Rattle.gx_ports.specs.LeafMaps.{LeafMap, map_at, entry_of, selected, counted}
@@ -187,14 +188,10 @@ module _ (t : Tree AnyMapping) (p : Pieces) (are : ArePieces t p) where
 
 -- ---- how many pieces there are
 
-cut_many : (more size : ℕ) (bytes : List ℕ) → length (cut more size bytes) ≡ suc more
-cut_many zero size bytes = refl
-cut_many (suc more) size bytes = ap suc (cut_many more size _)
-
 pieces_few : (size : ℕ) (bytes : List ℕ) → length (pieces size bytes) ≤ length bytes + 1
 pieces_few size bytes = omega (
   arith,
-  cut_many (length bytes / size) size bytes,
+  cut_count (length bytes / size) size bytes,
   div-le_self (length bytes) size,
 )
 

@@ -14,7 +14,7 @@ use Rattle.gx_values.proofs.CopyLemmas.{fit_sized}
 use Rattle.gx_mapping.specs.declared.parts.Part.{Part}
 use Rattle.gx_mapping.specs.Rule.{In, AreOfKey, IsGathered}
 use Rattle.gx_mapping.proofs.RuleLemmas.{whole_key, all_data}
-use Rattle.gx_split.specs.GroupLaws.{fit_length}
+use Rattle.gx_mapping.proofs.FieldLemmas.{fit_length}
 use Rattle.gx_split.specs.TransposeRules.{column_part, columns, transpose_rule, first_value, column_values, IsAlone}
 
 other_number : (a b : ℕ) → (a ≡ b → ⊥) → nat_eq a b ≡ false

@@ -2,6 +2,7 @@
 use Rattle.std.proofs.Common.{◌≡◌, ℕ, zero, suc, List, [], ◌∷◌, length, map, cond, Bool, true, false, Some, refl, sym, ap, ◌∙◌, arith}
 use Rattle.std.specs.Prelude.{◌&&◌, ◌||◌, not, nat_eq, slice_index_or}
 use Rattle.std.specs.Cmp.Lexicographic.{pointwise}
+use Rattle.gx_laws.proofs.BoolLemmas.{both_parts}
 use Rattle.gx_values.specs.declared.values.Value.{Value}
 use Rattle.gx_values.specs.declared.records.Field.{Field}
 use Rattle.gx_values.specs.Values.{AreFit, is_default}
@@ -14,13 +15,6 @@ use Rattle.gx_split.specs.Groups.{marks, chosen, merge, defaults_of, are_default
 pub length_marks : (ns : List ℕ) (i n : ℕ) → length (marks ns i n) ≡ n
 length_marks ns i zero = refl
 length_marks ns i (suc n) = ap suc (length_marks ns (suc i) n)
-
--- one value for each field
-pub fit_length : (fs : List Field) (vs : List Value) → AreFit fs vs → length fs ≡ length vs
-fit_length [] [] fit = refl
-fit_length [] (v ∷ vs) fit = absurd fit
-fit_length (f ∷ fs) [] fit = absurd fit
-fit_length (f ∷ fs) (v ∷ vs) fit = ap suc (fit_length fs vs fit.1)
 
 -- ---- both groups, merged
 
@@ -72,18 +66,13 @@ merged (false ∷ mask) (x ∷ fs) first (v ∷ others) same f g =
 
 -- ---- defaults
 
-both : (a b : Bool) → a && b ≡ true → (a ≡ true) × (b ≡ true)
-both true true e = (refl, refl)
-both true false e = cc
-both false b e = cc
-
 pub only_defaults : (fs : List Field) (vs : List Value) → AreFit fs vs → are_default fs vs ≡ true
     → vs ≡ defaults_of fs
 only_defaults [] [] fit are = refl
 only_defaults [] (v ∷ vs) fit are = absurd fit
 only_defaults (f ∷ fs) [] fit are = absurd fit
 only_defaults (f ∷ fs) (v ∷ vs) fit are =
-    let b = both (is_default f v) (are_default fs vs) are in
+    let b = both_parts (is_default f v) (are_default fs vs) are in
     let here = default_only f v b.0 in
     let rest = only_defaults fs vs fit.1 b.1 in
     λ i. here i ∷ rest i

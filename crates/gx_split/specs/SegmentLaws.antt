@@ -7,10 +7,10 @@ use Rattle.gx_values.specs.declared.records.Rec.{Rec}
 use Rattle.gx_mapping.specs.declared.parts.Part.{Part}
 use Rattle.gx_mapping.specs.Rule.{In, IsOf, part_cmp, is_field, first_in}
 use Rattle.gx_mapping.specs.Laws.{MappingLaws, IsCarried, IsCarrier}
-use Rattle.gx_mapping.proofs.FieldLemmas.{has_value}
+use Rattle.gx_mapping.proofs.FieldLemmas.{has_value, fit_length}
 use Rattle.gx_mapping.proofs.RuleLemmas.{all_data}
 use Rattle.gx_split.specs.Groups.{chosen, merge}
-use Rattle.gx_split.specs.GroupLaws.{fit_length, merge_chosen, chosen_fit, only_defaults, chosen_kind, chosen_value}
+use Rattle.gx_split.specs.GroupLaws.{merge_chosen, chosen_fit, only_defaults, chosen_kind, chosen_value}
 use Rattle.gx_split.specs.Forms.{segment_form}
 use Rattle.gx_split.specs.SegmentRules.{first_part, other_part, is_short, segment_parts, is_first, segment_rule}
 

@@ -8,6 +8,7 @@ use Rattle.std.specs.Ordering.{nat_cmp, ordering_then}
 use Rattle.std.specs.declared.cmp.Ordering.TheVariants.{Less}
 use Rattle.std.proofs.lemmas.Bool.Decides.{nat_tests}
 use Rattle.gx_laws.proofs.NumberLemmas.{equal_from_nat_eq, nat_eq_itself}
+use Rattle.gx_laws.proofs.BoolLemmas.{both_parts}
 use Rattle.gx_values.specs.declared.values.Value.{Value}
 use Rattle.gx_values.specs.declared.records.Field.{Field}
 use Rattle.gx_values.specs.declared.records.Form.{Form}
@@ -16,9 +17,8 @@ use Rattle.gx_values.specs.Values.{values_cmp, Fits, AreFit, no_field, no_value}
 use Rattle.gx_mapping.specs.declared.parts.Part.{Part}
 use Rattle.gx_mapping.specs.Rule.{In, IsOf, part_cmp, value_in, kind_in, is_field, first_in}
 use Rattle.gx_mapping.specs.Laws.{MappingLaws, IsCarried, IsCarrier}
-use Rattle.gx_mapping.proofs.FieldLemmas.{has_value, first_within}
+use Rattle.gx_mapping.proofs.FieldLemmas.{has_value, first_within, fit_length}
 use Rattle.gx_mapping.proofs.RuleLemmas.{all_data}
-use Rattle.gx_split.specs.GroupLaws.{fit_length}
 use Rattle.gx_split.specs.Forms.{column_form}
 use Rattle.gx_split.specs.TransposeRules.{column_part, columns, transpose_rule, first_value}
 
@@ -163,11 +163,6 @@ column_value (f ∷ fs) (v ∷ vs) name fit there =
     by_test later true t_is have = ap (λ (u : Bool). cond u (Some v) None) (sym t_is)
     by_test later false t_is have = later have
 
-both : (a b : Bool) → a && b ≡ true → (a ≡ true) × (b ≡ true)
-both true true e = (refl, refl)
-both true false e = cc
-both false b e = cc
-
 only_column : (form : Form) (name : List ℕ) (r : Rec) (q : Part) → IsColumn r.key 0 r.fields q
     → (transpose_rule form).carries q.child name ≡ true
     → q ≡ column_part r.key (first_in form.fields name)
@@ -176,7 +171,7 @@ only_column form name r q column carries =
     let child : q.child ≡ 0 + column.at = ap (λ (p : Part). p.child) column.is in
     let number =
     equal_from_nat_eq (first_in form.fields name) q.child
-    (both (is_field form.fields name) (nat_eq (first_in form.fields name) q.child) carries).1 in
+    (both_parts (is_field form.fields name) (nat_eq (first_in form.fields name) q.child) carries).1 in
     let at : column.at ≡ first_in form.fields name = omega arith in
     let none : 0 + column.at ≡ first_in form.fields name = omega arith in
     column.is ∙ (λ i. column_part r.key (none i) (get_or r.fields (at i) no_value))
@@ -206,7 +201,7 @@ carried_by form name r there is =
 carrier : (form : Form) (name : List ℕ) (c : ℕ) → (transpose_rule form).carries c name ≡ true
     → IsCarrier (transpose_rule form) name c
 carrier form name c carries =
-    let b = both (is_field form.fields name) (nat_eq (first_in form.fields name) c) carries in
+    let b = both_parts (is_field form.fields name) (nat_eq (first_in form.fields name) c) carries in
     subst (IsCarrier (transpose_rule form) name) (equal_from_nat_eq (first_in form.fields name) c b.1)
     (record {
       rest = refl;

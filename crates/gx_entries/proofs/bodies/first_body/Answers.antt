@@ -4,7 +4,7 @@ use Rattle.gx_values.specs.declared.values.Value.{Value}
 use Rattle.gx_values.specs.Values.{AreFit}
 use Rattle.gx_actual.specs.Bodies.{body_of, HasLength}
 use Rattle.gx_split.specs.Groups.{chosen}
-use Rattle.gx_split.specs.GroupLaws.{fit_length}
+use Rattle.gx_mapping.proofs.FieldLemmas.{fit_length}
 use Rattle.gx_types.specs.declared.any.AnyMapping.{AnyMapping}
 use Rattle.gx_types.specs.Any.{any_rule}
 use Rattle.gx_entries.proofs.BodyLemmas.{layer_data}

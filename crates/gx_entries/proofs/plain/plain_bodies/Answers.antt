@@ -1,5 +1,5 @@
 use Rattle.std.proofs.Common.{◌∙◌, length, ap, sym}
-use Rattle.gx_split.specs.GroupLaws.{fit_length}
+use Rattle.gx_mapping.proofs.FieldLemmas.{fit_length}
 use Rattle.gx_entries.proofs.plain.plain_bodies.Goals as goal
 
 pub plain_body-requires-clause-long : goal.plain_body-requires-clause-long

@@ -3,11 +3,11 @@ use Rattle.std.specs.Prelude.{◌&&◌, is_some}
 use Rattle.std.specs.FinMap as fin
 use Rattle.gx_ports.specs.LeafMaps.{LeafMap}
 use Rattle.gx_scan.specs.Files.{IsInternal}
-use Rattle.gx_scan.proofs.CallLemmas.{ok_one}
+use Rattle.gx_scan.proofs.CallLemmas.{ok_one, reads_passed}
 use Rattle.gx_stack.proofs.PassLemmas.{read_passes, reads_after, reads_given}
 use Rattle.gx_pairs.specs.Stored.{file_of, node_tree}
 use Rattle.gx_pairs.proofs.LinkedLemmas.{owners_there, members_there, have_still}
-use Rattle.gx_pairs.proofs.SearchLemmas.{linked_stopped, reads_passed}
+use Rattle.gx_pairs.proofs.SearchLemmas.{linked_stopped}
 use Rattle.gx_pairs.proofs.changes.has_both.Goals as goal
 
 pub returns-in_err-has_record : goal.returns-in_err-has_record

@@ -3,7 +3,8 @@ use Rattle.gx_values.specs.declared.values.Value.{Value}
 use Rattle.gx_links.specs.Links.{members_of}
 use Rattle.gx_stack.proofs.PassLemmas.{read_passes, reads_given}
 use Rattle.gx_pairs.proofs.MemberLemmas.{kept_members, round_steps}
-use Rattle.gx_pairs.proofs.SearchLemmas.{looks_stopped, reads_passed}
+use Rattle.gx_scan.proofs.CallLemmas.{reads_passed}
+use Rattle.gx_pairs.proofs.SearchLemmas.{looks_stopped}
 use Rattle.gx_pairs.proofs.kept.keep_found.Goals as goal
 
 pub returns-in_err-members : goal.returns-in_err-members

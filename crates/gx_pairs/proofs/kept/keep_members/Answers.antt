@@ -1,11 +1,10 @@
 use Rattle.std.proofs.Common.{rules, ◌≡◌, ◌≤◌, ◌∙◌, ◌+◌, ◌*◌, length, refl, sym, arith}
 use Rattle.std.specs.Prelude.{◌==◌}
 use Rattle.gx_ports.proofs.CallLemmas.{reads_itself}
-use Rattle.gx_scan.proofs.CallLemmas.{ok_alone}
+use Rattle.gx_scan.proofs.CallLemmas.{ok_alone, reads_passed}
 use Rattle.gx_pairs.specs.Members.{is_member_of}
 use Rattle.gx_pairs.proofs.MemberLemmas.{none_kept, above_none, once_at_least}
 use Rattle.gx_pairs.proofs.kept.keep_members.Goals as goal
-use Rattle.gx_pairs.proofs.SearchLemmas.{reads_passed}
 
 pub returns-then-is_empty : goal.returns-then-is_empty
 returns-then-is_empty g c =

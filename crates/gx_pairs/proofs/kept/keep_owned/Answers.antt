@@ -15,7 +15,8 @@ use Rattle.gx_stack.proofs.PassLemmas.{reads_given_after}
 use Rattle.gx_pairs.specs.Stored.{IsStoredLinkset}
 use Rattle.gx_pairs.specs.Members.{is_member_of}
 use Rattle.gx_pairs.proofs.MemberLemmas.{row_kept, row_dropped, row_steps}
-use Rattle.gx_pairs.proofs.SearchLemmas.{looks_stopped, reads_passed}
+use Rattle.gx_scan.proofs.CallLemmas.{reads_passed}
+use Rattle.gx_pairs.proofs.SearchLemmas.{looks_stopped}
 use Rattle.gx_pairs.proofs.kept.keep_owned.Goals as goal
 
 pub loop-row-init : goal.loop-row-init

@@ -14,7 +14,8 @@ use Rattle.gx_pairs.specs.Members.{rows_meeting_at}
 use Rattle.gx_stack.proofs.PassLemmas.{passes_joined, read_passes, reads_given, reads_given_after}
 use Rattle.gx_pairs.proofs.LinkedLemmas.{owners_there, members_there, link_there, have_still}
 use Rattle.gx_pairs.proofs.MemberLemmas.{one_owner_steps, one_member_steps}
-use Rattle.gx_pairs.proofs.SearchLemmas.{finds_stopped, reads_passed}
+use Rattle.gx_scan.proofs.CallLemmas.{reads_passed}
+use Rattle.gx_pairs.proofs.SearchLemmas.{finds_stopped}
 use Rattle.gx_pairs.proofs.members.add_member_at.Goals as goal
 
 pub returns-in_err-has_record : goal.returns-in_err-has_record

@@ -10,7 +10,8 @@ use Rattle.gx_links.specs.Links.{members_of}
 use Rattle.gx_pairs.specs.Stored.{file_of, node_tree}
 use Rattle.gx_pairs.specs.Members.{member_rows}
 use Rattle.gx_pairs.proofs.MemberLemmas.{are_members, members_many, all_there, owner_steps, member_steps}
-use Rattle.gx_pairs.proofs.SearchLemmas.{finds_stopped, reads_passed}
+use Rattle.gx_scan.proofs.CallLemmas.{reads_passed}
+use Rattle.gx_pairs.proofs.SearchLemmas.{finds_stopped}
 use Rattle.gx_pairs.proofs.members.add_members.Goals as goal
 
 pub returns-in_err-has_record : goal.returns-in_err-has_record

@@ -3,7 +3,8 @@ use Rattle.std.specs.Prelude.{◌==◌, not}
 use Rattle.gx_values.specs.declared.values.Value.{Value}
 use Rattle.gx_stack.proofs.PassLemmas.{read_passes, reads_given}
 use Rattle.gx_pairs.proofs.MemberLemmas.{some_member}
-use Rattle.gx_pairs.proofs.SearchLemmas.{link_stopped, reads_passed}
+use Rattle.gx_scan.proofs.CallLemmas.{reads_passed}
+use Rattle.gx_pairs.proofs.SearchLemmas.{link_stopped}
 use Rattle.gx_pairs.proofs.members.has_members.Goals as goal
 
 pub returns-in_err-members : goal.returns-in_err-members

@@ -6,7 +6,8 @@ use Rattle.gx_scan.specs.Files.{IsInternal}
 use Rattle.gx_stack.proofs.PassLemmas.{passes_joined, read_passes, reads_given, reads_given_after}
 use Rattle.gx_pairs.specs.Stored.{file_of, node_tree}
 use Rattle.gx_pairs.proofs.LinkedLemmas.{looked_up, owners_there, members_there, link_there, have_still}
-use Rattle.gx_pairs.proofs.SearchLemmas.{linked_stopped, reads_passed}
+use Rattle.gx_scan.proofs.CallLemmas.{reads_passed}
+use Rattle.gx_pairs.proofs.SearchLemmas.{linked_stopped}
 use Rattle.gx_pairs.proofs.owners.find_owner.Goals as goal
 
 pub returns-in_err-has_record : goal.returns-in_err-has_record

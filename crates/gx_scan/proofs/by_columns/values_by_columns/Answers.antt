@@ -12,12 +12,13 @@ use Rattle.gx_ports.specs.declared.leaves.Entry.{Entry}
 use Rattle.gx_ports.specs.LeafMaps.{LeafMap}
 use Rattle.gx_ports.proofs.CallLemmas.{reads_itself, reads_joined}
 use Rattle.gx_gather.proofs.Lists.{in_read}
-use Rattle.gx_split.specs.GroupLaws.{fit_length}
+use Rattle.gx_mapping.proofs.FieldLemmas.{fit_length}
 use Rattle.gx_stack.specs.Seen.{tree_of}
 use Rattle.gx_stack.proofs.PassLemmas.{passes_joined, read_passes, reads_stopped}
 use Rattle.gx_scan.specs.declared.places.Place.{Place}
 use Rattle.gx_scan.proofs.ColumnLemmas.{columns_many, column_there, column_coded, row_there, row_fit, steps_key, many_found, one_found, body_found, no_record, some_record, found_cases}
-use Rattle.gx_scan.proofs.ColumnSteps.{field_fits, reads_passed}
+use Rattle.gx_scan.proofs.CallLemmas.{reads_passed}
+use Rattle.gx_scan.proofs.ColumnSteps.{field_fits}
 use Rattle.gx_scan.proofs.StepLemmas.{counted_most}
 use Rattle.gx_scan.proofs.by_columns.values_by_columns.Goals as goal
 

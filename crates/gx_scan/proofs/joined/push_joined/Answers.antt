@@ -4,7 +4,7 @@ use Rattle.std.proofs.lemmas.List.{take_all}
 use Rattle.gx_actual.specs.Bodies.{field_bytes, body_of}
 use Rattle.gx_actual.proofs.BodyLemmas.{item_short}
 use Rattle.gx_split.specs.Groups.{chosen}
-use Rattle.gx_split.specs.GroupLaws.{fit_length}
+use Rattle.gx_mapping.proofs.FieldLemmas.{fit_length}
 use Rattle.gx_scan.proofs.JoinLemmas.{joined_at}
 use Rattle.gx_scan.proofs.joined.push_joined.Goals as goal
 

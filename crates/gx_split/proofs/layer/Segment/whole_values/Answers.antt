@@ -2,7 +2,7 @@ use Rattle.std.proofs.Common.{rules, ◌≡◌, ◌∙◌, ℕ, length, ap, subs
 use Rattle.gx_values.specs.declared.records.Form.{Form}
 use Rattle.gx_values.specs.Values.{AreFit}
 use Rattle.gx_split.specs.Forms.{segment_form}
-use Rattle.gx_split.specs.GroupLaws.{fit_length}
+use Rattle.gx_mapping.proofs.FieldLemmas.{fit_length}
 use Rattle.gx_split.proofs.layer.Segment.whole_values.Goals as goal
 
 pub are_default-requires : goal.are_default-requires

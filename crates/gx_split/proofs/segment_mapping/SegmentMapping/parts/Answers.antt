@@ -2,7 +2,7 @@ use Rattle.std.proofs.Common.{◌∙◌, length, ap}
 use Rattle.std.specs.Prelude.{not}
 use Rattle.std.proofs.lemmas.List.{length-map}
 use Rattle.gx_values.proofs.CopyLemmas.{are_sized}
-use Rattle.gx_split.specs.GroupLaws.{fit_length}
+use Rattle.gx_mapping.proofs.FieldLemmas.{fit_length}
 use Rattle.gx_split.proofs.segment_mapping.SegmentMapping.parts.Goals as goal
 
 pub group_part-requires : goal.group_part-requires

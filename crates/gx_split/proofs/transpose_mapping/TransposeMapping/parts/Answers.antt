@@ -1,6 +1,6 @@
 use Rattle.std.proofs.Common.{arith}
 use Rattle.gx_values.proofs.CopyLemmas.{are_sized}
-use Rattle.gx_split.specs.GroupLaws.{fit_length}
+use Rattle.gx_mapping.proofs.FieldLemmas.{fit_length}
 use Rattle.gx_split.proofs.transpose_mapping.TransposeMapping.parts.Goals as goal
 
 pub columns-requires : goal.columns-requires
