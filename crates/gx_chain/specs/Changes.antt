@@ -25,7 +25,8 @@ pub record HasKey (sheets : Sheets) (page : ℕ) (key : List ℕ) : Type 0 where
 -- no entry has the key, and one with this body has room behind them
 pub record HasRoomFor (entries : List Entry) (key body : List ℕ) : Type 0 where
   pub other : All (λ entry. entry.key ≢ key) entries
-  pub room : used_by (insert entries (length entries) (record { key = key; body = body })) ≤ PAGE_LEN
+  pub room : used_by (insert entries (length entries) (record { key = key; body = body }))
+      ≤ PAGE_LEN
 
 -- an entry page has such room
 pub record HasRoom (sheets : Sheets) (page : ℕ) (key body : List ℕ) : Type 0 where

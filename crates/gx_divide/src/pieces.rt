@@ -55,8 +55,8 @@ fn piece_key(alloc: Global, key: &Values, number: u32) -> Result<Values, NoMemor
     Ok(Values(values))
 }
 
-/// The one piece of a record whose bytes are fewer than those of a piece. `NoMemory`: there was none
-/// for its key.
+/// The one piece of a record whose bytes are fewer than those of a piece. `NoMemory`: there was
+/// none for its key.
 pub(crate) fn only_piece(alloc: Global, rec: Rec) -> Result<Part, NoMemory>
     requires { AreSized rec.key }
     ensures { IfOk result (λ part. part ≡ record {

@@ -136,7 +136,8 @@ fn put_short<B: Leaves>(
     requires second { second < length (B.working leaves.old) }
     requires entry { length bytes.now + length body.now ≤ MAX_ENTRY_LEN }
     ensures done { B.whole leaves.old → OnOk result (B.working leaves.new
-        ≡ with_entry (if has_record previous then without_entry (B.working leaves.old) second bytes.now
+        ≡ with_entry (if has_record previous
+        then without_entry (B.working leaves.old) second bytes.now
         else B.working leaves.old) first bytes.now body.now) }
     ensures others { (n : ℕ) → B.whole leaves.old → ¬ IsErrOf result Stop.Fault →
         n ≢ first → n ≢ second →

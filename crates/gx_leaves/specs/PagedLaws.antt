@@ -17,8 +17,11 @@ module _ (tells : Bool) (steady : Type 0) (base : Ground) (places : List Place)
   pub whole_each : AreWhole tells steady base places sheets → (leaf : ℕ)
       → IsWholeAt tells base places sheets leaf
   whole_each whole leaf =
-      record
-      { told = whole.told; table = whole.laid.table; held = λ place at. whole.laid.each leaf place at }
+      record {
+        told = whole.told;
+        table = whole.laid.table;
+        held = λ place at. whole.laid.each leaf place at;
+      }
 
   pub whole_all : steady → 0 < length (maps_of base places sheets)
       → ((leaf : ℕ) → leaf < length (maps_of base places sheets)

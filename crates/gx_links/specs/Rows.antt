@@ -53,8 +53,14 @@ owner_entries rule ks rows o ms = flat_map (λ p. kid_entries rule ks p.child p.
 abbrev pub link_rule : {M : Type 0} (rule : M → Rule) → Kids M → (Value → List Value → List Part)
     → (owner member : Kind) → (ℕ → ℕ) → Bool → LinkRule
 link_rule rule ks rows owner member rounds finds =
-    record
-    { owner = owner; member = member; leaves = kids_leaves ks; entries = owner_entries rule ks rows; rounds = rounds; finds = finds }
+    record {
+      owner = owner;
+      member = member;
+      leaves = kids_leaves ks;
+      entries = owner_entries rule ks rows;
+      rounds = rounds;
+      finds = finds;
+    }
 
 -- the form of each of two nodes
 abbrev pub two_forms : Form → Form → ℕ → Form

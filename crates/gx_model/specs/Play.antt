@@ -49,8 +49,12 @@ abbrev pub next_of : Schema → Playing → Command → Playing
 next_of schema p command.Begin =
     record { earlier = p.earlier; kept = p.kept; working = Some p.kept; commits = p.commits }
 next_of schema p command.Commit =
-    record
-    { earlier = p.earlier ++ p.kept ∷ []; kept = seen_state p; working = None; commits = next_count p.commits }
+    record {
+      earlier = p.earlier ++ p.kept ∷ [];
+      kept = seen_state p;
+      working = None;
+      commits = next_count p.commits;
+    }
 next_of schema p command.Abort =
     record { earlier = p.earlier; kept = p.kept; working = None; commits = p.commits }
 next_of schema p c = with_working p (next_state schema (seen_state p) c)

@@ -36,8 +36,10 @@ link_in s i = slice_index_or s.links i fin.empty
 
 abbrev pub empty_state : Schema → State
 empty_state schema =
-    record
-    { files = replicate (length schema.files) fin.empty; links = replicate (length schema.links) fin.empty }
+    record {
+      files = replicate (length schema.files) fin.empty;
+      links = replicate (length schema.links) fin.empty;
+    }
 
 -- the values are one
 abbrev pub is_same : Value → Value → Bool

@@ -80,7 +80,8 @@ fn found_line(
     requires file { file < length schema.now.files }
     ensures { IfOk result
         (λ text. text
-        ≡ record_text (file_at schema.now file) key.now (fin.get (file_in state.now file) key.now)) }
+        ≡ record_text (file_at schema.now file) key.now
+        (fin.get (file_in state.now file) key.now)) }
 {
     match state.file(file).get(key) {
         None => Octets::from_slice(alloc, b"none\n"),

@@ -94,7 +94,8 @@ impl PlainState {
     pub fn connect(&mut self, link: u16, pair: Pair) -> Result<(), NoMemory>
         requires { link < length self.old.links }
         ensures { OnOk result
-            (self.new ≡ with_link self.old link (fin.insert (link_in self.old link) pair.0 pair.1)) }
+            (self.new ≡ with_link self.old link
+            (fin.insert (link_in self.old link) pair.0 pair.1)) }
     {
         self.links[usize::from(link)].insert(pair)
     }

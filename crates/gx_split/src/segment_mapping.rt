@@ -123,7 +123,8 @@ impl Segment {
         requires { IsOf (segment_form (mask_of self.now) (form_of self.now) first.now.child)
             first.now.rec }
         ensures { IfOk result
-            (λ found. found ≡ segment_values (mask_of self.now) (form_of self.now) (first.now ∷ [])) }
+            (λ found. found
+            ≡ segment_values (mask_of self.now) (form_of self.now) (first.now ∷ [])) }
     {
         if first.child != 0 {
             return Ok(None);

@@ -6,8 +6,8 @@ use Rattle.gx_play.specs.declared.status.Status.TheVariants as status
 use Rattle.gx_play.specs.Say.{SameDevices}
 use Rattle.gx_requests.specs.Words.{Action, IsCounted, IsOnDevice, request_words}
 
--- What each request on the device of that name leaves: all devices where it is refused, and those of
--- other names always.
+-- What each request on the device of that name leaves: all devices where it is refused, and those
+-- of other names always.
 pub record LeavesDevices (device : List ℕ) (old new : Content) (s : Status) : Type 0 where
   pub refused : s ≡ status.Refused → SameDevices old new
   pub others : (other : List ℕ) → other ≢ device → device_at new.now other ≡ device_at old.now other

@@ -105,8 +105,8 @@ pub fn typed(alloc: Global, schema: &Schema, equation: &Equation) -> Result<Typi
     // The places of the text are gone through in order: the first that fails has this line, and
     // this is its first reason.
     ensures first { (line : ℕ) (reason : TypeWhyOf) → result ≡ Err (Untyped.Mistyped line reason) →
-        IsFirstFault 0
-        (places schema.now (definitions_of equation.now.definitions)) equation.now.lines line reason }
+        IsFirstFault 0 (places schema.now (definitions_of equation.now.definitions))
+        equation.now.lines line reason }
     // The same by recursion on the terms.
     ensures exact { Answers (λ x. x) result
         (typing_of schema.now (definitions_of equation.now.definitions) equation.now.lines) }

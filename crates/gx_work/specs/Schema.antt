@@ -14,8 +14,12 @@ schema_lines =
 
 -- file 0: departments, by their numbers
 abbrev pub dept : FileDef
-dept = record
-    { name = codes "dept"; fields = record { name = codes "dno"; kind = kind.Int } ∷ record { name = codes "dname"; kind = kind.Text 12 } ∷ [] }
+dept = record {
+  name = codes "dept";
+  fields =
+      record { name = codes "dno"; kind = kind.Int }
+      ∷ record { name = codes "dname"; kind = kind.Text 12 } ∷ [];
+}
 
 -- file 1: employees, by their numbers; the pay is field 2
 abbrev pub emp : FileDef

@@ -27,14 +27,22 @@ owner_of i = i % 10
 -- the employees of the pay that the raises give
 abbrev pub by_pay : Find
 by_pay =
-    record
-    { file = 1; conds = record { field = 2; op = op.Equal; bound = int 1500 } ∷ []; of = None; order = record { field = 0; desc = false } }
+    record {
+      file = 1;
+      conds = record { field = 2; op = op.Equal; bound = int 1500 } ∷ [];
+      of = None;
+      order = record { field = 0; desc = false };
+    }
 
 -- the employees of department 3
 abbrev pub by_link : Find
 by_link =
-    record
-    { file = 1; conds = []; of = Some (record { link = 0; owner = int 3 }); order = record { field = 0; desc = false } }
+    record {
+      file = 1;
+      conds = [];
+      of = Some (record { link = 0; owner = int 3 });
+      order = record { field = 0; desc = false };
+    }
 
 -- the command that a task is
 abbrev pub command_of : Task → Command
