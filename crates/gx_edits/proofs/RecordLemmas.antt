@@ -1,7 +1,6 @@
 -- Records of a file: what is found of them, and what edits do.
 use Rattle.std.proofs.Common.{[], ◌≡◌, ℕ, zero, suc, ◌+◌, ◌-◌, ◌<◌, List, ◌∷◌, length, drop, get_or, set, Bool, true, false, Option, Some, None, refl, sym, ap, subst, ◌∙◌, arith}
 use Rattle.std.specs.Prelude.{is_some, unwrap_or}
-use Rattle.std.specs.Option.{option_map}
 use Rattle.std.specs.FinMap as fin
 use Rattle.gx_values.specs.declared.values.Value.{Value}
 use Rattle.gx_values.specs.declared.records.Field.{Field}
@@ -21,24 +20,14 @@ use Rattle.gx_types.specs.Any.{any_rule}
 use Rattle.gx_model.specs.States.{File, Row}
 use Rattle.gx_model.specs.Commands.{Refusal, changed, updated, first_refusal}
 use Rattle.gx_scan.specs.Files.{rec_of, records_of, IsInternal}
-use Rattle.gx_scan.specs.Records.{record_at}
 use Rattle.gx_edits.specs.Records.{IsEdited, IsEditedWhere}
 use Rattle.gx_edits.proofs.ChangeLemmas.{held_inserted, held_updated, held_removed, insert_fits, remove_fits}
 
 -- ---- what is found
 
-pub is_there : (f : File) (k : Value) (found : Option Rec) (some : Bool) → found ≡ record_at f k
-    → some ≡ is_some found → is_some (fin.get f k) ≡ some
-is_there f k found some e t = sym (t ∙ ap is_some e ∙ same (fin.get f k))
-  where
-    same : (o : Option (List Value))
-        → is_some (option_map (λ values. rec_of (k, values)) o) ≡ is_some o
-    same None = refl
-    same (Some values) = refl
-
-pub missing : (f : File) (k : Value) (found : Option Rec) (some : Bool) → found ≡ record_at f k
-    → some ≡ is_some found → some ≡ false → is_some (fin.get f k) ≡ false
-missing f k found some e t none = is_there f k found some e t ∙ none
+pub missing : (f : File) (k : Value) (found : Option (List Value)) (some : Bool)
+    → found ≡ fin.get f k → some ≡ is_some found → some ≡ false → is_some (fin.get f k) ≡ false
+missing f k found some e t none = sym (t ∙ ap is_some e) ∙ none
 
 -- ---- edits
 

@@ -20,7 +20,7 @@ use gx_commands::Changes;
 use gx_entries::{OwnLeaves, own_leaves};
 use gx_pairs::Refused;
 use gx_ports::{Leaves, Stop};
-use gx_scan::{find_record, find_values, whole_span};
+use gx_scan::{find_values, whole_span};
 use gx_schema::FileDef;
 use gx_stack::Node;
 use gx_types::AnyMapping;
@@ -55,7 +55,7 @@ pub(crate) fn insert_record<B: Leaves>(
     if let Some(own) = own_leaves(node) {
         return insert_own(alloc, file, node, own, &key, values, leaves);
     }
-    if find_record(alloc, file, node, &key, leaves)?.is_some() {
+    if find_values(alloc, file, node, &key, leaves)?.is_some() {
         return Ok(Some(Refused::KeyExists));
     }
     let new = new_record(alloc, key, values)?;

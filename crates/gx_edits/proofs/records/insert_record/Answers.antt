@@ -19,7 +19,7 @@ use Rattle.gx_edits.proofs.records.insert_record.Goals as goal
 pub replace-requires-clause-below : goal.replace-requires-clause-below
 replace-requires-clause-below g c =
     λ n h. subst (λ (maps : List LeafMap). n < length maps)
-    (sym c.find_record.ensures.reads.reads.working) (c.requires.can.tree.below n h)
+    (sym c.find_values.ensures.reads.reads.working) (c.requires.can.tree.below n h)
 
 pub replace-requires-clause-new_fits : goal.replace-requires-clause-new_fits
 replace-requires-clause-new_fits g c =
@@ -37,16 +37,16 @@ returns-in_err-replace g c = record {
   full = λ f whole is e.
       let t = tree_of c.args.node.now in
       let none = none_of (fin.get f c.args.key)
-      (missing f c.args.key c.in_ok-find_record.field-0 _
-      (c.in_ok-find_record.ensures.found f whole is) (c.is_some.ensures) c.if-is_some.false) in
+      (missing f c.args.key c.in_ok-find_values.field-0 _
+      (c.in_ok-find_values.ensures.found f whole is) (c.is_some.ensures) c.if-is_some.false) in
       let new = c.in_ok-new.ensures in
       let full = c.replace.ensures.replaces.full
-      (c.in_ok-find_record.ensures.reads.ends.whole whole) (search rules) in (
+      (c.in_ok-find_values.ensures.reads.ends.whole whole) (search rules) in (
         none,
         crowded_same (g.B.View.limit c.args.leaves.now)
-            (g.B.View.limit c.find_record.new.leaves) (g.B.View.working c.args.leaves.now)
-            (g.B.View.working c.find_record.new.leaves) t (c.args.key, c.args.values) c.in_ok-new.new
-            c.find_record.ensures.reads.reads.limit c.find_record.ensures.reads.reads.working new full,
+            (g.B.View.limit c.find_values.new.leaves) (g.B.View.working c.args.leaves.now)
+            (g.B.View.working c.find_values.new.leaves) t (c.args.key, c.args.values) c.in_ok-new.new
+            c.find_values.ensures.reads.reads.limit c.find_values.ensures.reads.reads.working new full,
       );
 }
 
@@ -54,11 +54,11 @@ pub returns : goal.returns
 returns g c = record {
   inserted = λ f whole is.
       let t = tree_of c.args.node.now in
-      let same = c.find_record.ensures.reads.reads.working in
-      let absent = missing f c.args.key c.in_ok-find_record.field-0 _
-      (c.in_ok-find_record.ensures.found f whole is) (c.is_some.ensures) c.if-is_some.false in
+      let same = c.find_values.ensures.reads.reads.working in
+      let absent = missing f c.args.key c.in_ok-find_values.field-0 _
+      (c.in_ok-find_values.ensures.found f whole is) (c.is_some.ensures) c.if-is_some.false in
       let none = none_of (fin.get f c.args.key) absent in
-      let after = c.in_ok-find_record.ensures.reads.ends.whole whole in
+      let after = c.in_ok-find_values.ensures.reads.ends.whole whole in
       let new = c.in_ok-new.ensures in
       let set = subst (λ form. IsSet form (records_of f)) (sym c.requires.can.tree.form)
       (set_of c.args.file.now f c.requires.can.storable.keyed is.fit) in
