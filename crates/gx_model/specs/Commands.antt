@@ -74,8 +74,11 @@ refusal_of schema s (command.Delete file key) =
     ∷ (is_linked schema.links s.links file key, linked) ∷ [])
 refusal_of schema s (command.Connect link owner member) =
     first_refusal
-    ((not (has_record s (link_at schema link).owner owner
-      && has_record s (link_at schema link).member member), no_record)
+    ((
+      not (has_record s (link_at schema link).owner owner
+          && has_record s (link_at schema link).member member),
+      no_record,
+    )
     ∷ (is_some (fin.get (link_in s link) member), has_owner)
     ∷ (nat_le most_members (length (pairs_of (link_in s link) owner)), too_many_members) ∷ [])
 refusal_of schema s (command.Disconnect link member) =
