@@ -4,9 +4,10 @@ ghost use Rattle.gx_values.specs.declared.bytes.TheConstants.{MAX_KEY_LEN};
 ghost use Rattle.gx_ports.specs.declared.leaves.TheConstants.{MAX_ENTRY_LEN};
 ghost use Rattle.gx_bytes.specs.declared.page.TheConstants.{PAGE_LEN};
 ghost use Rattle.gx_ports.specs.declared.pages.TheConstants.{MAX_OWNER};
+ghost use Rattle.gx_ports.specs.FileCalls.{ClaimsOnePage};
 ghost use Rattle.gx_ports.specs.Files.{EndsFile};
 ghost use Rattle.gx_ports.specs.PageCalls.{KeepsPages};
-ghost use Rattle.gx_ports.specs.Sheets.{IsPast, HasNone};
+ghost use Rattle.gx_ports.specs.Sheets.{IsPast};
 ghost use Rattle.gx_chain.specs.Chain.{IsChain, HasChainOf};
 ghost use Rattle.gx_chain.specs.Changes.{IsPutIn};
 ghost use Rattle.gx_chain.specs.Walk.{IsDropped, HasOld, IsReadyToDrop, IsReady, IsReadyToPut, IsAwayPast};
@@ -35,14 +36,8 @@ pub fn put_in<P: Pages>(
         IsChain (P.ground pages.old) owner (P.working pages.old) first before → OnOk result
         (IsPutIn (P.ground pages.old) owner first key.now body.now (P.working pages.old)
         (P.working pages.new) before) }
-    ensures full { IsTrue P.tells → IsErrOf result Stop.Full →
-        HasNone (P.ground pages.old) (P.working pages.old) }
-    ensures unchanged { IsErrOf result Stop.Full →
-        P.working pages.new ≡ P.working pages.old }
-    ensures keeps { KeepsPages P.PageView pages.old pages.new }
-    ensures ends { EndsFile P.PageView (HasChainOf P.PageView pages.old owner first)
+    ensures claims { ClaimsOnePage P.PageView (HasChainOf P.PageView pages.old owner first)
         pages.old pages.new result }
-    ensures frugal { ¬ IsErrOf result Stop.NoMemory }
 {
     let mut page = [0; PAGE_LEN];
     match find_spot(pages, first, key, body, &mut page)? {
@@ -74,15 +69,9 @@ fn put_away<P: Pages>(
         before → OnOk result
         (IsPutIn (P.ground pages.old) owner first key.now body.now (P.working pages.old)
         (P.working pages.new) before) }
-    ensures full { IsTrue P.tells → IsErrOf result Stop.Full →
-        HasNone (P.ground pages.old) (P.working pages.old) }
-    ensures unchanged { IsErrOf result Stop.Full →
-        P.working pages.new ≡ P.working pages.old }
-    ensures keeps { KeepsPages P.PageView pages.old pages.new }
-    ensures ends { EndsFile P.PageView
+    ensures claims { ClaimsOnePage P.PageView
         (IsReadyToPut P.PageView pages.old owner key.now body.now away)
         pages.old pages.new result }
-    ensures frugal { ¬ IsErrOf result Stop.NoMemory }
 {
     if let Some(room) = away.room {
         drop_old(pages, away.old, key, page)?;

@@ -3,9 +3,10 @@ ghost use Rattle.std.specs.Prelude.{◌≡◌, ◌+◌, ◌<◌, ◌≤◌, ◌�
 ghost use Rattle.gx_values.specs.declared.bytes.TheConstants.{MAX_KEY_LEN};
 ghost use Rattle.gx_ports.specs.declared.leaves.TheConstants.{MAX_ENTRY_LEN};
 ghost use Rattle.gx_bytes.specs.declared.page.TheConstants.{PAGE_LEN};
+ghost use Rattle.gx_ports.specs.FileCalls.{ClaimsOnePage};
 ghost use Rattle.gx_ports.specs.Files.{IsPlace, EndsFile};
 ghost use Rattle.gx_ports.specs.PageCalls.{KeepsPages, CountsPageFaults};
-ghost use Rattle.gx_ports.specs.Sheets.{IsPast, HasNone, bytes_at};
+ghost use Rattle.gx_ports.specs.Sheets.{IsPast, bytes_at};
 ghost use Rattle.gx_slots.specs.Page.{IsEntryPage, entries_of};
 ghost use Rattle.gx_chain.specs.Chain.{IsEntryAt};
 ghost use Rattle.gx_isam_index.specs.Index.{IsIndexPage, bucket_count, separators_of, first_of};
@@ -37,13 +38,7 @@ pub(crate) fn begin_chain<P: Pages>(
         (IsHungBefore (P.ground pages.old) place.now index.old bucket
         (record { key = key.now; body = body.now } ∷ [])
         (P.working pages.old) (P.working pages.new)) }
-    ensures full { IsTrue P.tells → IsErrOf result Stop.Full →
-        HasNone (P.ground pages.old) (P.working pages.old) }
-    ensures unchanged { IsErrOf result Stop.Full →
-        P.working pages.new ≡ P.working pages.old }
-    ensures keeps { KeepsPages P.PageView pages.old pages.new }
-    ensures ends { EndsFile P.PageView (Unit {0}) pages.old pages.new result }
-    ensures frugal { ¬ IsErrOf result Stop.NoMemory }
+    ensures claims { ClaimsOnePage P.PageView (Unit {0}) pages.old pages.new result }
 {
     let mut page = [0; PAGE_LEN];
     clear(&mut page);
@@ -74,13 +69,7 @@ pub(crate) fn hang_before<P: Pages>(
     ensures count { bucket_count index.new ≡ bucket_count index.old }
     ensures separators { separators_of index.new ≡ separators_of index.old }
     ensures page_len { length page.new ≡ PAGE_LEN }
-    ensures full { IsTrue P.tells → IsErrOf result Stop.Full →
-        HasNone (P.ground pages.old) (P.working pages.old) }
-    ensures unchanged { IsErrOf result Stop.Full →
-        P.working pages.new ≡ P.working pages.old }
-    ensures keeps { KeepsPages P.PageView pages.old pages.new }
-    ensures ends { EndsFile P.PageView (Unit {0}) pages.old pages.new result }
-    ensures frugal { ¬ IsErrOf result Stop.NoMemory }
+    ensures claims { ClaimsOnePage P.PageView (Unit {0}) pages.old pages.new result }
 {
     let fresh = pages.claim(place.owner)?;
     set_next(page, first(index, bucket));

@@ -1,4 +1,4 @@
-use Rattle.std.proofs.Common.{sym, subst, refl, arith}
+use Rattle.std.proofs.Common.{sym, subst, refl, arith, rules}
 use Rattle.std.specs.Prelude.{OnOk}
 use Rattle.gx_ports.proofs.PageLemmas.{ends_as}
 use Rattle.gx_ports.specs.Sheets.{Sheets, Ground}
@@ -50,26 +50,33 @@ returns-in-Away-clause-put g c told before chain =
     (subst (λ (x : Ground). IsReady x c.args.owner s c.args.first c.args.key.now c.args.body.now c.in-Away.away before)
     (sym reads.keeps.ground) ready))))
 
-pub returns-in-Away-clause-ends : goal.returns-in-Away-clause-ends
-returns-in-Away-clause-ends g c =
+pub returns-in-Away-clause-claims : goal.returns-in-Away-clause-claims
+returns-in-Away-clause-claims g c =
     let p = c.args.pages.now in
     let q = c.find_spot.new.pages in
     let s = g.P.PageView.working p in
     let reads = c.find_spot.ensures.reads in
-    ends_as g.P.PageView (HasChainOf g.P.PageView p c.args.owner c.args.first)
-    (IsReadyToPut g.P.PageView q c.args.owner c.args.key.now c.args.body.now c.in-Away.away) p q
-    c.put_away.new.pages c.put_away.result
-    (c.in_ok-number.ensures.ends.cause.counted refl) reads.keeps.ground
-    (λ has. (let spot = subst (IsSpot s c.args.key.now c.args.body.now has.pages c.find_spot.new.page) c.in-Away.is
-    (c.in_ok-number.ensures.found has.told c.args.owner has.pages has.chain) in record {
-      told = has.told;
-      first = c.args.first;
-      pages = has.pages;
-      ready =
-          subst (λ (x : Sheets). IsReady (g.P.PageView.ground q) c.args.owner x c.args.first
-          c.args.key.now c.args.body.now c.in-Away.away has.pages) (sym reads.working)
-          (subst (λ (x : Ground). IsReady x c.args.owner s c.args.first c.args.key.now
-          c.args.body.now c.in-Away.away has.pages) (sym reads.keeps.ground)
-          (record { chain = has.chain; noted = spot.0; front = spot.1.0; ended = spot.1.1 }));
-    }))
-    c.put_away.ensures.ends
+    record {
+      full = search rules;
+      unchanged = search rules;
+      keeps = search rules;
+      ends =
+          ends_as g.P.PageView (HasChainOf g.P.PageView p c.args.owner c.args.first)
+          (IsReadyToPut g.P.PageView q c.args.owner c.args.key.now c.args.body.now c.in-Away.away) p q
+          c.put_away.new.pages c.put_away.result
+          (c.in_ok-number.ensures.ends.cause.counted refl) reads.keeps.ground
+          (λ has. (let spot = subst (IsSpot s c.args.key.now c.args.body.now has.pages c.find_spot.new.page) c.in-Away.is
+          (c.in_ok-number.ensures.found has.told c.args.owner has.pages has.chain) in record {
+            told = has.told;
+            first = c.args.first;
+            pages = has.pages;
+            ready =
+                subst (λ (x : Sheets). IsReady (g.P.PageView.ground q) c.args.owner x c.args.first
+                c.args.key.now c.args.body.now c.in-Away.away has.pages) (sym reads.working)
+                (subst (λ (x : Ground). IsReady x c.args.owner s c.args.first c.args.key.now
+                c.args.body.now c.in-Away.away has.pages) (sym reads.keeps.ground)
+                (record { chain = has.chain; noted = spot.0; front = spot.1.0; ended = spot.1.1 }));
+          }))
+          c.put_away.ensures.claims.ends;
+      frugal = search rules;
+    }

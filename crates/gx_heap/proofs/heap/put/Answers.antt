@@ -36,20 +36,20 @@ returns g c =
       others = λ whole fault.
           let file = whole.1.file in
           spared g.P.PageView sound ground place.owner p c.put_in.new.pages result
-          (has_chain whole) c.put_in.ensures.ends
+          (has_chain whole) c.put_in.ensures.claims.ends
           (on_ok_weaker result
           (λ put. heap_put_others ground place s t whole.0 key body least file put)
           (c.put_in.ensures.put whole.1.told file.pages file.chain))
-          c.put_in.ensures.unchanged c.put_in.ensures.frugal fault;
+          c.put_in.ensures.claims.unchanged c.put_in.ensures.claims.frugal fault;
       full = record {
-        none = λ told is. subst (HasNone ground) (sym (c.put_in.ensures.unchanged is))
-            (c.put_in.ensures.full told is);
+        none = λ told is. subst (HasNone ground) (sym (c.put_in.ensures.claims.unchanged is))
+            (c.put_in.ensures.claims.full told is);
         few = λ map holds is. (let few = heap_few ground place s map holds.file in
-            let same = ap (page_count place.owner) (c.put_in.ensures.unchanged is) in
+            let same = ap (page_count place.owner) (c.put_in.ensures.claims.unchanged is) in
             omega (arith, few, same, one));
       };
-      keeps = c.put_in.ensures.keeps;
+      keeps = c.put_in.ensures.claims.keeps;
       ends = ends_as g.P.PageView is_whole sound p p c.put_in.new.pages result refl refl
-          has_chain c.put_in.ensures.ends;
-      frugal = c.put_in.ensures.frugal;
+          has_chain c.put_in.ensures.claims.ends;
+      frugal = c.put_in.ensures.claims.frugal;
     }

@@ -59,11 +59,11 @@ returns-in_err-put_in-in-Some g c =
           record {
             none = λ told is. (let why = ap Err (same_refusal result c.in_err-put_in-in-Some.field-0.0 stop.Full handed is) in
                 subst (λ (x : Ground). HasNone x t) reads.keeps.ground
-                (subst (HasNone (g.P.PageView.ground q)) (sym (c.in_err-put_in-in-Some.ensures.unchanged why))
-                (c.in_err-put_in-in-Some.ensures.full told why)));
+                (subst (HasNone (g.P.PageView.ground q)) (sym (c.in_err-put_in-in-Some.ensures.claims.unchanged why))
+                (c.in_err-put_in-in-Some.ensures.claims.full told why)));
             few = λ map holds is. (let why = ap Err (same_refusal result c.in_err-put_in-in-Some.field-0.0 stop.Full handed is) in
                 let few = isam_few (g.P.PageView.ground p) place (g.P.PageView.working p) map holds.file in
-                let same = ap (page_count place.owner) (c.in_err-put_in-in-Some.ensures.unchanged why ∙ reads.working) in
+                let same = ap (page_count place.owner) (c.in_err-put_in-in-Some.ensures.claims.unchanged why ∙ reads.working) in
                 let roots = one_root place c.requires.kind in
                 omega (arith, few, same, roots));
           };
@@ -98,20 +98,21 @@ returns-in-None g c =
           let page_is = c.in_ok-read_index.ensures.bytes whole.1.told ∙ ap (λ (x : Sheets). bytes_at x place.root) (sym reads.working) in
           others_back g.P.PageView place p q reads u
           (spared g.P.PageView (Unit {0}) (g.P.PageView.ground q) place.owner q c.begin_chain.new.pages c.begin_chain.result tt
-          c.begin_chain.ensures.ends
+          c.begin_chain.ensures.claims.ends
           (on_ok_weaker c.begin_chain.result
           (λ begun. (put_begun (g.P.PageView.ground q) place (g.P.PageView.working q) whole.0 c.requires.place.least
           (subst (λ (x : Ground). x.tables ≤ place.root) (sym reads.keeps.ground) c.requires.place.past) h c.read_index.new.page page_is
           c.args.key.now c.bucket_of-bucket.result c.bucket_of-bucket.ensures.value c.bucket_of-bucket.ensures.below none
           c.in_ok-first_page.ensures.small c.args.body.now u begun).1)
           (c.begin_chain.ensures.begun whole.1.told))
-          c.begin_chain.ensures.unchanged c.begin_chain.ensures.frugal fault));
+          c.begin_chain.ensures.claims.unchanged c.begin_chain.ensures.claims.frugal fault));
       full =
           record {
             none = λ told is. subst (λ (x : Ground). HasNone x u) reads.keeps.ground
-                (subst (HasNone (g.P.PageView.ground q)) (sym (c.begin_chain.ensures.unchanged is)) (c.begin_chain.ensures.full told is));
+                (subst (HasNone (g.P.PageView.ground q)) (sym (c.begin_chain.ensures.claims.unchanged is))
+                (c.begin_chain.ensures.claims.full told is));
             few = λ map holds is. (let few = isam_few (g.P.PageView.ground p) place (g.P.PageView.working p) map holds.file in
-                let same = ap (page_count place.owner) (c.begin_chain.ensures.unchanged is ∙ reads.working) in
+                let same = ap (page_count place.owner) (c.begin_chain.ensures.claims.unchanged is ∙ reads.working) in
                 let roots = one_root place c.requires.kind in
                 omega (arith, few, same, roots));
           };
@@ -135,7 +136,7 @@ returns-in_ok-put_in-in-Some g c =
     let at = first_of index bucket in
     let found = MatchOption-at_some (at ≡ NONE) (λ n. (at ≡ n) × IsPast (g.P.PageView.ground q) n × (n ≢ NONE)) first c.in-Some.is
     c.in_ok-first_page.ensures.first in
-    let ground = c.in_ok-put_in-in-Some.ensures.keeps.ground in
+    let ground = c.in_ok-put_in-in-Some.ensures.claims.keeps.ground in
     let r = c.put_in.new.pages in
     let s = g.P.PageView.working q in
     record {
@@ -174,8 +175,8 @@ returns-in_ok-put_in-in-Some g c =
       ends =
           ends_as g.P.PageView (IsWhole g.P.PageView (IsIsam (g.P.PageView.ground p) place) p) (IsEntryAt g.P.PageView r first) p r
           c.leave_out_empty.new.pages c.leave_out_empty.result
-          (c.in_ok-put_in-in-Some.ensures.ends.cause.counted refl ∙ c.in_ok-read_index.ensures.ends.cause.counted refl)
-          (c.in_ok-put_in-in-Some.ensures.keeps.ground ∙ reads.keeps.ground)
+          (c.in_ok-put_in-in-Some.ensures.claims.ends.cause.counted refl ∙ c.in_ok-read_index.ensures.ends.cause.counted refl)
+          (c.in_ok-put_in-in-Some.ensures.claims.keeps.ground ∙ reads.keeps.ground)
           (λ whole. (let h = isam_read g.P.PageView place p q reads whole.0 whole.1.file in
           let page_is = c.in_ok-read_index.ensures.bytes whole.1.told ∙ ap (λ (x : Sheets). bytes_at x place.root) (sym reads.working) in
           let chain = chain_first (g.P.PageView.ground q) place (g.P.PageView.working q) whole.0 c.requires.place.least past h index

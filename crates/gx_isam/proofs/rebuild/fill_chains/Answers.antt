@@ -37,8 +37,8 @@ loop-end-preserved g c =
     let less = run.some in
     let within = i.within in
     record {
-      keeps = kept_pages_joined g.P.PageView i.keeps c.hang_before.ensures.keeps;
-      faults = c.in_ok-hang_before.ensures.ends.cause.counted refl ∙ i.faults;
+      keeps = kept_pages_joined g.P.PageView i.keeps c.hang_before.ensures.claims.keeps;
+      faults = c.in_ok-hang_before.ensures.claims.ends.cause.counted refl ∙ i.faults;
       page = c.hang_before.ensures.index;
       within = omega (arith, less, within);
       way = λ map told blank.
@@ -56,7 +56,7 @@ returns-in_err-hang_before-clause-partly g c told map blank fault =
     let now = c.loop-end.pages in
     let ground = g.P.PageView.ground p in
     let place = c.args.place.now in
-    let refused = c.in_err-hang_before.ensures in
+    let refused = c.in_err-hang_before.ensures.claims in
     let why = c.in_err-hang_before.field-0.0 in
     let same = only_full {T = Unit {0}} g.P.PageView now c.hang_before.new.pages why refused.ends refused.unchanged refused.frugal
     (λ is. fault (handed_refusal c.from_residual.result why stop.Fault c.from_residual.ensures.1 is)) in
