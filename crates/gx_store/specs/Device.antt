@@ -1,6 +1,7 @@
 -- What the blocks of a device hold: a database under two texts.
-use Rattle.std.specs.Prelude.{◌≡◌, ◌+◌, ◌≤◌, ◌<◌, ℕ, false, List, [], length, replicate, take, drop, get_or, slice_index_or}
+use Rattle.std.specs.Prelude.{◌≡◌, ◌+◌, ◌*◌, ◌≤◌, ◌<◌, ℕ, false, List, [], length, replicate, take, drop, get_or, slice_index_or}
 use Rattle.std.specs.FinMap.{empty}
+use Rattle.gx_device.specs.declared.device.TheConstants.{BLOCK_LEN}
 use Rattle.gx_ports.specs.declared.kinds.LeafSpec.{LeafSpec}
 use Rattle.gx_ports.specs.LeafMaps.{LeafMap}
 use Rattle.gx_ports.specs.Heads.{Head}
@@ -9,7 +10,7 @@ use Rattle.gx_ports.specs.Sheets.{Sheets, Ground}
 use Rattle.gx_layout.specs.Layout.{pages_of, head_of, is_open}
 use Rattle.gx_layout.specs.Recovered.{replayed_pages}
 use Rattle.gx_layout.specs.Head.{HasMagic, text_at, text_area}
-use Rattle.gx_layout.specs.declared.formatting.TheConstants.{MAX_BLOCKS, TEXT_AREA_LEN}
+use Rattle.gx_layout.specs.declared.formatting.TheConstants.{MAX_BLOCKS}
 use Rattle.gx_pages.specs.Owners.{sheets_of}
 use Rattle.gx_leaves.specs.Places.{places_of}
 use Rattle.gx_leaves.specs.Wholeness.{AreLaid, maps_of}
@@ -30,9 +31,10 @@ ground_on blocks =
       head = head_of blocks;
     }
 
--- the bytes of the text blocks of a head are the lengths of these two texts, the texts, and zeros
+-- the bytes of the four text blocks of a head are the lengths of these two texts, the texts, and
+-- zeros
 abbrev pub AreTexts : List ℕ → List ℕ → List (List ℕ) → Type 0
-AreTexts schema equation head = (q : ℕ) → q < TEXT_AREA_LEN
+AreTexts schema equation head = (q : ℕ) → q < 4 * BLOCK_LEN
     → text_at head q ≡ slice_index_or (text_area schema equation) q 0
 
 abbrev pub HasTexts : List ℕ → List ℕ → List (List ℕ) → Type 0
