@@ -1,15 +1,16 @@
 -- The lines of a script, and its limits.
 use Rattle.std.specs.Prelude.{◌≡◌, ◌≢◌, ℕ, Bool, true, false, List, [], ◌∷◌, ◌++◌, length, take, Option, Some, None, Result, Ok, Err, nat_lt, ◌==◌, if◌then◌else◌}
 use Rattle.std.specs.List.{AllByRecursion, flat_map}
+use Rattle.gx_commands.specs.declared.lines.TheConstants.{LONGEST_LINE, LONGEST_SCRIPT}
 use Rattle.gx_commands.specs.declared.command.LineWhy.{LineWhy}
 use Rattle.gx_commands.specs.declared.command.LineWhy.TheVariants as why
 
 -- how many bytes a line may have, with a CR and without its LF, and a script
 unfoldable pub longest_line : ℕ
-longest_line = 4096
+longest_line = LONGEST_LINE
 
 unfoldable pub longest_script : ℕ
-longest_script = 16777216
+longest_script = LONGEST_SCRIPT
 
 -- the lines that an LF ends, each without it, and the bytes behind the last LF
 pub record Parts : Type 0 where

@@ -4,6 +4,7 @@ use Rattle.gx_device.specs.Content.{Silent}
 use Rattle.gx_device.specs.Quiet.{IsPrefix}
 use Rattle.gx_device.specs.Faults.{Rose}
 use Rattle.gx_schema.specs.declared.schema.Schema.{Schema}
+use Rattle.gx_commands.specs.declared.lines.TheConstants.{LONGEST_SCRIPT}
 use Rattle.gx_commands.specs.declared.command.Command.{Command}
 use Rattle.gx_commands.specs.declared.command.Command.TheVariants as command
 use Rattle.gx_commands.specs.declared.command.LineWhy.{LineWhy}
@@ -295,4 +296,4 @@ IsEndingOf (Err end) result = result ≡ Err (ending_of end)
 -- the bytes that were heard of a script: all of them, or so many that it is too long
 pub record IsHeard (script left heard : List ℕ) : Type 0 where
   pub front : script ≡ heard ++ left
-  pub end : (left ≡ []) ⊎ (16777216 < length heard)
+  pub end : (left ≡ []) ⊎ (LONGEST_SCRIPT < length heard)

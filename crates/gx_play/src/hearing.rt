@@ -9,6 +9,9 @@ use gx_device::Device;
 use gx_ports::Stop;
 use std::alloc::Global;
 
+// How many bytes of a script are asked for at once.
+pub(crate) const PIECE_LEN: usize = 4096;
+
 /// Hears the script to its end, or past the most bytes that a script may have. `Fault` comes only
 /// where a call of the device failed, and the other stop is `NoMemory`.
 pub fn hear_all<D: Device>(alloc: Global, device: &mut D) -> Result<Vec<u8>, Stop>
@@ -21,7 +24,7 @@ pub fn hear_all<D: Device>(alloc: Global, device: &mut D) -> Result<Vec<u8>, Sto
     ensures rest { Listens (D.content device.old) (D.content device.new) }
 {
     let mut script = Vec::new(alloc);
-    let mut piece = [0u8; 4096];
+    let mut piece = [0u8; PIECE_LEN];
     while script.len() <= LONGEST_SCRIPT {
         let count = device.hear(&mut piece)?;
         if count == 0 {

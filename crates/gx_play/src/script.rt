@@ -6,6 +6,7 @@ ghost use Rattle.gx_play.specs.Endings.{IsOutside, is_fault};
 ghost use Rattle.gx_play.specs.Plays.{IsHeard};
 
 use crate::ending::Ending;
+use crate::hearing::PIECE_LEN;
 use gx_commands::LONGEST_SCRIPT;
 use gx_ports::Leaves;
 use std::alloc::Global;
@@ -24,7 +25,7 @@ pub fn hear_script<'a, B: Leaves>(alloc: Global, leaves: &mut B) -> Result<Vec<u
     ensures keeps { Talks B.View leaves.old leaves.new }
 {
     let mut script = Vec::new(alloc);
-    let mut piece = [0u8; 4096];
+    let mut piece = [0u8; PIECE_LEN];
     while script.len() <= LONGEST_SCRIPT {
         let Ok(count) = leaves.hear(&mut piece) else {
             return Err(Ending::Fault);

@@ -1,11 +1,12 @@
 -- The spans of the values that meet a condition.
-use Rattle.std.specs.Prelude.{◌≡◌, ℕ, ◌-◌, ◌^◌, ◌≤◌, pos, negsuc, Bool, List, [], ◌++◌, length, take, IsTrue}
+use Rattle.std.specs.Prelude.{◌≡◌, ℕ, ◌-◌, ◌^◌, ◌<◌, pos, negsuc, Bool, List, [], ◌++◌, length, take, IsTrue}
 use Rattle.std.specs.List.{list_all}
 use Rattle.std.specs.Int.{w64}
 use Rattle.std.specs.Int.RustNames.{FitsSigned}
 use Rattle.std.specs.Ordering.{nat_cmp, is_le}
 use Rattle.std.specs.declared.cmp.Ordering.{Ordering}
 use Rattle.std.specs.Cmp.Lexicographic.{slice_cmp}
+use Rattle.gx_values.specs.declared.bytes.TheConstants.{MAX_KEY_LEN}
 use Rattle.gx_values.specs.declared.values.Kind.{Kind}
 use Rattle.gx_values.specs.declared.values.Kind.TheVariants as kind
 use Rattle.gx_values.specs.declared.values.Value.{Value}
@@ -16,10 +17,10 @@ use Rattle.gx_values.specs.declared.keys.Span.{Span}
 use Rattle.gx_values.specs.Values.{value_cmp, is_met, is_printable, Fits}
 use Rattle.gx_values.specs.Keys.{bytes_of, is_inside}
 
--- ints, and texts whose key bytes and one more make at most 400
+-- ints, and texts whose key bytes and one more make a key
 abbrev pub IsSpanKind : Kind → Type 0
 IsSpanKind kind.Int = Unit {0}
-IsSpanKind (kind.Text most) = most ≤ 399
+IsSpanKind (kind.Text most) = most < MAX_KEY_LEN
 IsSpanKind (kind.Bytes most) = ⊥
 
 -- a key that begins with a value of the kind is inside exactly where the value meets the condition
@@ -46,7 +47,7 @@ IsBeyond _ _ = ⊥
 -- a value of a kind that spans can be of
 abbrev pub IsSpanBound : Value → Type 0
 IsSpanBound (value.Int n) = FitsSigned w64 n
-IsSpanBound (value.Text text) = (length text ≤ 399) × IsTrue (list_all is_printable text)
+IsSpanBound (value.Text text) = (length text < MAX_KEY_LEN) × IsTrue (list_all is_printable text)
 IsSpanBound (value.Bytes bytes) = ⊥
 
 -- at or above the lower end are the values that compare so with the bound

@@ -14,8 +14,8 @@ use crate::values::{Kind, Op, Value};
 use arrayvec::ArrayVec;
 
 /// The span of the keys that begin with a value which meets the condition. Values are of the kind:
-/// ints, or texts of at most 399 bytes. `None`: no value meets it, as it is `Less` with the least
-/// int or the empty text, or `Greater` with the greatest int.
+/// ints, or texts of fewer than `MAX_KEY_LEN` bytes. `None`: no value meets it, as it is `Less`
+/// with the least int or the empty text, or `Greater` with the greatest int.
 pub fn span(kind: Kind, op: Op, bound: &Value) -> Option<Span>
     requires kind { IsSpanKind kind }
     requires fits { Fits kind bound.now }

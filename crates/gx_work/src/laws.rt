@@ -2,6 +2,7 @@
 ghost use Rattle.std.specs.Prelude.{ℕ, ◌≤◌, ◌<◌, length};
 ghost use Rattle.std.specs.List.{AllByRecursion};
 ghost use Rattle.gx_commands.specs.Lines.{script_lines};
+ghost use Rattle.gx_commands.specs.declared.lines.TheConstants.{LONGEST_LINE, LONGEST_SCRIPT};
 ghost use Rattle.gx_model.specs.States.{State};
 ghost use Rattle.gx_work.specs.Workload.{work_script};
 ghost use Rattle.gx_work.specs.Laws.{PlaysToEnd, MeansCommands};
@@ -15,7 +16,7 @@ pub fn script_plays()
 
 /// The script and its lines are within the limits of scripts. It does nothing.
 pub fn script_is_short()
-    ensures script { (n : ℕ) → n ≤ 10000 → length (work_script n) < 16777216 }
+    ensures script { (n : ℕ) → n ≤ 10000 → length (work_script n) < LONGEST_SCRIPT }
     ensures lines { (n : ℕ) → n ≤ 10000 →
-        AllByRecursion (λ line. length line < 4096) (script_lines (work_script n)).lines }
+        AllByRecursion (λ line. length line < LONGEST_LINE) (script_lines (work_script n)).lines }
 {}
