@@ -5,6 +5,7 @@ use Rattle.gx_device.specs.Content.{Moment, Content}
 use Rattle.gx_device.specs.Crash.{EachImage}
 use Rattle.gx_device.specs.Quiet.{IsPrefix, IsQuiet}
 use Rattle.gx_layout.specs.Layout.{View, Shows, AtRest, head_of, with_said}
+use Rattle.gx_layout.specs.declared.formatting.TheConstants.{HEAD_BLOCKS}
 
 -- At rest now, and since an earlier content each image stands for the view's pages and head, has
 -- said what was said then, and no more than what is said now.
@@ -20,7 +21,7 @@ pub record Calm (start : Content) (v : View) (c : Content) : Type 0 where
 abbrev pub kept_view : ℕ → Content → View
 kept_view P c =
     record {
-      pages = take P (drop (7 + P) c.now.blocks);
+      pages = take P (drop (HEAD_BLOCKS + P) c.now.blocks);
       head = head_of c.now.blocks;
       said = [];
       shelf = c.now.shelf;

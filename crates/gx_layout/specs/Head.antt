@@ -3,7 +3,7 @@ use Rattle.std.specs.Prelude.{◌≡◌, ◌≢◌, ◌≤◌, ◌<◌, ◌+◌,
 use Rattle.std.specs.Int.{w16, to_be_bytes}
 use Rattle.gx_device.specs.Quiet.{IsPrefix}
 use Rattle.gx_device.specs.declared.device.TheConstants.{BLOCK_LEN}
-use Rattle.gx_layout.specs.declared.formatting.TheConstants.{TEXT_AREA_LEN}
+use Rattle.gx_layout.specs.declared.formatting.TheConstants.{FIRST_TEXT_BLOCK, HEAD_BLOCKS, TEXT_AREA_LEN}
 
 -- the bytes that the first block of a database begins with
 abbrev pub magic : List ℕ
@@ -33,11 +33,11 @@ text_blocks schema equation =
 
 -- a text block
 abbrev pub IsText : ℕ → Type 0
-IsText n = (3 ≤ n) × (n < 7)
+IsText n = (FIRST_TEXT_BLOCK ≤ n) × (n < HEAD_BLOCKS)
 
 -- a block that is written where a device is laid out: the gate, the bitmap, or a text block
 abbrev pub IsFormatted : ℕ → Type 0
-IsFormatted n = (1 ≤ n) × (n < 7)
+IsFormatted n = (1 ≤ n) × (n < HEAD_BLOCKS)
 
 -- byte q of the text blocks of a head
 abbrev pub text_at : List (List ℕ) → ℕ → ℕ

@@ -3,10 +3,11 @@ use Rattle.std.specs.Prelude.{◌≡◌, ◌⊎◌, ◌<◌, ◌≤◌, zero, su
 use Rattle.std.specs.Int.{bit_at}
 use Rattle.gx_device.specs.Content.{Shelf, Moment, Content, Silent, block_of, is_pending}
 use Rattle.gx_device.specs.Crash.{Image}
+use Rattle.gx_layout.specs.declared.formatting.TheConstants.{FIRST_TEXT_BLOCK, HEAD_BLOCKS}
 
 -- the number of pages of a device of so many blocks
 abbrev pub pages_of : ℕ → ℕ
-pages_of blocks = (blocks - 7) / 2
+pages_of blocks = (blocks - HEAD_BLOCKS) / 2
 
 -- the gate is open
 abbrev pub is_open : List ℕ → Bool
@@ -23,8 +24,9 @@ Names changed bitmap n = (p : ℕ) → p < n → has_bit bitmap p ≡ get_or cha
 -- page p of P pages, as recovery would find it
 abbrev pub replayed : ℕ → List (List ℕ) → ℕ → List ℕ
 replayed P blocks p =
-    if is_open (get_or blocks 1 []) && has_bit (get_or blocks 2 []) p then get_or blocks (7 + p) []
-    else get_or blocks (7 + P + p) []
+    if is_open (get_or blocks 1 []) && has_bit (get_or blocks 2 []) p
+    then get_or blocks (HEAD_BLOCKS + p) []
+    else get_or blocks (HEAD_BLOCKS + P + p) []
 
 -- the blocks replay to these pages
 pub record Replays (blocks pages : List (List ℕ)) : Type 0 where
@@ -46,7 +48,7 @@ head_of blocks =
     ∷ get_or blocks 6 [] ∷ []
 
 abbrev pub IsHead : ℕ → Type 0
-IsHead n = (n ≡ 0) ⊎ ((3 ≤ n) × (n < 7))
+IsHead n = (n ≡ 0) ⊎ ((FIRST_TEXT_BLOCK ≤ n) × (n < HEAD_BLOCKS))
 
 -- the same with these pages
 abbrev pub with_pages : View → List (List ℕ) → View
@@ -86,7 +88,7 @@ Holds base pages changed m = HoldsBelow (length pages) base pages changed m
 
 -- page p's home
 abbrev pub home : ℕ → ℕ → ℕ
-home P p = 7 + P + p
+home P p = HEAD_BLOCKS + P + p
 
 -- block n has these bytes, and no crash spoils it
 pub record IsFirm (m : Moment) (n : ℕ) (bytes : List ℕ) : Type 0 where
@@ -96,7 +98,7 @@ pub record IsFirm (m : Moment) (n : ℕ) (bytes : List ℕ) : Type 0 where
 -- there is a place for each page, no crash spoils the head, and this was said beside these devices
 pub record Fits (m : Moment) (v : View) : Type 0 where
   pub count : length v.pages ≡ pages_of (length m.blocks)
-  pub room : 7 ≤ length m.blocks
+  pub room : HEAD_BLOCKS ≤ length m.blocks
   pub head_kept : (n : ℕ) → IsHead n → is_pending m n ≡ false
   pub head : head_of m.blocks ≡ v.head
   pub said : m.said ≡ v.said
@@ -115,7 +117,7 @@ pub record IsLogged (m : Moment) (pages : List (List ℕ)) (changed : List Bool)
   pub bitmap_kept : is_pending m 2 ≡ false
   pub bits : (p : ℕ) → p < length pages → has_bit (block_of m 2) p ≡ get_or changed p false
   pub slots : (p : ℕ) → p < length pages → get_or changed p false ≡ true
-      → IsFirm m (7 + p) (get_or pages p [])
+      → IsFirm m (HEAD_BLOCKS + p) (get_or pages p [])
 
 -- the pages that have not changed are the same
 abbrev pub SameButChanged : List Bool → List (List ℕ) → List (List ℕ) → Type 0
@@ -156,7 +158,7 @@ flags bitmap (suc n) = flags bitmap n ++ has_bit bitmap n ∷ []
 -- each page below i that the bitmap names has been copied from its slot
 abbrev pub CopiedBelow : ℕ → ℕ → List ℕ → Moment → Moment → Type 0
 CopiedBelow i P bitmap old m = (p : ℕ) → p < i → has_bit bitmap p ≡ true
-    → block_of m (home P p) ≡ block_of old (7 + p)
+    → block_of m (home P p) ≡ block_of old (HEAD_BLOCKS + p)
 
 -- no block changed that isn't free, and nothing was said, heard or attached
 pub record OnlyBlocks (free : ℕ → Type 0) (old new : Content) : Type 0 where

@@ -3,6 +3,7 @@ use Rattle.std.proofs.Common.{◌≡◌, ◌⊎◌, inl, inr, ℕ, ◌+◌, ◌<
 use Rattle.gx_device.specs.Content.{Moment, block_of, is_pending}
 use Rattle.gx_device.specs.Crash.{Image, IsImage, EachImage, Outside}
 use Rattle.gx_layout.specs.Layout.{is_open, has_bit, pages_of, replayed, View, head_of, IsHead, StandsFor, IsIn, IsFirm, Fits, AtRest, IsLogged, IsReady, IsOpened, Either, home}
+use Rattle.gx_layout.specs.declared.formatting.TheConstants.{HEAD_BLOCKS}
 
 pub bool_cases : (b : Bool) → (b ≡ true) ⊎ (b ≡ false)
 bool_cases true = inl refl
@@ -10,14 +11,16 @@ bool_cases false = inr refl
 
 module _ (P : ℕ) (blocks : List (List ℕ)) (p : ℕ) where
   abbrev pub choose : Bool → Bool → List ℕ
-  choose gate bit = if gate && bit then get_or blocks (7 + p) [] else get_or blocks (7 + P + p) []
+  choose gate bit =
+      if gate && bit then get_or blocks (HEAD_BLOCKS + p) []
+      else get_or blocks (HEAD_BLOCKS + P + p) []
 
   pub shut : is_open (get_or blocks 1 []) ≡ false
       → replayed P blocks p ≡ get_or blocks (home P p) []
   shut is = ap (λ (g : Bool). choose g (has_bit (get_or blocks 2 []) p)) is
 
   pub set_bit : is_open (get_or blocks 1 []) ≡ true → has_bit (get_or blocks 2 []) p ≡ true
-      → replayed P blocks p ≡ get_or blocks (7 + p) []
+      → replayed P blocks p ≡ get_or blocks (HEAD_BLOCKS + p) []
   set_bit is bit =
       ap (λ (g : Bool). choose g (has_bit (get_or blocks 2 []) p)) is ∙ ap
       (λ (b : Bool). choose true b) bit
@@ -49,7 +52,7 @@ head_blocks xs ys same =
     let at6 = same 6 (inr (omega arith, omega arith)) in
     cc
 
-head_below : (n k : ℕ) → IsHead n → 7 ≤ k → n < k
+head_below : (n k : ℕ) → IsHead n → HEAD_BLOCKS ≤ k → n < k
 head_below n k (inl is) room = omega arith
 head_below n k (inr within) room = omega (arith, within.1)
 
@@ -69,7 +72,7 @@ home_below : (m : Moment) (v : View) → Fits m v → (p : ℕ) → p < length v
 home_below m v f p below = omega (arith, f.count, f.room)
 
 slot_below : (m : Moment) (v : View) → Fits m v → (p : ℕ) → p < length v.pages
-    → 7 + p < length m.blocks
+    → HEAD_BLOCKS + p < length m.blocks
 slot_below m v f p below = omega (arith, f.count, f.room)
 
 -- where its pages are replayed, an image stands for the view
@@ -105,7 +108,7 @@ logged_image m image v changed fits logged homes is open_gate = stands m image v
     (is.same 2 (omega (arith, fits.room)) logged.bitmap_kept) ∙ logged.bits p below in
     elim (bool_cases (get_or changed p false)) [
       | inl bit_on ↦ set_bit (length v.pages) image.blocks p open_gate (bit ∙ bit_on)
-          ∙ firm m image (7 + p) (get_or v.pages p []) is (slot_below m v fits p below)
+          ∙ firm m image (HEAD_BLOCKS + p) (get_or v.pages p []) is (slot_below m v fits p below)
           (logged.slots p below bit_on)
       | inr bit_off ↦ no_bit (length v.pages) image.blocks p open_gate (bit ∙ bit_off)
           ∙ firm m image (home (length v.pages) p) (get_or v.pages p []) is
@@ -154,9 +157,11 @@ opened_leaves m v changed o image is =
     (ap is_open (is.same 1 (omega (arith, o.fits.room)) o.gate_kept) ∙ o.gate)
 
 -- no area of pages has a block of the head
-not_head : (base : ℕ) (changed : List Bool) → 7 ≤ base → (n : ℕ) → IsHead n → IsIn base changed n
+not_head : (base : ℕ) (changed : List Bool) → HEAD_BLOCKS ≤ base → (n : ℕ) → IsHead n
+    → IsIn base changed n
     → ⊥
-not_head base changed low n head i = absurd (omega (arith, i.is, head_below n 7 head (omega arith)))
+not_head base changed low n head i =
+    absurd (omega (arith, i.is, head_below n HEAD_BLOCKS head (omega arith)))
 
 head_not_one : (n : ℕ) → IsHead n → n ≡ 1 → ⊥
 head_not_one n (inl is) e = absurd (omega arith)
@@ -168,16 +173,18 @@ head_not_two n (inr within) e = absurd (omega (arith, within.0))
 
 -- writes to slots and to the bitmap leave it at rest
 pub rest_slots : (changed : List Bool) (a b : Moment) (v : View) → length changed ≡ length v.pages
-    → Outside (IsIn 7 changed) a b → AtRest a v → AtRest b v
+    → Outside (IsIn HEAD_BLOCKS changed) a b → AtRest a v → AtRest b v
 rest_slots changed a b v counts o rest =
-    let not_gate : IsIn 7 changed 1 → ⊥ = λ (i : IsIn 7 changed 1). absurd (omega (arith, i.is)) in
+    let not_gate : IsIn HEAD_BLOCKS changed 1 → ⊥ =
+    λ (i : IsIn HEAD_BLOCKS changed 1). absurd (omega (arith, i.is)) in
     record {
-      fits = fits_outside (IsIn 7 changed) a b v (not_head 7 changed (omega arith)) o rest.fits;
+      fits = fits_outside (IsIn HEAD_BLOCKS changed) a b v
+          (not_head HEAD_BLOCKS changed (omega arith)) o rest.fits;
       gate_kept = o.pending 1 not_gate ∙ rest.gate_kept;
       gate = ap is_open (o.blocks 1 not_gate) ∙ rest.gate;
       homes = λ p below.
-          stays (IsIn 7 changed) a b o (home (length v.pages) p)
-          (λ (i : IsIn 7 changed (home (length v.pages) p)). absurd
+          stays (IsIn HEAD_BLOCKS changed) a b o (home (length v.pages) p)
+          (λ (i : IsIn HEAD_BLOCKS changed (home (length v.pages) p)). absurd
           (omega (arith, i.is, i.below, counts))) (get_or v.pages p []) (rest.homes p below);
     }
 
@@ -194,7 +201,7 @@ rest_bitmap a b v o rest =
     }
 
 logged_outside : (free : ℕ → Type 0) (a b : Moment) (pages : List (List ℕ)) (changed : List Bool)
-    → (free 2 → ⊥) → ((p : ℕ) → p < length pages → free (7 + p) → ⊥) → Outside free a b
+    → (free 2 → ⊥) → ((p : ℕ) → p < length pages → free (HEAD_BLOCKS + p) → ⊥) → Outside free a b
     → IsLogged a pages changed → IsLogged b pages changed
 logged_outside free a b pages changed not_bitmap not_slot o l = record {
   bitmap_kept = o.pending 2 not_bitmap ∙ l.bitmap_kept;
@@ -215,23 +222,25 @@ ready_gate a b kept new changed o r = record {
       (r.homes p below);
   logged =
       logged_outside (λ n. n ≡ 1) a b new.pages changed (λ (e : 2 ≡ 1). absurd (omega arith))
-      (λ p below (e : 7 + p ≡ 1). absurd (omega arith)) o r.logged;
+      (λ p below (e : HEAD_BLOCKS + p ≡ 1). absurd (omega arith)) o r.logged;
   same = r.same;
 }
 
 -- writes to the homes of changed pages leave it open
 pub opened_homes : (a b : Moment) (v : View) (changed : List Bool)
-    → Outside (IsIn (7 + length v.pages) changed) a b → IsOpened a v changed → IsOpened b v changed
+    → Outside (IsIn (HEAD_BLOCKS + length v.pages) changed) a b → IsOpened a v changed
+    → IsOpened b v changed
 opened_homes a b v changed o r =
-    let free = IsIn (7 + length v.pages) changed in
+    let free = IsIn (HEAD_BLOCKS + length v.pages) changed in
     let not_gate : free 1 → ⊥ = λ (i : free 1). absurd (omega (arith, i.is)) in
     record {
-      fits = fits_outside free a b v (not_head (7 + length v.pages) changed (omega arith)) o r.fits;
+      fits = fits_outside free a b v
+          (not_head (HEAD_BLOCKS + length v.pages) changed (omega arith)) o r.fits;
       gate_kept = o.pending 1 not_gate ∙ r.gate_kept;
       gate = ap is_open (o.blocks 1 not_gate) ∙ r.gate;
       logged =
           logged_outside free a b v.pages changed (λ (i : free 2). absurd (omega (arith, i.is)))
-          (λ p below (i : free (7 + p)). absurd (omega (arith, i.is, below))) o r.logged;
+          (λ p below (i : free (HEAD_BLOCKS + p)). absurd (omega (arith, i.is, below))) o r.logged;
       homes = λ p below bit_off.
           stays free a b o (home (length v.pages) p) (λ (i : free (home (length v.pages) p)).
           let at : i.page ≡ p =
@@ -241,12 +250,14 @@ opened_homes a b v changed o r =
     }
 
 -- a write to one slot leaves it at rest
-pub rest_slot : (n : ℕ) (a b : Moment) (v : View) → 7 ≤ n → n < 7 + length v.pages
+pub rest_slot : (n : ℕ) (a b : Moment) (v : View) → HEAD_BLOCKS ≤ n
+    → n < HEAD_BLOCKS + length v.pages
     → Outside (λ k. k ≡ n) a b → AtRest a v → AtRest b v
 rest_slot n a b v low high o rest =
     record {
       fits = fits_outside (λ k. k ≡ n) a b v
-          (λ k is (e : k ≡ n). absurd (omega (arith, head_below k 7 is (omega arith)))) o rest.fits;
+          (λ k is (e : k ≡ n). absurd (omega (arith, head_below k HEAD_BLOCKS is (omega arith)))) o
+          rest.fits;
       gate_kept = o.pending 1 (λ (e : 1 ≡ n). absurd (omega arith)) ∙ rest.gate_kept;
       gate = ap is_open (o.blocks 1 (λ (e : 1 ≡ n). absurd (omega arith))) ∙ rest.gate;
       homes = λ p below.

@@ -4,6 +4,7 @@ use Rattle.std.specs.List.{range_with_len}
 use Rattle.gx_device.specs.Content.{Content, NonePending}
 use Rattle.gx_device.specs.Crash.{IsImage, LeavesOnly}
 use Rattle.gx_layout.specs.Layout.{View, StandsFor, IsIn, flags, is_open, head_of, pages_of, replayed}
+use Rattle.gx_layout.specs.declared.formatting.TheConstants.{HEAD_BLOCKS}
 
 -- the pages of these blocks, as recovery finds them
 abbrev pub replayed_pages : List (List ℕ) → List (List ℕ)
@@ -31,4 +32,4 @@ Recovers v old new = LeavesOnly (IsImage old.now) old new ⊎ AfterSync v old ne
 abbrev pub IsOfRecovery : ℕ → List (List ℕ) → ℕ → Type 0
 IsOfRecovery P blocks n =
     (is_open (get_or blocks 1 []) ≡ true)
-    × ((n ≡ 1) ⊎ IsIn (7 + P) (flags (get_or blocks 2 []) P) n)
+    × ((n ≡ 1) ⊎ IsIn (HEAD_BLOCKS + P) (flags (get_or blocks 2 []) P) n)

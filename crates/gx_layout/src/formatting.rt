@@ -8,23 +8,30 @@ ghost use Rattle.gx_layout.specs.Layout.{OnlyBlocks, head_of, is_open, has_bit};
 ghost use Rattle.gx_layout.specs.Head.{text_area, text_blocks, block_in, IsText, IsFormatted};
 ghost use Rattle.gx_layout.specs.Besides.{IsImageBesides};
 ghost use Rattle.gx_device.specs.declared.device.TheConstants.{BLOCK_LEN};
-ghost use Rattle.gx_layout.specs.declared.formatting.TheConstants.{TEXT_AREA_LEN, MAX_TEXTS_LEN};
+ghost use Rattle.gx_layout.specs.declared.formatting.TheConstants.{FIRST_TEXT_BLOCK, TEXT_BLOCKS, HEAD_BLOCKS, TEXT_AREA_LEN, MAX_TEXTS_LEN};
 
 use crate::bitmap::{MAX_PAGES, write_bitmap};
 use crate::gate::set_gate;
 use gx_bytes::overwrite;
 use gx_device::{BLOCK_LEN, Device, Failed};
 
+/// The first of the blocks that hold the texts. Before it stand those of the magic, the gate and
+/// the bitmap.
 pub(crate) const FIRST_TEXT_BLOCK: u32 = 3;
 
+/// How many blocks hold the texts.
 pub(crate) const TEXT_BLOCKS: u32 = 4;
 
-const TEXT_AREA_LEN: usize = TEXT_BLOCKS as usize * BLOCK_LEN;
+/// How many blocks a device has before its pages.
+pub const HEAD_BLOCKS: u32 = FIRST_TEXT_BLOCK + TEXT_BLOCKS;
+
+/// The bytes of the blocks that hold the texts.
+pub const TEXT_AREA_LEN: usize = TEXT_BLOCKS as usize * BLOCK_LEN;
 
 const LENGTH_LEN: usize = 2;
 
 /// The most blocks of a device: those before its pages, and two for each page.
-pub const MAX_BLOCKS: u32 = FIRST_TEXT_BLOCK + TEXT_BLOCKS + 2 * MAX_PAGES as u32;
+pub const MAX_BLOCKS: u32 = HEAD_BLOCKS + 2 * MAX_PAGES as u32;
 
 /// The most bytes of the two texts: with their lengths they fill the text blocks.
 pub const MAX_TEXTS_LEN: usize = TEXT_AREA_LEN - 2 * LENGTH_LEN;
@@ -52,7 +59,7 @@ pub(crate) fn text_area(schema: &[u8], equation: &[u8]) -> [u8; TEXT_AREA_LEN]
 
 /// One of the text blocks.
 pub(crate) fn text_block(area: &[u8], i: u32) -> &[u8]
-    requires below { i < 4 }
+    requires below { i < TEXT_BLOCKS }
     requires bytes { length area.now ≡ TEXT_AREA_LEN }
     ensures is { result.now ≡ block_in area.now i }
     ensures long { length result.now ≡ BLOCK_LEN }
@@ -62,10 +69,11 @@ pub(crate) fn text_block(area: &[u8], i: u32) -> &[u8]
 }
 
 fn write_texts<D: Device>(device: &mut D, area: &[u8]) -> Result<(), Failed>
-    requires room { 7 ≤ D.size device.old }
+    requires room { HEAD_BLOCKS ≤ D.size device.old }
     requires bytes { length area.now ≡ TEXT_AREA_LEN }
     ensures texts { IsTrue D.tells → OnOk result
-        ((i : ℕ) → i < 4 → block_of (D.content device.new).now (3 + i) ≡ block_in area.now i) }
+        ((i : ℕ) → i < TEXT_BLOCKS →
+        block_of (D.content device.new).now (FIRST_TEXT_BLOCK + i) ≡ block_in area.now i) }
     ensures run { Through (Outside IsText (D.content device.old).now) (D.content device.old)
         (D.content device.new) }
     ensures rest { OnlyBlocks IsText (D.content device.old) (D.content device.new) }
@@ -80,7 +88,7 @@ fn write_texts<D: Device>(device: &mut D, area: &[u8]) -> Result<(), Failed>
 
 // Writes all blocks of an empty layout.
 fn lay_out<D: Device>(device: &mut D, schema: &[u8], equation: &[u8]) -> Result<(), Failed>
-    requires room { 7 ≤ D.size device.old }
+    requires room { HEAD_BLOCKS ≤ D.size device.old }
     requires texts { length schema.now + length equation.now ≤ MAX_TEXTS_LEN }
     ensures head { IsTrue D.tells → OnOk result (head_of (D.content device.new).now.blocks
         ≡ block_of (D.content device.old).now 0 ∷ text_blocks schema.now equation.now) }
@@ -102,7 +110,7 @@ fn lay_out<D: Device>(device: &mut D, schema: &[u8], equation: &[u8]) -> Result<
 /// Lays out a device: the gate is closed, the bitmap is empty, and the text blocks hold the texts.
 /// The block of the magic and the pages stay as they are.
 pub fn format<D: Device>(device: &mut D, schema: &[u8], equation: &[u8]) -> Result<(), Failed>
-    requires room { 7 ≤ D.size device.old }
+    requires room { HEAD_BLOCKS ≤ D.size device.old }
     requires texts { length schema.now + length equation.now ≤ MAX_TEXTS_LEN }
     ensures head { IsTrue D.tells → OnOk result (head_of (D.content device.new).now.blocks
         ≡ block_of (D.content device.old).now 0 ∷ text_blocks schema.now equation.now) }

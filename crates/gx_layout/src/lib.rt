@@ -10,7 +10,7 @@ mod recovery;
 mod texts;
 
 pub use bitmap::{MAX_PAGES, write_bitmap};
-pub use formatting::{MAX_BLOCKS, MAX_TEXTS_LEN, format};
+pub use formatting::{HEAD_BLOCKS, MAX_BLOCKS, MAX_TEXTS_LEN, TEXT_AREA_LEN, format};
 pub use gate::{close_gate, open_gate, set_gate};
 pub use head::seal;
 pub use recovery::recover;

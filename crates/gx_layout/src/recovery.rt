@@ -8,7 +8,9 @@ ghost use Rattle.gx_layout.specs.Head.{HasMagic};
 ghost use Rattle.gx_layout.specs.Recovered.{Recovers, IsOfRecovery};
 ghost use Rattle.gx_device.specs.declared.device.TheConstants.{BLOCK_LEN};
 ghost use Rattle.gx_layout.specs.declared.bitmap.TheConstants.{MAX_PAGES};
+ghost use Rattle.gx_layout.specs.declared.formatting.TheConstants.{HEAD_BLOCKS};
 
+use crate::formatting::HEAD_BLOCKS;
 use crate::gate::close_gate;
 use crate::head::has_magic;
 use gx_device::{BLOCK_LEN, Device, Failed};
@@ -52,22 +54,22 @@ fn copy_page<D: Device>(device: &mut D, slot: u32, home: u32) -> Result<(), Fail
 }
 
 fn copy_home<D: Device>(device: &mut D, bitmap: &[u8], pages: u32) -> Result<(), Failed>
-    requires room { 7 + 2 * pages ≤ D.size device.old }
+    requires room { HEAD_BLOCKS + 2 * pages ≤ D.size device.old }
     requires limit { pages ≤ MAX_PAGES }
     requires bits { length bitmap.now ≡ BLOCK_LEN }
     ensures copied { IsTrue D.tells →
         OnOk result
         (CopiedBelow pages pages bitmap.now (D.content device.old).now (D.content device.new).now) }
-    ensures rest { Through (Outside (IsIn (7 + pages) (flags bitmap.now pages))
+    ensures rest { Through (Outside (IsIn (HEAD_BLOCKS + pages) (flags bitmap.now pages))
         (D.content device.old).now) (D.content device.old) (D.content device.new) }
-    ensures touched { OnlyBlocks (IsIn (7 + pages) (flags bitmap.now pages)) (D.content device.old)
-        (D.content device.new) }
+    ensures touched { OnlyBlocks (IsIn (HEAD_BLOCKS + pages) (flags bitmap.now pages))
+        (D.content device.old) (D.content device.new) }
     ensures size { D.size device.new ≡ D.size device.old }
     ensures faults { IsCounted (D.faults device.old) (D.faults device.new) result }
 {
     for p in 0..pages {
         if bit_of(bitmap, p as usize) {
-            copy_page(device, 7 + p, 7 + pages + p)?;
+            copy_page(device, HEAD_BLOCKS + p, HEAD_BLOCKS + pages + p)?;
         }
     }
     Ok(())
@@ -75,7 +77,7 @@ fn copy_home<D: Device>(device: &mut D, bitmap: &[u8], pages: u32) -> Result<(),
 
 // Where the gate is open, the pages that the bitmap names go home.
 fn bring_back<D: Device>(device: &mut D, pages: u32) -> Result<(), Failed>
-    requires room { 7 + 2 * pages ≤ D.size device.old }
+    requires room { HEAD_BLOCKS + 2 * pages ≤ D.size device.old }
     requires limit { pages ≤ MAX_PAGES }
     ensures images { IsTrue D.tells → (v : View) → length v.pages ≡ pages →
         NonePending (D.content device.old) → ReadsAs (D.content device.old).now v
@@ -88,7 +90,8 @@ fn bring_back<D: Device>(device: &mut D, pages: u32) -> Result<(), Failed>
         (IsReady (D.content device.new).now v v
         (flags (block_of (D.content device.old).now 2) pages)) }
     ensures touched { IsTrue D.tells →
-        OnlyBlocks (IsIn (7 + pages) (flags (block_of (D.content device.old).now 2) pages))
+        OnlyBlocks
+        (IsIn (HEAD_BLOCKS + pages) (flags (block_of (D.content device.old).now 2) pages))
         (D.content device.old) (D.content device.new) }
     ensures silent { Silent (D.content device.old) (D.content device.new) }
     ensures size { D.size device.new ≡ D.size device.old }
@@ -104,7 +107,7 @@ fn bring_back<D: Device>(device: &mut D, pages: u32) -> Result<(), Failed>
 // for.
 /// A crash at any moment leaves the same pages.
 fn settle<D: Device>(device: &mut D, pages: u32) -> Result<(), Failed>
-    requires room { 7 + 2 * pages ≤ D.size device.old }
+    requires room { HEAD_BLOCKS + 2 * pages ≤ D.size device.old }
     requires limit { pages ≤ MAX_PAGES }
     ensures images { IsTrue D.tells → (v : View) → length v.pages ≡ pages →
         NonePending (D.content device.old) → ReadsAs (D.content device.old).now v
@@ -130,7 +133,7 @@ fn settle<D: Device>(device: &mut D, pages: u32) -> Result<(), Failed>
 /// first sync a crash leaves what one right before the call could have left; from then on it leaves
 /// the same pages. Without the magic no block is written, whatever is answered.
 pub fn recover<D: Device>(device: &mut D, pages: u32) -> Result<bool, Failed>
-    requires room { 7 + 2 * pages ≤ D.size device.old }
+    requires room { HEAD_BLOCKS + 2 * pages ≤ D.size device.old }
     requires limit { pages ≤ MAX_PAGES }
     ensures magic { IsTrue D.tells → IfOk result
         (λ found. IsTrue found ↔ HasMagic (block_of (D.content device.old).now 0)) }

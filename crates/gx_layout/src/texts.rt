@@ -4,7 +4,7 @@ ghost use Rattle.gx_device.specs.Faults.{IsCounted};
 ghost use Rattle.gx_layout.specs.Layout.{head_of};
 ghost use Rattle.gx_layout.specs.Head.{DifferFirst, text_at, text_area};
 ghost use Rattle.gx_layout.specs.Calm.{OnlyReads};
-ghost use Rattle.gx_layout.specs.declared.formatting.TheConstants.{MAX_TEXTS_LEN};
+ghost use Rattle.gx_layout.specs.declared.formatting.TheConstants.{HEAD_BLOCKS, MAX_TEXTS_LEN};
 
 use crate::formatting::{FIRST_TEXT_BLOCK, TEXT_BLOCKS, text_area, text_block};
 use gx_device::{BLOCK_LEN, Device, Failed};
@@ -32,7 +32,7 @@ pub fn texts_differ<D: Device>(
     schema: &[u8],
     equation: &[u8],
 ) -> Result<Option<u16>, Failed>
-    requires room { 7 ≤ D.size device.old }
+    requires room { HEAD_BLOCKS ≤ D.size device.old }
     requires texts { length schema.now + length equation.now ≤ MAX_TEXTS_LEN }
     ensures place { IsTrue D.tells →
         IfOk result (DifferFirst (text_at (head_of (D.content device.old).now.blocks))
