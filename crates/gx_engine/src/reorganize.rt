@@ -2,6 +2,7 @@
 ghost use Rattle.std.specs.Prelude.{◌≡◌, ◌≤◌, ℕ, length, slice_get, OnOk, IsErrOf, Some};
 ghost use Rattle.gx_ports.specs.LeafMaps.{IsCrowded};
 ghost use Rattle.gx_ports.specs.Calls.{Keeps, Ends};
+ghost use Rattle.gx_ports.specs.declared.kinds.TheConstants.{MAX_LEAVES};
 
 use gx_ports::{Leaves, Stop};
 use gx_typing::Owners;
@@ -16,7 +17,7 @@ pub(crate) fn reorganize<B: Leaves>(
     leaves: &mut B,
 ) -> Result<(), Stop>
     requires owned { length owners.now ≡ length (B.working leaves.old) }
-    requires few { length owners.now ≤ 255 }
+    requires few { length owners.now ≤ MAX_LEAVES }
     ensures working { B.whole leaves.old →
         OnOk result (B.working leaves.new ≡ B.working leaves.old) }
     ensures fresh { B.whole leaves.old → OnOk result

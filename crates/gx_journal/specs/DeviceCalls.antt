@@ -8,12 +8,13 @@ use Rattle.gx_device.specs.Faults.{IsCounted}
 use Rattle.gx_layout.specs.Layout.{OnlyBlocks}
 use Rattle.gx_layout.specs.Besides.{Flushes}
 use Rattle.gx_layout.specs.declared.bitmap.TheConstants.{MAX_PAGES}
+use Rattle.gx_layout.specs.declared.formatting.TheConstants.{HEAD_BLOCKS}
 
 module _ {D : Type 0} (g : device.Ghosts D) where
   -- the bitmap has a bit for each of so many pages, and the device has a slot and a home for each
   pub record HasPlaces (d : D) (pages : ℕ) : Type 0 where
     pub few : pages ≤ MAX_PAGES
-    pub room : 7 + 2 * pages ≤ g.size d
+    pub room : HEAD_BLOCKS + 2 * pages ≤ g.size d
 
   -- a call that takes a moment of the device, and changes nothing of what it holds
   pub record ReadsOnly {T : Type 0} (old new : D) (result : Result T Failed) : Type 0 where

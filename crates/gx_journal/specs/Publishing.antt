@@ -7,6 +7,7 @@ use Rattle.gx_device.specs.Crash.{LeavesOnly}
 use Rattle.gx_frames.specs.Pool.{Resident, Pool, find_page}
 use Rattle.gx_layout.specs.Layout.{View, AtRest, Either, Holds, SameButChanged, with_pages, home}
 use Rattle.gx_journal.specs.Sources.{IsListed}
+use Rattle.gx_layout.specs.declared.formatting.TheConstants.{HEAD_BLOCKS}
 
 -- the same pages stand in the frames, with the same bytes, in any order
 pub record SameResidents (old new : Pool) : Type 0 where
@@ -18,7 +19,7 @@ pub record SameResidents (old new : Pool) : Type 0 where
 -- the home of each listed page has what was in its slot
 abbrev pub AreCopiedHome : ℕ → List ℕ → (old new : Moment) → Type 0
 AreCopiedHome P listed old new = (i : ℕ) → i < length listed
-    → block_of new (home P (get_or listed i 0)) ≡ block_of old (7 + get_or listed i 0)
+    → block_of new (home P (get_or listed i 0)) ≡ block_of old (HEAD_BLOCKS + get_or listed i 0)
 
 -- the device is at rest with the kept pages, and those that have changed since are in their slots
 pub record IsPrepared (kept : View) (pages : List (List ℕ)) (spilled : List Bool)
@@ -27,7 +28,7 @@ pub record IsPrepared (kept : View) (pages : List (List ℕ)) (spilled : List Bo
   pub count : length spilled ≡ length pages
   pub rest : AtRest m kept
   pub same : SameButChanged spilled kept.pages pages
-  pub slots : Holds 7 pages spilled m
+  pub slots : Holds HEAD_BLOCKS pages spilled m
 
 -- The pages take the place of the kept ones all at once: a crash within the call leaves the kept
 -- ones or these, and after an Ok the device is at rest with these.
@@ -40,7 +41,7 @@ module _ {D : Type 0} (g : device.Ghosts D) where
   -- where a page stands in a frame, its slot has the same bytes
   abbrev pub IsInSlot : ℕ → Pool → D → Type 0
   IsInSlot p frames d = IsTrue g.tells → (r : Resident) → find_page p frames.resident ≡ Some r
-      → r.bytes ≡ block_of (g.content d).now (7 + p)
+      → r.bytes ≡ block_of (g.content d).now (HEAD_BLOCKS + p)
 
   -- each listed page is one of so many, and in its slot
   pub record AreInSlots (pages : ℕ) (listed : List ℕ) (frames : Pool) (d : D) : Type 0 where

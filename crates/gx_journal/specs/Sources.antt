@@ -7,11 +7,13 @@ use Rattle.gx_device.specs.Content.{Content}
 use Rattle.gx_device.specs.Crash.{Outside}
 use Rattle.gx_layout.specs.Layout.{View, home}
 use Rattle.gx_layout.specs.Calm.{Calm}
+use Rattle.gx_layout.specs.declared.formatting.TheConstants.{HEAD_BLOCKS}
 
 -- page p on the device: in its slot where it is spilled, else at home
 abbrev pub stored : ℕ → List (List ℕ) → List Bool → ℕ → List ℕ
 stored P blocks spilled p =
-    if get_or spilled p false then get_or blocks (7 + p) [] else get_or blocks (home P p) []
+    if get_or spilled p false then get_or blocks (HEAD_BLOCKS + p) []
+    else get_or blocks (home P p) []
 
 -- page p: in a frame where it is resident, else as it is stored
 abbrev pub page_of : ℕ → List (List ℕ) → List Bool → List Resident → ℕ → List ℕ
@@ -40,7 +42,7 @@ pub record IsListed (spilled : List Bool) (listed : List ℕ) : Type 0 where
 
 -- a block is a slot
 abbrev pub IsSlot : ℕ → ℕ → Type 0
-IsSlot P n = (7 ≤ n) × (n < 7 + P)
+IsSlot P n = (HEAD_BLOCKS ≤ n) × (n < HEAD_BLOCKS + P)
 
 -- no block but slots changed, nothing was heard, and what was calm is
 pub record OnlySlots (P : ℕ) (old new : Content) : Type 0 where
@@ -61,4 +63,4 @@ IsCommitted P listed n = (n ≡ 1) ⊎ (n ≡ 2) ⊎ IsHomeOf P listed n
 
 -- a block that isn't of the head
 abbrev pub IsBody : ℕ → Type 0
-IsBody n = (n ≡ 1) ⊎ (n ≡ 2) ⊎ (7 ≤ n)
+IsBody n = (n ≡ 1) ⊎ (n ≡ 2) ⊎ (HEAD_BLOCKS ≤ n)

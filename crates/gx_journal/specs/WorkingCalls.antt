@@ -7,12 +7,13 @@ use Rattle.gx_journal.specs.declared.working.WorkingPages.{WorkingPages}
 use Rattle.gx_journal.specs.DeviceCalls.{TouchesOnly}
 use Rattle.gx_journal.specs.Sources.{SamePages, OnlySlots, IsBody}
 use Rattle.gx_journal.specs.Working.{size_in, page_in, IsCachedIn}
+use Rattle.gx_layout.specs.declared.formatting.TheConstants.{HEAD_BLOCKS}
 
 module _ {D : Type 0} (g : device.Ghosts D) where
   -- the device has a slot and a home for each page, and holds the bytes of each page that stands in
   -- a frame and hasn't changed
   pub record IsBacked (d : D) (w : WorkingPages) : Type 0 where
-    pub room : 7 + 2 * size_in w ≤ g.size d
+    pub room : HEAD_BLOCKS + 2 * size_in w ≤ g.size d
     pub cached : IsTrue g.tells → IsCachedIn (size_in w) (g.content d) w
 
   -- what a call on the working pages keeps, whatever it answers: no block but slots changes

@@ -7,11 +7,13 @@ ghost use Rattle.gx_journal.specs.Sources.{SamePages};
 ghost use Rattle.gx_journal.specs.Working.{size_in, page_in, IsUnchangedIn};
 ghost use Rattle.gx_journal.specs.WorkingCalls.{IsBacked, WritesSlots, KeepsWorking};
 ghost use Rattle.gx_device.specs.declared.device.TheConstants.{BLOCK_LEN};
+ghost use Rattle.gx_layout.specs.declared.formatting.TheConstants.{HEAD_BLOCKS};
 
 use crate::room::{make_room, reserve};
 use crate::working::WorkingPages;
 use gx_device::{Device, Failed};
 use gx_frames::{Call, Frames};
+use gx_layout::HEAD_BLOCKS;
 
 // A page stands in a frame, with these bytes, and counts as changed.
 fn put(frames: &mut Frames, p: u32, from: &[u8])
@@ -68,14 +70,15 @@ fn fetch<D: Device>(
     requires places { HasPlaces D.Device device.old pages }
     ensures page { IsTrue D.tells →
         OnOk result
-        (into.new ≡ (if is_spilled then slice_index_or (D.content device.old).now.blocks (7 + p) []
+        (into.new ≡ (if is_spilled
+        then slice_index_or (D.content device.old).now.blocks (HEAD_BLOCKS + p) []
         else slice_index_or (D.content device.old).now.blocks (home pages p) [])) }
     ensures reads { ReadsOnly D.Device device.old device.new result }
 {
     if is_spilled {
-        device.read_block(7 + p, into)
+        device.read_block(HEAD_BLOCKS + p, into)
     } else {
-        device.read_block(7 + pages + p, into)
+        device.read_block(HEAD_BLOCKS + pages + p, into)
     }
 }
 

@@ -10,7 +10,7 @@ ghost use Rattle.gx_layout.specs.Besides.{IsImageBesides, IsUnsealed};
 ghost use Rattle.gx_layout.specs.Recovered.{Recovers, IsOfRecovery, replayed_pages, view_now};
 ghost use Rattle.gx_journal.specs.Sources.{IsCached};
 ghost use Rattle.gx_device.specs.declared.device.TheConstants.{BLOCK_LEN};
-ghost use Rattle.gx_layout.specs.declared.formatting.TheConstants.{MAX_BLOCKS, MAX_TEXTS_LEN};
+ghost use Rattle.gx_layout.specs.declared.formatting.TheConstants.{HEAD_BLOCKS, MAX_BLOCKS, MAX_TEXTS_LEN};
 
 use crate::access::{read, write};
 use crate::commit::commit;
@@ -18,7 +18,7 @@ use crate::forget::forget;
 use crate::opening::Unopened;
 use crate::working::WorkingPages;
 use gx_device::{Device, Failed};
-use gx_layout::{format, recover, seal, texts_differ};
+use gx_layout::{HEAD_BLOCKS, format, recover, seal, texts_differ};
 use std::alloc::Global;
 
 /// Pages that are committed all at once.
@@ -31,7 +31,7 @@ pub struct Journal<D: Device> {
     device: D,
     working: WorkingPages,
     failed: bool,
-    ghost room: { 7 + 2 * length working.spilled.items ≤ D.size device },
+    ghost room: { HEAD_BLOCKS + 2 * length working.spilled.items ≤ D.size device },
     ghost limit: { D.size device ≤ MAX_BLOCKS },
     ghost count: { length working.spilled.items ≡ pages_of (D.size device) },
     ghost closed: { IsTrue D.tells → failed ≡ false →
@@ -49,7 +49,7 @@ impl<D: Device> Journal<D> {
 
     // A journal whose working pages are all at home.
     fn over(device: D, working: WorkingPages) -> Journal<D>
-        requires blocks { 7 + 2 * size_in working ≤ D.size device }
+        requires blocks { HEAD_BLOCKS + 2 * size_in working ≤ D.size device }
         requires limit { D.size device ≤ MAX_BLOCKS }
         requires count { size_in working ≡ pages_of (D.size device) }
         requires closed { IsTrue D.tells → is_open (block_of (D.content device).now 1) ≡ false }
@@ -77,7 +77,7 @@ impl<D: Device> Journal<D> {
     pub fn recover(alloc: Global, mut device: D, frames: u32) -> Result<Journal<D>, (D, Unopened)>
         requires least { 8 ≤ frames }
         requires most { frames ≤ 1024 }
-        requires blocks { 7 ≤ D.size device }
+        requires blocks { HEAD_BLOCKS ≤ D.size device }
         requires limit { D.size device ≤ MAX_BLOCKS }
         ensures kept { IsTrue D.tells →
             IfOk result (λ j. kept_of j ≡ replayed_pages (D.content device).now.blocks) }
@@ -129,7 +129,7 @@ impl<D: Device> Journal<D> {
     ) -> Result<Journal<D>, (D, Unopened)>
         requires least { 8 ≤ frames }
         requires most { frames ≤ 1024 }
-        requires blocks { 7 ≤ D.size device }
+        requires blocks { HEAD_BLOCKS ≤ D.size device }
         requires limit { D.size device ≤ MAX_BLOCKS }
         requires texts { length schema.now + length equation.now ≤ MAX_TEXTS_LEN }
         ensures kept { IfOk result
@@ -212,7 +212,7 @@ impl<D: Device> Journal<D> {
         requires { p < size_of self.now }
         ensures { result ≡ home (size_of self.now) p }
     {
-        7 + self.pages() + p
+        HEAD_BLOCKS + self.pages() + p
     }
 
     /// Reads a page as it was written last. After `Failed` the slice may hold anything.

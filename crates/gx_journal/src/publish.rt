@@ -6,10 +6,11 @@ ghost use Rattle.gx_journal.specs.DeviceCalls.{HasPlaces, TouchesOnly, WritesOnl
 ghost use Rattle.gx_journal.specs.Publishing.{SameResidents, AreCopiedHome, IsPrepared, Replaces, IsInSlot, AreInSlots, AreSpilled};
 ghost use Rattle.gx_journal.specs.Sources.{IsHomeOf, IsCommitted};
 ghost use Rattle.gx_layout.specs.declared.bitmap.TheConstants.{MAX_PAGES};
+ghost use Rattle.gx_layout.specs.declared.formatting.TheConstants.{HEAD_BLOCKS};
 
 use gx_device::{BLOCK_LEN, Device, Failed};
 use gx_frames::Frames;
-use gx_layout::{close_gate, open_gate, write_bitmap};
+use gx_layout::{HEAD_BLOCKS, close_gate, open_gate, write_bitmap};
 
 // Copies a page from its slot to its home.
 fn copy_home<D: Device>(device: &mut D, pages: u32, p: u32) -> Result<(), Failed>
@@ -17,12 +18,12 @@ fn copy_home<D: Device>(device: &mut D, pages: u32, p: u32) -> Result<(), Failed
     requires places { HasPlaces D.Device device.old pages }
     ensures home { IsTrue D.tells →
         OnOk result (block_of (D.content device.new).now (home pages p)
-        ≡ block_of (D.content device.old).now (7 + p)) }
+        ≡ block_of (D.content device.old).now (HEAD_BLOCKS + p)) }
     ensures writes { WritesOnly D.Device (λ n. n ≡ home pages p) device.old device.new result }
 {
     let mut page = [0; BLOCK_LEN];
-    device.read_block(7 + p, &mut page)?;
-    device.write_block(7 + pages + p, &page)
+    device.read_block(HEAD_BLOCKS + p, &mut page)?;
+    device.write_block(HEAD_BLOCKS + pages + p, &page)
 }
 
 // Writes a page home, from its frame where it stands in one, else from its slot.
@@ -38,12 +39,12 @@ fn write_home<D: Device>(
     requires slot { IsInSlot D.Device p frames.old device.old }
     ensures home { IsTrue D.tells →
         OnOk result (block_of (D.content device.new).now (home pages p)
-        ≡ block_of (D.content device.old).now (7 + p)) }
+        ≡ block_of (D.content device.old).now (HEAD_BLOCKS + p)) }
     ensures frames { SameResidents frames.old frames.new }
     ensures writes { WritesOnly D.Device (λ n. n ≡ home pages p) device.old device.new result }
 {
     if let Some(bytes) = frames.get(p) {
-        device.write_block(7 + pages + p, bytes)
+        device.write_block(HEAD_BLOCKS + pages + p, bytes)
     } else {
         copy_home(device, pages, p)
     }
@@ -118,7 +119,7 @@ pub(crate) fn publish<D: Device>(
     ensures homes { IsTrue D.tells →
         OnOk result ((p : ℕ) → slice_index_or spilled.now.items p false ≡ true →
         block_of (D.content device.new).now (home (length spilled.now.items) p)
-        ≡ block_of (D.content device.old).now (7 + p)) }
+        ≡ block_of (D.content device.old).now (HEAD_BLOCKS + p)) }
     ensures replaces { IsTrue D.tells → (kept : View) (pages : List (List ℕ)) →
         IsPrepared kept pages spilled.now.items (D.content device.old).now
         → Replaces kept pages (D.content device.old) (D.content device.new) result }

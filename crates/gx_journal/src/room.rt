@@ -7,10 +7,12 @@ ghost use Rattle.gx_journal.specs.Publishing.{SameResidents};
 ghost use Rattle.gx_journal.specs.Sources.{stored, IsListed};
 ghost use Rattle.gx_journal.specs.Working.{size_in, IsUnchangedIn};
 ghost use Rattle.gx_journal.specs.WorkingCalls.{IsBacked, KeepsWorking};
+ghost use Rattle.gx_layout.specs.declared.formatting.TheConstants.{HEAD_BLOCKS};
 
 use crate::working::WorkingPages;
 use gx_device::{Device, Failed};
 use gx_frames::Frames;
+use gx_layout::HEAD_BLOCKS;
 
 // Writes a resident page to its slot.
 fn write_slot<D: Device>(device: &mut D, frames: &mut Frames, p: u32) -> Result<(), Failed>
@@ -19,11 +21,12 @@ fn write_slot<D: Device>(device: &mut D, frames: &mut Frames, p: u32) -> Result<
     requires resident { IsResident frames.old p }
     ensures frames { frames.new ≡ with_residents frames.old (to_front p frames.old.resident) }
     ensures written { IsTrue D.tells → (r : Resident) → find_page p frames.old.resident ≡ Some r →
-        OnOk result (Written (7 + p) r.bytes (D.content device.old) (D.content device.new)) }
-    ensures writes { WritesBlock D.Device (7 + p) device.old device.new result }
+        OnOk result
+        (Written (HEAD_BLOCKS + p) r.bytes (D.content device.old) (D.content device.new)) }
+    ensures writes { WritesBlock D.Device (HEAD_BLOCKS + p) device.old device.new result }
 {
     if let Some(bytes) = frames.get(p) {
-        device.write_block(7 + p, bytes)
+        device.write_block(HEAD_BLOCKS + p, bytes)
     } else {
         Err(Failed)
     }

@@ -3,10 +3,11 @@ ghost use Rattle.std.specs.Prelude.{◌≡◌, ◌≤◌, [], false, length, rep
 ghost use Rattle.gx_layout.specs.Layout.{pages_of};
 ghost use Rattle.gx_journal.specs.Sources.{IsListed};
 ghost use Rattle.gx_layout.specs.declared.bitmap.TheConstants.{MAX_PAGES};
-ghost use Rattle.gx_layout.specs.declared.formatting.TheConstants.{MAX_BLOCKS};
+ghost use Rattle.gx_layout.specs.declared.formatting.TheConstants.{HEAD_BLOCKS, MAX_BLOCKS};
 
 use gx_device::NoMemory;
 use gx_frames::Frames;
+use gx_layout::HEAD_BLOCKS;
 use std::alloc::Global;
 
 // The working pages: some stand in frames, the spilled ones of the others in their slots, and the
@@ -27,14 +28,14 @@ impl WorkingPages {
     pub(crate) fn make(alloc: Global, frames: u32, blocks: u32) -> Result<WorkingPages, NoMemory>
         requires least { 8 ≤ frames }
         requires most { frames ≤ 1024 }
-        requires head { 7 ≤ blocks }
+        requires head { HEAD_BLOCKS ≤ blocks }
         requires limit { blocks ≤ MAX_BLOCKS }
         ensures count { IfOk result (λ working. length working.spilled.items ≡ pages_of blocks) }
         ensures absent { IfOk result (λ working. working.frames.resident ≡ []) }
         ensures unspilled { IfOk result (λ working. working.spilled.items
             ≡ replicate (length working.spilled.items) false) }
     {
-        let pages = (blocks - 7) / 2;
+        let pages = (blocks - HEAD_BLOCKS) / 2;
         Ok(WorkingPages {
             frames: Frames::make(alloc, frames, pages)?,
             spilled: vec![in alloc; false; pages as usize]?,

@@ -5,6 +5,7 @@ use Rattle.gx_ports.specs.declared.pages.Place.{Place}
 use Rattle.gx_ports.specs.Roots.{roots_of, root_pages}
 use Rattle.gx_ports.specs.Sheets.{Ground}
 use Rattle.gx_leaves.specs.Kinds.{are_built}
+use Rattle.gx_ports.specs.declared.kinds.TheConstants.{MAX_LEAVES}
 
 -- the root pages lie one behind the other, and the owners are numbered
 abbrev pub places_from : ℕ → ℕ → List LeafSpec → List Place
@@ -20,13 +21,9 @@ places_of base specs = places_from base.tables 1 specs
 abbrev pub specs_of : List Place → List LeafSpec
 specs_of places = map (λ place. place.spec) places
 
--- how many leaves there may be
-abbrev pub most_leaves : ℕ
-most_leaves = 255
-
 -- leaves for which there is room
 pub record IsRoomFor (base : Ground) (specs : List LeafSpec) : Type 0 where
-  pub few : length specs ≤ most_leaves
+  pub few : length specs ≤ MAX_LEAVES
   pub room : base.tables + root_pages specs ≤ base.size
   pub built : IsTrue (are_built specs)
 

@@ -9,11 +9,12 @@ use Rattle.gx_model.specs.States.{State}
 use Rattle.gx_states.specs.Internal.{AreInternal}
 use Rattle.gx_layout.specs.Layout.{pages_of}
 use Rattle.gx_store.specs.Device.{IsSettled}
+use Rattle.gx_ports.specs.declared.pages.TheConstants.{TABLE_PAGES}
 
 -- the pages of a device of so many blocks, and those that the leaves take from the start on
 abbrev pub limits_on : List LeafSpec → ℕ → Limits
 limits_on specs blocks =
-    record { pages = pages_of blocks; fixed = 16 + root_pages specs; blocks = blocks }
+    record { pages = pages_of blocks; fixed = TABLE_PAGES + root_pages specs; blocks = blocks }
 
 -- the blocks are settled with maps in which these nodes hold the state
 abbrev pub IsSettledIn : Schema → Built → List ℕ → List ℕ → List LeafSpec → List (List ℕ) → State

@@ -10,6 +10,7 @@ ghost use Rattle.gx_play.specs.Endings.{is_outside};
 ghost use Rattle.gx_operations.specs.Making.{making_ending, IsMaking};
 
 use gx_device::Machine;
+use gx_layout::HEAD_BLOCKS;
 use gx_play::Ending;
 use gx_requests::{Stored, unopened_ending};
 use gx_store::{Unopened, make};
@@ -68,5 +69,5 @@ fn making_ending<'a>(made: Result<(), Unopened>, blocks: u32) -> Ending<'a>
 fn page_count(blocks: u32) -> u32
     ensures { result ≡ pages_of blocks }
 {
-    blocks.saturating_sub(7) / 2
+    blocks.saturating_sub(HEAD_BLOCKS) / 2
 }

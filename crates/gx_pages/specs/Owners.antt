@@ -3,14 +3,16 @@ use Rattle.std.specs.Prelude.{◌≡◌, ◌≢◌, ℕ, ◌*◌, ◌/◌, ◌%�
 use Rattle.std.specs.Int.{w16, from_be_bytes}
 use Rattle.std.specs.List.{range_with_len}
 use Rattle.gx_ports.specs.Sheets.{Sheets, Ground, IsPast}
+use Rattle.gx_ports.specs.declared.pages.TheConstants.{OWNERS, TABLE_PAGES}
+use Rattle.gx_pages.specs.declared.table.TheConstants.{TABLE_OWNER}
 
 -- the number that a page of the table has for this page
 abbrev pub number_of : List ℕ → ℕ → ℕ
-number_of table page = from_be_bytes w16 (drop (2 * (page % 2048)) table)
+number_of table page = from_be_bytes w16 (drop (2 * (page % OWNERS)) table)
 
 -- the owner of a page
 abbrev pub owner_at : List (List ℕ) → ℕ → ℕ
-owner_at pages page = number_of (slice_index_or pages (page / 2048) []) page
+owner_at pages page = number_of (slice_index_or pages (page / OWNERS) []) page
 
 -- the owners of all pages
 abbrev pub owners_of : List (List ℕ) → List ℕ
@@ -31,18 +33,19 @@ IsFreeBetween table from end found = MatchOption found
 -- its number stands on these pages of the table.
 abbrev pub IsFoundFree : ℕ → ℕ → Ground → List (List ℕ) → Option ℕ → Type 0
 IsFoundFree from end base pages found = MatchOption found
-    ((page : ℕ) → from ≤ page / 2048 → page / 2048 < end
+    ((page : ℕ) → from ≤ page / OWNERS → page / OWNERS < end
     → IsPast base page → owner_at pages page ≢ 0)
     (λ page. owner_at pages page ≡ 0)
 
--- a page of the table, by its number, on which the table has the owner 65,535, and no other page
+-- a page of the table, by its number, on which the table's pages have its owner, and no other page
 -- has an owner
 pub record IsClear (table : ℕ) (bytes : List ℕ) : Type 0 where
-  pub own : (page : ℕ) → page / 2048 ≡ table → page < 16 → number_of bytes page ≡ 65535
-  pub free : (page : ℕ) → page / 2048 ≡ table → 16 ≤ page → number_of bytes page ≡ 0
+  pub own : (page : ℕ) → page / OWNERS ≡ table → page < TABLE_PAGES
+      → number_of bytes page ≡ TABLE_OWNER
+  pub free : (page : ℕ) → page / OWNERS ≡ table → TABLE_PAGES ≤ page → number_of bytes page ≡ 0
 
--- the table has the owner 65,535, and each page past it is free
+-- the table's pages have its owner, and each page past it is free
 pub record IsAllFree (base : Ground) (sheets : Sheets) : Type 0 where
   pub own : (page : ℕ) → page < base.tables → page < base.size
-      → slice_get sheets.owners page ≡ Some 65535
+      → slice_get sheets.owners page ≡ Some TABLE_OWNER
   pub free : (page : ℕ) → IsPast base page → slice_get sheets.owners page ≡ Some 0

@@ -8,6 +8,8 @@ use Rattle.gx_ports.specs.Sheets.{Sheets, Ground}
 use Rattle.gx_journal.specs.declared.journal.Journal.{Journal}
 use Rattle.gx_journal.specs.Journal.{device_of, content_of, size_of, working_of, kept_of, head_blocks, Keeps}
 use Rattle.gx_pages.specs.Owners.{owners_of, sheets_of}
+use Rattle.gx_ports.specs.declared.pages.TheConstants.{TABLE_PAGES}
+use Rattle.gx_layout.specs.declared.formatting.TheConstants.{HEAD_BLOCKS}
 
 -- blocks have this head, and stand for these pages with the owners of their table
 pub record StandsFor (head : List (List ℕ)) (sheets : Sheets)
@@ -27,9 +29,9 @@ module _ {D : Type 0} {g : device.Ghosts D} where
   ground_of j =
       record {
         size = size_of j;
-        tables = 16;
+        tables = TABLE_PAGES;
         blocks = g.size (device_of j);
-        first = 7 + size_of j;
+        first = HEAD_BLOCKS + size_of j;
         head = head_blocks j;
       }
 

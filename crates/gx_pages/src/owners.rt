@@ -1,17 +1,15 @@
 // The owners of pages, read off the table and written there.
 ghost use Rattle.std.specs.Prelude.{◌≡◌, ◌<◌, ◌≤◌, ◌+◌, ◌*◌, ℕ, Some, length, slice_get, IsTrue, IfOk, IfSome, OnOk};
-ghost use Rattle.gx_ports.specs.declared.pages.TheConstants.{OWNERS};
+ghost use Rattle.gx_ports.specs.declared.pages.TheConstants.{OWNERS, TABLE_PAGES};
 ghost use Rattle.gx_ports.specs.Sheets.{IsPast, IsOwnedAnew};
 ghost use Rattle.gx_journal.specs.Journal.{size_of, working_of, IsUnchanged};
 ghost use Rattle.gx_pages.specs.Owners.{owner_at, IsFoundFree, IsAllFree};
 ghost use Rattle.gx_pages.specs.Paged.{ground_of, working_sheets, KeepsJournal};
 
-use crate::table::{
-    NUMBERS, TABLE_PAGES, clear_page, free_between, number, read_numbers, set_number,
-};
+use crate::table::{NUMBERS, clear_page, free_between, number, read_numbers, set_number};
 use gx_device::{Device, Failed};
 use gx_journal::Journal;
-use gx_ports::PAGE_LEN;
+use gx_ports::{PAGE_LEN, TABLE_PAGES};
 
 /// The owner of a page, 0 where it is free.
 pub(crate) fn owner<D: Device>(journal: &mut Journal<D>, page: u32) -> Result<u16, Failed>
@@ -74,7 +72,7 @@ fn free_on<D: Device>(
     hint: u32,
 ) -> Result<Option<u32>, Failed>
     requires below { table < size_of journal.old }
-    requires table { table < 16 }
+    requires table { table < TABLE_PAGES }
     ensures free { IsTrue D.tells → IfOk result
         (IsFoundFree table (table + 1) (ground_of journal.old) (working_of journal.old)) }
     ensures past { IfOk result (λ found. IfSome found (IsPast (ground_of journal.old))) }
@@ -101,7 +99,7 @@ fn free_among<D: Device>(
     hint: u32,
 ) -> Result<Option<u32>, Failed>
     requires below { end ≤ size_of journal.old }
-    requires table { end ≤ 16 }
+    requires table { end ≤ TABLE_PAGES }
     ensures free { IsTrue D.tells → IfOk result
         (IsFoundFree from end (ground_of journal.old) (working_of journal.old)) }
     ensures past { IfOk result (λ found. IfSome found (IsPast (ground_of journal.old))) }
@@ -123,7 +121,7 @@ pub(crate) fn find_free<D: Device>(
     hint: u32,
 ) -> Result<Option<u32>, Failed>
     ensures free { IsTrue D.tells → IfOk result
-        (IsFoundFree 0 16 (ground_of journal.old) (working_of journal.old)) }
+        (IsFoundFree 0 TABLE_PAGES (ground_of journal.old) (working_of journal.old)) }
     ensures past { IfOk result (λ found. IfSome found (IsPast (ground_of journal.old))) }
     ensures working { working_of journal.new ≡ working_of journal.old }
     ensures keeps { KeepsJournal journal.old journal.new result }
@@ -140,7 +138,7 @@ pub(crate) fn find_free<D: Device>(
 pub(crate) fn clear_owners<D: Device>(journal: &mut Journal<D>) -> Result<(), Failed>
     ensures free { IsTrue D.tells → OnOk result
         (IsAllFree (ground_of journal.old) (working_sheets journal.new)) }
-    ensures bytes { IsTrue D.tells → (other : ℕ) → 16 ≤ other →
+    ensures bytes { IsTrue D.tells → (other : ℕ) → TABLE_PAGES ≤ other →
         slice_get (working_of journal.new) other ≡ slice_get (working_of journal.old) other }
     ensures keeps { KeepsJournal journal.old journal.new result }
 {

@@ -1,18 +1,19 @@
 // Pages with owners.
 ghost use Rattle.std.specs.Prelude.{◌≡◌, ◌≤◌, ◌<◌, ℕ, slice_get, IsTrue, IfOk};
+ghost use Rattle.gx_ports.specs.declared.pages.TheConstants.{TABLE_PAGES};
 
 use crate::owners::{clear_owners, find_free, owner, owners_on, set_owner};
-use crate::table::{FREE, TABLE_PAGES};
+use crate::table::FREE;
 use gx_device::{Device, Failed};
 use gx_journal::Journal;
-use gx_ports::{PageView, Pages, Stop};
+use gx_ports::{PageView, Pages, Stop, TABLE_PAGES};
 
 /// Pages with owners, over a journal.
 ///
-/// The first 16 pages are the table of the owners: the number of page p stands in two bytes, big
-/// endian, at byte 2 (p % 2048) of page p / 2048. A call that reads or changes an owner reads one
-/// page of the table. `claim` looks for a free page where the last one was claimed or freed, and
-/// reads each page of the table once at most.
+/// The first `TABLE_PAGES` pages are the table of the owners: the number of page p stands in two
+/// bytes, big endian, at byte 2 (p % 2048) of page p / 2048. A call that reads or changes an owner
+/// reads one page of the table. `claim` looks for a free page where the last one was claimed or
+/// freed, and reads each page of the table once at most.
 #[derive(Drop)]
 pub struct Paged<D: Device> {
     journal: Journal<D>,
@@ -32,7 +33,7 @@ impl<D: Device> Paged<D> {
     pub fn make(mut journal: Journal<D>) -> Result<Paged<D>, (Journal<D>, Failed)>
         ensures free { IsTrue D.tells → IfOk result
             (λ p. IsAllFree (ground_of journal) (working_sheets (journal_of p))) }
-        ensures bytes { IsTrue D.tells → (other : ℕ) → 16 ≤ other →
+        ensures bytes { IsTrue D.tells → (other : ℕ) → TABLE_PAGES ≤ other →
             slice_get (working_of (journal_left result)) other
             ≡ slice_get (working_of journal) other }
         ensures keeps { KeepsJournal journal (journal_left result) result }
@@ -43,7 +44,7 @@ impl<D: Device> Paged<D> {
         }
     }
 
-    /// The pages of a journal, working and kept, with the owners that its first 16 pages tell.
+    /// The pages of a journal, working and kept, with the owners that the pages of its table tell.
     pub fn adopt(journal: Journal<D>) -> Paged<D>
         ensures { journal_of result ≡ journal }
     {

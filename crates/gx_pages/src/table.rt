@@ -7,13 +7,10 @@ ghost use Rattle.gx_ports.specs.declared.pages.TheConstants.{OWNERS};
 ghost use Rattle.gx_pages.specs.Owners.{number_of, IsFreeBetween, IsClear};
 
 use gx_bytes::overwrite;
-use gx_ports::{OWNERS, PAGE_LEN};
-
-/// How many pages the table has.
-pub(crate) const TABLE_PAGES: u32 = 16;
+use gx_ports::{OWNERS, PAGE_LEN, TABLE_PAGES};
 
 /// The owner of a page of the table.
-pub(crate) const TABLE: u16 = 65535;
+pub(crate) const TABLE_OWNER: u16 = 65535;
 
 /// The number of a page without an owner.
 pub(crate) const FREE: u16 = 0;
@@ -25,7 +22,7 @@ const NUMBER_LEN: usize = 2;
 
 // Where the number of a page begins on its page of the table.
 fn place_of(page: u32) -> usize
-    ensures { result ≡ 2 * (page % 2048) }
+    ensures { result ≡ 2 * (page % OWNERS) }
 {
     (page % NUMBERS) as usize * NUMBER_LEN
 }
@@ -54,7 +51,7 @@ pub(crate) fn read_numbers(table: &[u8], into: &mut [u16])
 /// Writes the number of a page.
 pub(crate) fn set_number(table: &mut [u8], page: u32, number: u16)
     requires { length table.old ≡ PAGE_LEN }
-    ensures { table.new ≡ overwritten table.old (2 * (page % 2048)) (to_be_bytes w16 number) }
+    ensures { table.new ≡ overwritten table.old (2 * (page % OWNERS)) (to_be_bytes w16 number) }
 {
     overwrite(table, place_of(page), &number.to_be_bytes());
 }
@@ -78,7 +75,7 @@ fn first_clear() -> [u8; PAGE_LEN]
 {
     let mut numbers = [0; PAGE_LEN];
     for page in 0..TABLE_PAGES {
-        set_number(&mut numbers, page, TABLE);
+        set_number(&mut numbers, page, TABLE_OWNER);
     }
     numbers
 }

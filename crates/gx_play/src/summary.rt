@@ -1,6 +1,7 @@
 // What is said of texts that are accepted.
 ghost use Rattle.std.specs.Prelude.{◌≡◌, ◌≤◌, length};
 ghost use Rattle.gx_play.specs.Summaries.{summary_of};
+ghost use Rattle.gx_ports.specs.declared.kinds.TheConstants.{MAX_LEAVES};
 
 use gx_typing::{Specs, root_pages, smallest_device};
 
@@ -15,9 +16,9 @@ pub struct Summary {
     pub smallest_device: u32,
 }
 
-/// The summary of at most 255 leaves.
+/// The summary of at most `MAX_LEAVES` leaves.
 pub fn summarize(specs: &Specs) -> Summary
-    requires { length specs.now ≤ 255 }
+    requires { length specs.now ≤ MAX_LEAVES }
     ensures { result ≡ summary_of specs.now }
 {
     Summary {

@@ -3,6 +3,8 @@ use Rattle.std.specs.Prelude.{ℕ, ◌+◌, ◌*◌, List, map, sum}
 use Rattle.gx_ports.specs.declared.kinds.LeafKind.{LeafKind}
 use Rattle.gx_ports.specs.declared.kinds.LeafKind.TheVariants as leaf
 use Rattle.gx_ports.specs.declared.kinds.LeafSpec.{LeafSpec}
+use Rattle.gx_layout.specs.declared.formatting.TheConstants.{HEAD_BLOCKS}
+use Rattle.gx_ports.specs.declared.pages.TheConstants.{TABLE_PAGES}
 
 -- a hashed leaf has one for each chain
 abbrev pub roots_of_kind : LeafKind → ℕ
@@ -17,6 +19,6 @@ roots_of spec = roots_of_kind spec.kind
 abbrev pub root_pages : List LeafSpec → ℕ
 root_pages specs = sum (map roots_of specs)
 
--- 7 blocks, and two for each page of the table of owners, which has 16, and for each root page
+-- the blocks before the pages, and two for each page of the table of owners and for each root page
 abbrev pub smallest_device : List LeafSpec → ℕ
-smallest_device specs = 7 + 2 * (16 + root_pages specs)
+smallest_device specs = HEAD_BLOCKS + 2 * (TABLE_PAGES + root_pages specs)

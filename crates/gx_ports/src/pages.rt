@@ -14,6 +14,9 @@ use gx_device::Failed;
 /// The greatest owner of a page past the table. The least is 1; a page of the owner 0 is free.
 pub const MAX_OWNER: u16 = 65534;
 
+/// How many pages the table of the owners has. They are the first ones.
+pub const TABLE_PAGES: u32 = 16;
+
 /// How many owners stand on a page of the table.
 pub const OWNERS: usize = 2048;
 

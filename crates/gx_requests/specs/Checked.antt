@@ -24,6 +24,7 @@ use Rattle.gx_requests.specs.declared.reading.Checked.{Checked}
 use Rattle.gx_requests.specs.Lengths.{text_length}
 use Rattle.gx_requests.specs.Requests.{AreAccepted, IsAccepted, equation_of, text_limit}
 use Rattle.gx_requests.specs.Words.{Action}
+use Rattle.gx_ports.specs.declared.kinds.TheConstants.{MAX_LEAVES}
 
 -- why a schema isn't read
 abbrev pub IsUnread : List ℕ → Ending → Type 0
@@ -50,7 +51,7 @@ pub record IsChecked (c : Checked) : Type 0 where
   pub written : AreWritten (definitions_of c.equation.definitions)
   pub typed : IsTyped c.schema (definitions_of c.equation.definitions)
   pub leaves_are : c.typing ≡ typing_with (leaves c.schema (definitions_of c.equation.definitions))
-  pub few : length c.typing.specs ≤ 255
+  pub few : length c.typing.specs ≤ MAX_LEAVES
   pub short : text_length c.schema (definitions_of c.equation.definitions) ≤ text_limit
 
 -- the checker accepts these two texts

@@ -22,6 +22,7 @@ use Rattle.gx_linksets.specs.Stored.{IsStorableLink, rows_of, IsHeldAt}
 use Rattle.gx_model.specs.States.{File, State, file_in, link_in, IsValid}
 use Rattle.gx_scan.specs.Files.{records_of, IsStorable}
 use Rattle.gx_scan.specs.Where.{AreNamed}
+use Rattle.gx_ports.specs.declared.kinds.TheConstants.{MAX_LEAVES}
 
 -- the leaves hold the records of each file and each link of a valid state
 pub record AreInternal (schema : Schema) (built : Built) (maps : List LeafMap)
@@ -49,7 +50,7 @@ pub record AreFor (schema : Schema) (built : Built) (leaves : ℕ) : Type 0 wher
   pub nodes : AreNodes schema built.files leaves
   pub link_nodes : AreLinkNodes schema built.files built.links leaves
   pub owned : AreOwned schema built.files built.links built.owners leaves
-  pub few : leaves ≤ 255
+  pub few : leaves ≤ MAX_LEAVES
 
 -- ---- counts of entries
 

@@ -1,7 +1,6 @@
 -- What the blocks of a device hold: a database under two texts.
 use Rattle.std.specs.Prelude.{◌≡◌, ◌+◌, ◌*◌, ◌≤◌, ◌<◌, ℕ, false, List, [], length, replicate, take, drop, get_or, slice_index_or}
 use Rattle.std.specs.FinMap.{empty}
-use Rattle.gx_device.specs.declared.device.TheConstants.{BLOCK_LEN}
 use Rattle.gx_ports.specs.declared.kinds.LeafSpec.{LeafSpec}
 use Rattle.gx_ports.specs.LeafMaps.{LeafMap}
 use Rattle.gx_ports.specs.Heads.{Head}
@@ -10,10 +9,11 @@ use Rattle.gx_ports.specs.Sheets.{Sheets, Ground}
 use Rattle.gx_layout.specs.Layout.{pages_of, head_of, is_open}
 use Rattle.gx_layout.specs.Recovered.{replayed_pages}
 use Rattle.gx_layout.specs.Head.{HasMagic, text_at, text_area}
-use Rattle.gx_layout.specs.declared.formatting.TheConstants.{MAX_BLOCKS}
+use Rattle.gx_layout.specs.declared.formatting.TheConstants.{HEAD_BLOCKS, TEXT_AREA_LEN, MAX_BLOCKS}
 use Rattle.gx_pages.specs.Owners.{sheets_of}
 use Rattle.gx_leaves.specs.Places.{places_of}
 use Rattle.gx_leaves.specs.Wholeness.{AreLaid, maps_of}
+use Rattle.gx_ports.specs.declared.pages.TheConstants.{TABLE_PAGES}
 
 -- there is room for such leaves, and no more than a device may have
 pub record IsSize (specs : List LeafSpec) (blocks : ℕ) : Type 0 where
@@ -25,16 +25,16 @@ abbrev pub ground_on : List (List ℕ) → Ground
 ground_on blocks =
     record {
       size = pages_of (length blocks);
-      tables = 16;
+      tables = TABLE_PAGES;
       blocks = length blocks;
-      first = 7 + pages_of (length blocks);
+      first = HEAD_BLOCKS + pages_of (length blocks);
       head = head_of blocks;
     }
 
--- the bytes of the four text blocks of a head are the lengths of these two texts, the texts, and
+-- the bytes of the text blocks of a head are the lengths of these two texts, the texts, and
 -- zeros
 abbrev pub AreTexts : List ℕ → List ℕ → List (List ℕ) → Type 0
-AreTexts schema equation head = (q : ℕ) → q < 4 * BLOCK_LEN
+AreTexts schema equation head = (q : ℕ) → q < TEXT_AREA_LEN
     → text_at head q ≡ slice_index_or (text_area schema equation) q 0
 
 abbrev pub HasTexts : List ℕ → List ℕ → List (List ℕ) → Type 0
@@ -63,7 +63,8 @@ pub record IsDatabase (schema equation : List ℕ) (specs : List LeafSpec) (maps
 
 -- the pages in their home blocks
 abbrev pub home_pages : List (List ℕ) → List (List ℕ)
-home_pages blocks = take (pages_of (length blocks)) (drop (7 + pages_of (length blocks)) blocks)
+home_pages blocks =
+    take (pages_of (length blocks)) (drop (HEAD_BLOCKS + pages_of (length blocks)) blocks)
 
 -- The device holds these maps, and its gate is closed.
 pub record IsSettled (schema equation : List ℕ) (specs : List LeafSpec) (maps : List LeafMap)

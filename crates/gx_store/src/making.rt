@@ -16,6 +16,7 @@ ghost use Rattle.gx_store.specs.Device.{IsSize, AreMaps, IsSettled, IsMadeOn, Is
 ghost use Rattle.gx_store.specs.Store.{CanAttach, Attaches, KeepsDevice, OfBlocks};
 ghost use Rattle.gx_store.specs.Opening.{is_untouched};
 ghost use Rattle.gx_store.specs.Making.{IsUnmade, IsUnmadeOn, IsUnlaid, Publishes, not_laid, has_no_fault, machine_below, is_laid};
+ghost use Rattle.gx_ports.specs.declared.kinds.TheConstants.{MAX_LEAVES};
 
 use crate::store::{FRAMES, is_size};
 use crate::unopened::Unopened;
@@ -45,7 +46,7 @@ pub fn make<M: Machine + Drop>(
     specs: &[LeafSpec],
 ) -> (Result<(), Unopened>, M)
     requires texts { length schema.now + length equation.now ≤ MAX_TEXTS_LEN }
-    requires few { length specs.now ≤ 255 }
+    requires few { length specs.now ≤ MAX_LEAVES }
     requires built { IsTrue (are_built specs.now) }
     ensures made { CanAttach M.tells (M.content machine) → OnOk result.0
         (OfBlocks name.now (M.content result.1)
@@ -93,7 +94,7 @@ fn make_attached<M: Machine + Drop>(
     specs: &[LeafSpec],
 ) -> (Result<(), Unopened>, M)
     requires texts { length schema.now + length equation.now ≤ MAX_TEXTS_LEN }
-    requires few { length specs.now ≤ 255 }
+    requires few { length specs.now ≤ MAX_LEAVES }
     requires built { IsTrue (are_built specs.now) }
     ensures made { IsTrue M.tells → OnOk result.0
         (IsMadeOn (M.size machine) schema.now equation.now specs.now

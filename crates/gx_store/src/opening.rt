@@ -13,6 +13,7 @@ ghost use Rattle.gx_pages.specs.Paged.{ground_of, kept_sheets};
 ghost use Rattle.gx_store.specs.Device.{AreMaps, AreTexts, IsHeadOf, IsSettled, ReadAlike, Reopens, ground_on};
 ghost use Rattle.gx_store.specs.Store.{CanAttach, Attaches, OfBlocks, machine_of, HoldsMaps, IsJustOpened, machine_left, goes_on};
 ghost use Rattle.gx_store.specs.Opening.{AreOpened, AreUnopened, AreUnread, HaveDatabase, IsRecoveryOf, IsUnopened, is_untouched};
+ghost use Rattle.gx_ports.specs.declared.kinds.TheConstants.{MAX_LEAVES};
 
 use crate::store::{FRAMES, Store, is_size};
 use crate::unopened::Unopened;
@@ -42,7 +43,7 @@ pub fn open<M: Machine + Drop>(
     specs: &[LeafSpec],
 ) -> Result<Store<M>, (M, Unopened)>
     requires texts { length schema.now + length equation.now ≤ MAX_TEXTS_LEN }
-    requires few { length specs.now ≤ 255 }
+    requires few { length specs.now ≤ MAX_LEAVES }
     requires built { IsTrue (are_built specs.now) }
     ensures holds { CanAttach M.tells (M.content machine) →
         (blocks : List (List ℕ)) (maps : List LeafMap) →
@@ -106,7 +107,7 @@ pub fn open_attached<M: Machine + Drop>(
     specs: &[LeafSpec],
 ) -> Result<Store<M>, (M, Unopened)>
     requires texts { length schema.now + length equation.now ≤ MAX_TEXTS_LEN }
-    requires few { length specs.now ≤ 255 }
+    requires few { length specs.now ≤ MAX_LEAVES }
     requires built { IsTrue (are_built specs.now) }
     ensures holds { IsTrue M.tells → (maps : List LeafMap) →
         Reopens schema.now equation.now specs.now maps (M.content machine).now.blocks →

@@ -4,6 +4,7 @@ ghost use Rattle.gx_leaves.specs.Paged.{places_in, kept_of, head_of, WasWhole};
 ghost use Rattle.gx_leaves.specs.Places.{specs_of};
 ghost use Rattle.gx_store.specs.Device.{IsSize, IsHeadOf, IsSettled};
 ghost use Rattle.gx_store.specs.Store.{machine_of};
+ghost use Rattle.gx_ports.specs.declared.kinds.TheConstants.{MAX_LEAVES};
 
 use gx_device::Machine;
 use gx_layout::MAX_BLOCKS;
@@ -19,7 +20,7 @@ pub type Store<M> = PagedLeaves<Paged<M>>;
 
 /// Whether a device of so many blocks has room for such leaves, and isn't too large.
 pub(crate) fn is_size(specs: &[LeafSpec], blocks: u32) -> bool
-    requires { length specs.now ≤ 255 }
+    requires { length specs.now ≤ MAX_LEAVES }
     ensures { IsTrue result ↔ IsSize specs.now blocks }
 {
     smallest_device(specs) <= blocks && blocks <= MAX_BLOCKS

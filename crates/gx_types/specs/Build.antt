@@ -29,6 +29,7 @@ use Rattle.gx_types.specs.HeadRules.{head_rule, IsLayer}
 use Rattle.gx_typing.specs.Places.{leaves_at}
 use Rattle.gx_typing.specs.Typed.{IsTypedTerm, AreTypedTerms}
 use Rattle.gx_typing.specs.Typing.{count}
+use Rattle.gx_ports.specs.declared.kinds.TheConstants.{MAX_LEAVES}
 
 -- ---- how many leaves there are
 
@@ -130,14 +131,15 @@ AreTreesOfLinks files n links ds xs = ⊥
 
 -- ---- what building asks
 
--- a typed term of at most so many levels, whose leaves, numbered from n on, are among the first 255
+-- a typed term of at most so many levels, whose leaves, numbered from n on, are among the first
+-- `MAX_LEAVES`
 pub record IsReady (n : ℕ) (form : Form) (t : Tree) : Type 0 where
   pub levels : ℕ
   pub few_levels : levels ≤ 16
   pub term : IsTerm levels t
   pub records : IsFileForm levels form
   pub typed : IsTypedTerm form t
-  pub few : n + leaf_count t ≤ 255
+  pub few : n + leaf_count t ≤ MAX_LEAVES
 
 -- likewise terms, of which the first is the child with the number i
 pub record AreReady (n : ℕ) (forms : ℕ → Form) (i : ℕ) (ts : Trees) : Type 0 where
@@ -146,7 +148,7 @@ pub record AreReady (n : ℕ) (forms : ℕ → Form) (i : ℕ) (ts : Trees) : Ty
   pub terms : AllByRecursion (IsTerm levels) (list_of ts)
   pub records : (c : ℕ) → i ≤ c → c < i + count ts → IsFileForm levels (forms c)
   pub typed : AreTypedTerms forms i ts
-  pub few : n + leaf_counts ts ≤ 255
+  pub few : n + leaf_counts ts ≤ MAX_LEAVES
 
 abbrev pub IsReadySide : ℕ → Form → SideTree → Type 0
 IsReadySide n form (file_side t) = IsReady n form t

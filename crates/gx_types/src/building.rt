@@ -7,6 +7,7 @@ ghost use Rattle.gx_types.specs.Build.{file_leaf_count, link_definitions};
 ghost use Rattle.gx_types.specs.Build.{AreTreesOfFiles, AreTreesOfLinks};
 ghost use Rattle.gx_types.specs.Nodes.{AreNodes, AreLinkNodes, AreOwned};
 ghost use Rattle.gx_typing.specs.Typed.{IsTyped, leaves, typing_with};
+ghost use Rattle.gx_ports.specs.declared.kinds.TheConstants.{MAX_LEAVES};
 
 use crate::built::{Built, LinkTrees, Trees};
 use crate::links::trees_of_links;
@@ -34,7 +35,7 @@ pub fn build(
     // The leaves are those of the typing.
     ensures leaves { IfOk result
         (λ built. typing ≡ record { specs = built.specs; owners = built.owners }) }
-    ensures few { IfOk result (λ built. length built.specs ≤ 255) }
+    ensures few { IfOk result (λ built. length built.specs ≤ MAX_LEAVES) }
     // Each node is what the definition of its file or of its link means.
     ensures trees { IfOk result (λ built. AreTreesOfFiles 0 schema.now.files
         (definitions_of equation.now.definitions) built.files) }

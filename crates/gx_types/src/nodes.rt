@@ -8,6 +8,7 @@ ghost use Rattle.gx_types.specs.Any.{any_rule};
 ghost use Rattle.gx_types.specs.Build.{leaf_count, leaf_counts, side_leaf_count, file_leaf_count, kids_of, IsTreeOf, AreTreesOf, IsTreeOfSide, AreTreesOfFiles, IsReady, AreReady, IsReadySide, AreReadyFiles};
 ghost use Rattle.gx_typing.specs.Dues.{file_form};
 ghost use Rattle.gx_typing.specs.Typing.{count};
+ghost use Rattle.gx_ports.specs.declared.kinds.TheConstants.{MAX_LEAVES};
 
 use crate::any::AnyMapping;
 use crate::mappings::mapping_of;
@@ -35,7 +36,7 @@ fn layer_node(mapping: AnyMapping, kids: Vec<Node<AnyMapping>>) -> Node<AnyMappi
 
 // The leaf with the next number.
 fn next_leaf(alloc: Global, form: &Form, next: &mut u32) -> Result<Node<AnyMapping>, NoMemory>
-    requires { next.old < 255 }
+    requires { next.old < MAX_LEAVES }
     ensures node { IfOk result (λ node. node_tree node ≡ leaf next.old form.now) }
     ensures next { OnOk result (next.new ≡ next.old + 1) }
 {

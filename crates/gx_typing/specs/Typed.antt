@@ -28,6 +28,7 @@ use Rattle.gx_forms.specs.Fields.{kind_in, has_name}
 use Rattle.gx_forms.specs.Forms.{kid_form, link_form, others_form}
 use Rattle.gx_typing.specs.Leaves.{leaf_spec}
 use Rattle.gx_typing.specs.Typing.{count}
+use Rattle.gx_ports.specs.declared.kinds.TheConstants.{MAX_LEAVES}
 
 -- ---- fields
 
@@ -190,7 +191,7 @@ leaves schema ds = leaves_of_all 0 (dues schema) ds
 
 pub record IsTyped (schema : Schema) (ds : List DefinitionTree) : Type 0 where
   pub definitions : AreTyped (dues schema) ds
-  pub few : length (leaves schema ds) ≤ 255
+  pub few : length (leaves schema ds) ≤ MAX_LEAVES
 
 abbrev pub owner_of : Leaf → ℕ
 owner_of leaf = leaf.owner

@@ -13,6 +13,7 @@ use Rattle.gx_typing.specs.declared.typing.Typing.{Typing}
 use Rattle.gx_typing.specs.Rows.{◌>>=◌, row}
 use Rattle.gx_forms.specs.Forms.{kid_form}
 use Rattle.gx_typing.specs.Leaves.{leaf_spec}
+use Rattle.gx_ports.specs.declared.kinds.TheConstants.{MAX_LEAVES}
 
 -- a line, and what fails there
 abbrev pub Mistake : Type 0
@@ -40,10 +41,10 @@ count (kid t ts) = suc (count ts)
 abbrev pub term_row : Form → Tree → Result (Unit {0}) TypeWhy
 term_row form (node top kids) = row top form (count kids)
 
--- the leaves before and one more of the definition, of which there may be 255
+-- the leaves before and one more of the definition, of which there may be `MAX_LEAVES`
 abbrev pub with_leaf : ℕ → LeafSpec → Typing → Result Typing TypeWhy
 with_leaf owner spec typing =
-    if nat_lt (length typing.specs) 255
+    if nat_lt (length typing.specs) MAX_LEAVES
     then Ok (record { specs = typing.specs ++ spec ∷ []; owners = typing.owners ++ owner ∷ [] })
     else Err why.Leaves
 

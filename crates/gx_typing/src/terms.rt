@@ -15,12 +15,9 @@ use crate::rows::term_row;
 use crate::typing::Typing;
 use gx_equation::Term;
 use gx_forms::{first_kind, key_widths, one_field, only_form, two_forms};
-use gx_ports::{LeafKind, LeafSpec};
+use gx_ports::{LeafKind, LeafSpec, MAX_LEAVES};
 use gx_values::Form;
 use std::alloc::Global;
-
-/// The most leaves that an equation has.
-const MOST_LEAVES: usize = 255;
 
 /// The line of the place that is due, the first of those that are left.
 pub fn here(lines: &[u32]) -> u32
@@ -55,7 +52,7 @@ pub fn at(lines: &[u32], row: Result<(), TypeWhy>) -> Result<(), Untyped>
 fn add_leaf(lines: &[u32], owner: u16, spec: LeafSpec, typing: &mut Typing) -> Result<(), Untyped>
     ensures { Answers (λ _. typing.new) result (at lines.now (with_leaf owner spec typing.old)) }
 {
-    if typing.specs.0.len() >= MOST_LEAVES {
+    if typing.specs.0.len() >= MAX_LEAVES {
         return Err(Untyped::Mistyped(here(lines), TypeWhy::Leaves));
     }
     typing.specs.0.push(spec)?;

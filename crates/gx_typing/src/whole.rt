@@ -7,6 +7,7 @@ ghost use Rattle.gx_typing.specs.Places.{IsFirstFault, places};
 ghost use Rattle.gx_typing.specs.Typed.{IsTyped, leaves, typing_with};
 ghost use Rattle.gx_typing.specs.Typing.{Answers};
 ghost use Rattle.gx_typing.specs.Whole.{definition_typed, definitions_typed, no_leaves, typing_of};
+ghost use Rattle.gx_ports.specs.declared.kinds.TheConstants.{MAX_LEAVES};
 
 use crate::dues::{Due, dues};
 use crate::reasons::{TypeWhy, Untyped};
@@ -98,7 +99,7 @@ pub fn typed(alloc: Global, schema: &Schema, equation: &Equation) -> Result<Typi
     ensures leaves { IfOk result
         (λ typing. typing
         ≡ typing_with (leaves schema.now (definitions_of equation.now.definitions))) }
-    ensures few { IfOk result (λ typing. length typing.specs ≤ 255) }
+    ensures few { IfOk result (λ typing. length typing.specs ≤ MAX_LEAVES) }
     // Where it is typed they are given, unless there is no memory.
     ensures only { IsTyped schema.now (definitions_of equation.now.definitions) →
         IfErr result (λ error. error ≡ Untyped.NoMemory) }
