@@ -1,5 +1,5 @@
 -- What one command does to an engine, over any leaves.
-use Rattle.std.specs.Prelude.{◌≡◌, ℕ, ◌+◌, ◌^◌, ◌<◌, ◌≤◌, List, length, Bool, true, false, Option, Some, None, Result, Ok, Err, OnOk, OnErr}
+use Rattle.std.specs.Prelude.{◌≡◌, ℕ, ◌+◌, ◌^◌, ◌<◌, ◌≤◌, List, length, Bool, true, false, Option, Some, None, IsSome, Result, Ok, Err, OnOk, OnErr}
 use Rattle.gx_device.specs.Content.{Silent}
 use Rattle.gx_device.specs.Faults.{Rose}
 use Rattle.gx_schema.specs.declared.schema.Schema.{Schema}
@@ -191,6 +191,19 @@ IsServed (Some s) kept result = (result ≡ Err (Stopped s)) × (kept ≡ Some s
 IsServed None kept (Ok x) = kept ≡ None
 IsServed None kept (Err (Now s)) = kept ≡ Some s
 IsServed None kept (Err (Stopped s)) = ⊥
+
+-- What a step keeps and how it ends, whatever it answers. A step that is given up says nothing, and
+-- unless the outside failed in it, what was last committed stays. The first stop is kept, and an
+-- engine that has one stays as it is. The engine is ready for the next step.
+pub record EndsStep {S : Type 0} (g : Ghosts S) (old new : Engine S) (c : Command)
+    (out now : List ℕ) (result : Result (Unit {0}) StepStop) : Type 0 where
+  pub unsaid : OnErr result (now ≡ out)
+  pub served : IsServed (stop_of old) (stop_of new) result
+  pub still : IsSome (stop_of old) → new ≡ old
+  pub keeps : KeepsEngine g old new c result
+  pub kept : is_fault_now result ≡ false → OnErr result (Keeps g (leaves_of old) (leaves_of new))
+  pub cause : HasStepCause g old new result
+  pub ready : IsReady g new
 
 -- what `hear` and `say` keep: the engine has the same state
 pub record IsSame {S : Type 0} (g : Ghosts S) (old new : Engine S) : Type 0 where

@@ -1,9 +1,9 @@
 // The engine: one command after the other on leaves.
-ghost use Rattle.std.specs.Prelude.{◌≡◌, ◌<◌, ◌++◌, List, Some, None, Ok, Err, true, false, length, OnOk, OnErr, IsSome};
+ghost use Rattle.std.specs.Prelude.{◌≡◌, ◌<◌, ◌++◌, List, Some, None, Ok, Err, true, false, length, OnOk, OnErr};
 ghost use Rattle.gx_model.specs.States.{State};
 ghost use Rattle.gx_model.specs.Play.{Playing, start_at};
 ghost use Rattle.gx_ports.specs.LeafMaps.{LeafMap};
-ghost use Rattle.gx_ports.specs.Calls.{Keeps, Hearing, Saying};
+ghost use Rattle.gx_ports.specs.Calls.{Hearing, Saying};
 ghost use Rattle.gx_edits.specs.Edits.{is_edit};
 
 use crate::reorganize::reorganize;
@@ -45,7 +45,7 @@ impl<B: Leaves + Drop> Engine<B> {
     ghost use Rattle.gx_commands.specs.declared.command.Command.TheVariants as command;
     ghost use Rattle.gx_states.specs.Internal.{AreInternal, AreFor};
     ghost use Rattle.gx_answers.specs.Queries.{follows_link};
-    ghost use Rattle.gx_engine.specs.Steps.{schema_of, built_of, leaves_of, is_open, commits_of, stop_of, is_fault_now, IsReady, IsDue, StandsFor, IsAt, IsShortFor, CarriesOut, AreFresh, KeepsEngine, HasStepCause, IsStep, TakesFewSteps, IsServed, IsSame};
+    ghost use Rattle.gx_engine.specs.Steps.{schema_of, built_of, leaves_of, is_open, commits_of, stop_of, IsReady, IsDue, StandsFor, IsAt, IsShortFor, CarriesOut, AreFresh, IsStep, EndsStep, TakesFewSteps, IsSame};
     ghost use Rattle.gx_engine.specs.declared.engine.StepStop.TheVariants.{Now, Stopped};
 
     /// An engine over leaves, which hold the files and the links of the schema as they are built.
@@ -119,14 +119,7 @@ impl<B: Leaves + Drop> Engine<B> {
         ensures few_steps { TakesFewSteps B.View command self.old self.new result }
         ensures fresh { B.whole (leaves_of self.old) →
             OnOk result (AreFresh B.View command self.new) }
-        ensures unsaid { OnErr result (out.new ≡ out.old) }
-        ensures served { IsServed (stop_of self.old) (stop_of self.new) result }
-        ensures still { IsSome (stop_of self.old) → self.new ≡ self.old }
-        ensures rest { KeepsEngine B.View self.old self.new command result }
-        ensures kept { is_fault_now result ≡ false →
-            OnErr result (Keeps B.View (leaves_of self.old) (leaves_of self.new)) }
-        ensures cause { HasStepCause B.View self.old self.new result }
-        ensures ready { IsReady B.View self.new }
+        ensures ends { EndsStep B.View self.old self.new command out.old out.new result }
     {
         if let Some(stop) = self.stopped {
             return Err(StepStop::Stopped(stop));

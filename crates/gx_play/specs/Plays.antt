@@ -236,6 +236,14 @@ pub record IsHolding {S : Type 0} (g : Ghosts S) (schema : Schema) (built : Buil
   pub whole_is : g.whole leaves
   pub kept_whole_is : g.kept_whole leaves
 
+-- What the play of a script keeps of the leaves that it hands back, whatever they held. What was said
+-- before stays, in front, and no device is attached.
+pub record KeepsOver {S : Type 0} (g : Ghosts S) (old new : S) : Type 0 where
+  pub head : g.head new ≡ g.head old
+  pub begins : IsTrue g.tells → IsPrefix (g.content old).now.said (g.content new).now.said
+  pub shelf : (g.content new).now.shelf ≡ (g.content old).now.shelf
+  pub aside : (g.content new).aside ≡ (g.content old).aside
+
 -- The script was played from a state up to this end. What was said before grew by its answers, and
 -- its last kept state is held.
 pub record IsPlayedOut (schema : Schema) (start : State) (Holds : State → Type 0)

@@ -3,8 +3,8 @@ ghost use Rattle.std.specs.Prelude.{◌≡◌, ◌≢◌, ◌++◌, ◌≤◌, �
 ghost use Rattle.std.specs.Fmt.{decimal};
 ghost use Rattle.gx_device.specs.Faults.{Rose};
 ghost use Rattle.gx_play.specs.Summaries.{accepted_line};
-ghost use Rattle.gx_play.specs.Endings.{line_of, status_of, memory_line, device_line, made_line};
-ghost use Rattle.gx_play.specs.Say.{IsCut, OnlySays, SameDevices};
+ghost use Rattle.gx_play.specs.Endings.{line_of, status_of, device_line, made_line, IsEnded};
+ghost use Rattle.gx_play.specs.Say.{OnlySays, SameDevices};
 
 use crate::play::PlayEnd;
 use crate::say::say_all;
@@ -111,18 +111,11 @@ impl From<PlayEnd> for Ending<'_> {
 pub fn end<M: Machine>(alloc: Global, ending: Ending<'_>, machine: &mut M) -> Status
     ensures status { result ≢ Status.Outside → result ≢ Status.Memory →
         result ≡ status_of ending.entry }
-    ensures said { IsTrue M.tells → result ≢ Status.Outside → result ≢ Status.Memory →
-        (M.content machine.new).now.said
-        ≡ (M.content machine.old).now.said ++ line_of ending.entry }
-    ensures memory { IsTrue M.tells → result ≡ Status.Memory →
-        (M.content machine.new).now.said ≡ (M.content machine.old).now.said ++ memory_line }
-    ensures cut { IsTrue M.tells → result ≡ Status.Outside →
-        IsCut (line_of ending.entry) memory_line (M.content machine.old) (M.content machine.new) }
+    ensures ended { IsTrue M.tells →
+        IsEnded ending.entry (M.content machine.old) (M.content machine.new) result }
     ensures outside { result ≡ Status.Outside →
         (ending.entry ≡ Ending.Fault) ⊎ Rose (M.faults machine.old) (M.faults machine.new) }
     ensures fault { ending.entry ≡ Ending.Fault → result ≡ Status.Outside }
-    ensures silent { IsTrue M.tells → ending.entry ≡ Ending.Fault →
-        (M.content machine.new).now.said ≡ (M.content machine.old).now.said }
     ensures rest { OnlySays (M.content machine.old) (M.content machine.new) }
     ensures devices { SameDevices (M.content machine.old) (M.content machine.new) }
     ensures counted { result ≢ Status.Outside → M.faults machine.new ≡ M.faults machine.old }

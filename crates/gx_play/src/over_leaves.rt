@@ -1,11 +1,10 @@
 // Hearing a script and playing it over leaves.
 ghost use Rattle.std.specs.Prelude.{◌≡◌, [], Ok, length, IsTrue, IfErr};
-ghost use Rattle.gx_device.specs.Quiet.{IsPrefix};
 ghost use Rattle.gx_schema.specs.WellFormed.{IsWellFormed};
 ghost use Rattle.gx_model.specs.States.{State};
 ghost use Rattle.gx_states.specs.Internal.{AreFor};
 ghost use Rattle.gx_play.specs.Endings.{IsPlayEnding, CountsFault};
-ghost use Rattle.gx_play.specs.Plays.{IsHolding, KeepsState, IsPlayedAs, IsEndingOf};
+ghost use Rattle.gx_play.specs.Plays.{IsHolding, KeepsState, KeepsOver, IsPlayedAs, IsEndingOf};
 
 use crate::ending::Ending;
 use crate::play::{Answers, PlayEnd, play_script};
@@ -40,11 +39,7 @@ pub fn play_over<'a, B: Leaves + Drop>(
     ensures heard { IsTrue B.tells → (s : State) → IsHolding B.View schema built s leaves →
         result.0 ≡ Ok tt → (B.content result.1).script ≡ [] }
     ensures ending { IfErr result.0 IsPlayEnding }
-    ensures head { B.head result.1 ≡ B.head leaves }
-    ensures begins { IsTrue B.tells →
-        IsPrefix (B.content leaves).now.said (B.content result.1).now.said }
-    ensures shelf { (B.content result.1).now.shelf ≡ (B.content leaves).now.shelf }
-    ensures aside { (B.content result.1).aside ≡ (B.content leaves).aside }
+    ensures keeps { KeepsOver B.View leaves result.1 }
     ensures failures { CountsFault (B.faults leaves) (B.faults result.1) result.0 }
 {
     let mut leaves = leaves;

@@ -16,12 +16,4 @@ returns-in-Err-clause-said g c = λ told.
     let new = g.M.Device.content c.end.new.machine in
     end_said c.args.schema.now (fields_in c.args.schema.now c.args.built.now.files) old mid new c.in-Err.why
     c.end.result (c.in-Err.ensures.said told)
-    (subst (λ w. IsEnded w mid new c.end.result) c.from.ensures (record {
-      status_is = c.end.ensures.status;
-      said = c.end.ensures.said told;
-      memory = c.end.ensures.memory told;
-      cut = c.end.ensures.cut told;
-      fault = c.end.ensures.fault;
-      silent = c.end.ensures.silent told;
-      script = c.end.ensures.rest.script;
-    }))
+    (subst (λ w. IsEnded w mid new c.end.result) c.from.ensures (c.end.ensures.ended told))

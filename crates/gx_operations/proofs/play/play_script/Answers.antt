@@ -67,7 +67,7 @@ returns-in-Ok-clause-failures g c =
 pub returns-in-Ok-clause-shelf : goal.returns-in-Ok-clause-shelf
 returns-in-Ok-clause-shelf g c =
     ap (λ m. (g.M.Device.content m).now.shelf) c.into_device.ensures
-    ∙ c.play_over-leaves.ensures.shelf
+    ∙ c.play_over-leaves.ensures.keeps.shelf
     ∙ ap (λ m. (g.M.Device.content m).now.shelf) c.in-Ok.ensures.device
 
 pub returns-clause-answered : goal.returns-clause-answered

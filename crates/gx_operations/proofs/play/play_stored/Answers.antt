@@ -26,7 +26,7 @@ returns-clause-answered g c = λ told s maps reaches internal texts head.
     (content (machine_of c.args.store)).script (content (machine_of c.args.store)).now.said
     (content c.close.result).now.said c.play_over-store.result.0
     (λ k held. settled_from c.args.schema c.args.built texts.0 texts.1 (head_of c.args.store) (head_of left)
-    (kept_of left) (content c.close.result).now.blocks k c.play_over-store.ensures.head head
+    (kept_of left) (content c.close.result).now.blocks k c.play_over-store.ensures.keeps.head head
     (λ is. c.close.ensures.settled texts.0 texts.1 is held.1) held.0)
     (subst (λ m. IsPlayedAs c.args.schema c.args.built limit s
     (λ (k : State). AreInternal c.args.schema c.args.built (kept_of left) k × WasWhole left)
@@ -53,4 +53,8 @@ pub returns-clause-begins : goal.returns-clause-begins
 returns-clause-begins g c = λ told.
     let content = g.M.Device.content in
     subst (IsPrefix (content (machine_of c.args.store)).now.said)
-    (ap (λ m. (content m).now.said) (sym c.close.ensures.machine)) (c.play_over-store.ensures.begins told)
+    (ap (λ m. (content m).now.said) (sym c.close.ensures.machine)) (c.play_over-store.ensures.keeps.begins told)
+
+pub returns-clause-shelf : goal.returns-clause-shelf
+returns-clause-shelf g c =
+    ap (λ m. (g.M.Device.content m).now.shelf) c.close.ensures.machine ∙ c.play_over-store.ensures.keeps.shelf

@@ -79,15 +79,33 @@ returns-clause-failures g c =
       later = omega (arith, c.in-Ok.ensures.later, started, played.later, ended);
     }
 
-pub returns-in-Err-clause-begins : goal.returns-in-Err-clause-begins
-returns-in-Err-clause-begins g c = λ told. prefix_same _ _ (ap (λ n. n.said) c.in-Err.ensures.rest.now)
+pub returns-in-Err-clause-keeps : goal.returns-in-Err-clause-keeps
+returns-in-Err-clause-keeps g c = record {
+  head = c.in-Err.ensures.keeps.head;
+  begins = λ told. prefix_same _ _ (ap (λ n. n.said) c.in-Err.ensures.rest.now);
+  shelf = ap (λ n. n.shelf) c.in-Err.ensures.rest.now;
+  aside = c.in-Err.ensures.rest.aside;
+}
 
-pub returns-clause-begins : goal.returns-clause-begins
-returns-clause-begins g c = λ told.
+pub returns-clause-keeps : goal.returns-clause-keeps
+returns-clause-keeps g c =
     let content = g.B.View.content in
-    subst (IsPrefix (content c.args.leaves).now.said) (ap (λ l. (content l).now.said) (sym c.into_leaves.ensures))
-    (prefix_twice (content c.args.leaves).now.said (content (leaves_of c.start-engine.result)).now.said
-    (content (leaves_of c.play_script-played.new.engine)).now.said
-    (prefix_same (content c.args.leaves).now.said (content (leaves_of c.start-engine.result)).now.said
-    (ap (λ l. (content l).now.said) c.start-engine.ensures.leaves ∙ ap (λ n. n.said) c.in-Ok.ensures.rest.now))
-    (c.play_script-played.ensures.keeps.begins told))
+    let played = c.play_script-played.ensures.keeps in
+    record {
+      head =
+          ap g.B.View.head c.into_leaves.ensures ∙ played.head ∙ ap g.B.View.head c.start-engine.ensures.leaves
+          ∙ c.in-Ok.ensures.keeps.head;
+      begins = λ told.
+          subst (IsPrefix (content c.args.leaves).now.said) (ap (λ l. (content l).now.said) (sym c.into_leaves.ensures))
+          (prefix_twice (content c.args.leaves).now.said (content (leaves_of c.start-engine.result)).now.said
+          (content (leaves_of c.play_script-played.new.engine)).now.said
+          (prefix_same (content c.args.leaves).now.said (content (leaves_of c.start-engine.result)).now.said
+          (ap (λ l. (content l).now.said) c.start-engine.ensures.leaves ∙ ap (λ n. n.said) c.in-Ok.ensures.rest.now))
+          (played.begins told));
+      shelf =
+          ap (λ l. (content l).now.shelf) c.into_leaves.ensures ∙ played.rest.shelf
+          ∙ ap (λ l. (content l).now.shelf) c.start-engine.ensures.leaves ∙ ap (λ n. n.shelf) c.in-Ok.ensures.rest.now;
+      aside =
+          ap (λ l. (content l).aside) c.into_leaves.ensures ∙ played.rest.aside
+          ∙ ap (λ l. (content l).aside) c.start-engine.ensures.leaves ∙ c.in-Ok.ensures.rest.aside;
+    }

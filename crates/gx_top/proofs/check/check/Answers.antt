@@ -17,15 +17,7 @@ returns-in-Ok-clause-answered g c = λ told.
     let is =
     summary words _ c.in-Ok.checked c.summarize-summary.result ((c.in-Ok.ensures.accepted told).ready words checking (tt, refl))
     c.summarize-summary.ensures in
-    let ended : IsEnded (ending.Accepted c.summarize-summary.result) mid new c.end.result = record {
-      status_is = c.end.ensures.status;
-      said = c.end.ensures.said told;
-      memory = c.end.ensures.memory told;
-      cut = c.end.ensures.cut told;
-      fault = c.end.ensures.fault;
-      silent = c.end.ensures.silent told;
-      script = c.end.ensures.rest.script;
-    } in
+    let ended : IsEnded (ending.Accepted c.summarize-summary.result) mid new c.end.result = c.end.ensures.ended told in
     record {
       said = check_end words old mid new c.summarize-summary.result c.end.result is (ap (λ n. n.said) same.now)
           same.script ended;
@@ -39,15 +31,7 @@ returns-in-Err-clause-answered g c = λ told.
     (g.M.Device.content c.end-in-Err.new.machine) _ _ c.in-Err.ending c.end-in-Err.result
     ((c.in-Err.ensures.accepted told).unprepared words checking (tt, refl)) c.in-Err.ensures.fetches.same
     c.end-in-Err.ensures.devices
-    (record {
-      status_is = c.end-in-Err.ensures.status;
-      said = c.end-in-Err.ensures.said told;
-      memory = c.end-in-Err.ensures.memory told;
-      cut = c.end-in-Err.ensures.cut told;
-      fault = c.end-in-Err.ensures.fault;
-      silent = c.end-in-Err.ensures.silent told;
-      script = c.end-in-Err.ensures.rest.script;
-    })
+    (c.end-in-Err.ensures.ended told)
 
 pub returns-in-Ok-clause-shelf : goal.returns-in-Ok-clause-shelf
 returns-in-Ok-clause-shelf g c = c.end.ensures.devices.shelf ∙ ap (λ n. n.shelf) c.in-Ok.ensures.fetches.same.now

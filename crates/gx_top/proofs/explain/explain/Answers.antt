@@ -28,15 +28,7 @@ returns-in-Err-clause-answered g c = λ told.
     (g.M.Device.content c.end.new.machine) _ _ c.in-Err.ending c.end.result
     ((c.in-Err.ensures.prepared told).unprepared words explaining (tt, refl)) c.in-Err.ensures.fetches.same
     c.end.ensures.devices
-    (record {
-      status_is = c.end.ensures.status;
-      said = c.end.ensures.said told;
-      memory = c.end.ensures.memory told;
-      cut = c.end.ensures.cut told;
-      fault = c.end.ensures.fault;
-      silent = c.end.ensures.silent told;
-      script = c.end.ensures.rest.script;
-    })
+    (c.end.ensures.ended told)
 
 pub returns-in-Ok-clause-shelf : goal.returns-in-Ok-clause-shelf
 returns-in-Ok-clause-shelf g c = c.explain_script.ensures.shelf ∙ ap (λ n. n.shelf) c.in-Ok.ensures.fetches.same.now

@@ -5,12 +5,4 @@ pub returns-clause-answered : goal.returns-clause-answered
 returns-clause-answered g c = λ told words old before now same why.
     unprepared_answered words old (g.M.Device.content c.args.machine) (g.M.Device.content c.end-status.new.machine)
     before now _ c.end-status.result why same c.end-status.ensures.devices
-    (record {
-      status_is = c.end-status.ensures.status;
-      said = c.end-status.ensures.said told;
-      memory = c.end-status.ensures.memory told;
-      cut = c.end-status.ensures.cut told;
-      fault = c.end-status.ensures.fault;
-      silent = c.end-status.ensures.silent told;
-      script = c.end-status.ensures.rest.script;
-    })
+    (c.end-status.ensures.ended told)

@@ -86,15 +86,7 @@ returns-in-Err-clause-fulfilled g c = λ can words old same stored.
       kept = c.in-Err.ensures.kept can;
       recovered = c.in-Err.ensures.recovered can;
     } in
-    let ended = subst (λ w. IsEnded w mid after c.end-status.result) c.unopened_ending.ensures (record {
-      status_is = c.end-status.ensures.status;
-      said = c.end-status.ensures.said can.told;
-      memory = c.end-status.ensures.memory can.told;
-      cut = c.end-status.ensures.cut can.told;
-      fault = c.end-status.ensures.fault;
-      silent = c.end-status.ensures.silent can.told;
-      script = c.end-status.ensures.rest.script;
-    }) in
+    let ended = subst (λ w. IsEnded w mid after c.end-status.result) c.unopened_ending.ensures (c.end-status.ensures.ended can.told) in
     let row : InspectsOr words old after c.end-status.result = (
       Request words c.args.device.now x old middle
           stored same,

@@ -24,15 +24,7 @@ returns-in-Ok-clause-fulfilled g c = λ can digits counted.
     let is = c.make_stored-machine.ensures.made free in
     let attaches = c.make_stored-machine.ensures.attaches free in
     let make = to_make words old.aside.texts c.args.device.now digits c.args.blocks x stored counted in
-    let ended : IsEnded c.make_stored-machine.result.0 after new c.end-status.result = record {
-      status_is = c.end-status.ensures.status;
-      said = c.end-status.ensures.said can.told;
-      memory = c.end-status.ensures.memory can.told;
-      cut = c.end-status.ensures.cut can.told;
-      fault = c.end-status.ensures.fault;
-      silent = c.end-status.ensures.silent can.told;
-      script = c.end-status.ensures.rest.script;
-    } in
+    let ended : IsEnded c.make_stored-machine.result.0 after new c.end-status.result = c.end-status.ensures.ended can.told in
     record {
       answered = record {
         said = unhad_end words old after new why s

@@ -94,15 +94,7 @@ returns-in-Err-clause-fulfilled g c = λ can words old same stored.
       kept = c.in-Err.ensures.kept can;
       recovered = c.in-Err.ensures.recovered can;
     } in
-    let ended : IsEnded c.unopened_ending.result mid after c.end-status.result = record {
-      status_is = c.end-status.ensures.status;
-      said = c.end-status.ensures.said can.told;
-      memory = c.end-status.ensures.memory can.told;
-      cut = c.end-status.ensures.cut can.told;
-      fault = c.end-status.ensures.fault;
-      silent = c.end-status.ensures.silent can.told;
-      script = c.end-status.ensures.rest.script;
-    } in
+    let ended : IsEnded c.unopened_ending.result mid after c.end-status.result = c.end-status.ensures.ended can.told in
     record {
       answered = record {
         said = unhad_end words old mid after c.unopened_ending.result c.end-status.result
