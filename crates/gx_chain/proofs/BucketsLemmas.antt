@@ -63,13 +63,13 @@ module _ (ground : Ground) (owner : ℕ) (s t : Sheets) (first_of first_now : �
   off_after i q in_i d at new = elim (c.beside.came q new) [
     | inl old ↦ c.off i q in_i d at old
     | inr free ↦ (let some = c.some in let none : owner ≡ 0 = same_Some owner 0
-        (sym ((c.chains i in_i).owned q at) ∙ free) in omega (arith, none, some))
+        (sym ((c.chains i in_i).fit.owned q at) ∙ free) in omega (arith, none, some))
   ]
 
   pub bytes_stay : (i q : ℕ) → i < count → i ≢ j → Contains (pages i) q
       → bytes_at t q ≡ bytes_at s q
   bytes_stay i q in_i d at = bytes_same s t q
-      (c.beside.bytes q ((c.chains i in_i).past q at).past (c.off i q in_i d at)
+      (c.beside.bytes q ((c.chains i in_i).fit.past q at).past (c.off i q in_i d at)
       (off_after i q in_i d at))
 
   chain_stays : (i : ℕ) → i < count → i ≢ j → IsChain ground owner t (first_now i) (pages i)
@@ -77,7 +77,7 @@ module _ (ground : Ground) (owner : ℕ) (s t : Sheets) (first_of first_now : �
       subst (λ n. IsChain ground owner t n (pages i)) (sym (c.firsts i in_i d))
       (same_chain ground owner (first_of i) s t (pages i) (λ q at. bytes_stay i q in_i d at)
       (λ q at. c.beside.owners q (c.off i q in_i d at) (off_after i q in_i d at)
-      ∙ (c.chains i in_i).owned q at) (c.chains i in_i))
+      ∙ (c.chains i in_i).fit.owned q at) (c.chains i in_i))
 
   pub chains_changed : (i : ℕ) → i < count → IsChain ground owner t (first_now i)
       (changed pages j now i)

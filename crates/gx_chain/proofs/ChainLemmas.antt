@@ -1,5 +1,5 @@
 -- What a change of pages makes of a chain.
-use Rattle.std.proofs.Common.{◌≡◌, ◌≢◌, ◌⊎◌, ◌↔◌, inl, inr, ℕ, List, [], ◌∷◌, ◌++◌, Some, sym, ap, subst, ◌∙◌}
+use Rattle.std.proofs.Common.{◌≡◌, ◌≢◌, ◌⊎◌, ◌↔◌, inl, inr, ℕ, List, [], ◌∷◌, ◌++◌, Some, sym, ap, subst, ◌∙◌, arith}
 use Rattle.std.specs.Prelude.{slice_get}
 use Rattle.std.specs.List.{Contains}
 use Rattle.std.proofs.lemmas.Bool.{cases_eq}
@@ -8,9 +8,20 @@ use Rattle.gx_ports.specs.Sheets.{Sheets, Ground, bytes_at}
 use Rattle.gx_ports.proofs.PageLemmas.{bytes_same}
 use Rattle.gx_slots.specs.Entries.{Entry}
 use Rattle.gx_slots.specs.Page.{IsEntryPage, entries_of, next_of}
-use Rattle.gx_chain.specs.Chain.{entries_at, next_at, AreLinked, IsOn, IsChain}
+use Rattle.gx_chain.specs.Chain.{entries_at, next_at, AreLinked, AreFitPages, IsOn, IsChain}
 use Rattle.gx_chain.specs.Changes.{IsRewritten, StaysBeside}
 use Rattle.gx_chain.proofs.ListLemmas.{contains_here, contains_later, contains_cases, contains_none}
+
+-- no pages are fit for a chain
+pub fit_none : (ground : Ground) (owner : ℕ) (sheets : Sheets) (first : ℕ)
+    → AreFitPages ground owner sheets first []
+fit_none ground owner sheets first = record {
+  once = λ i j d less below. absurd (omega (arith, below));
+  past = λ q c. absurd (contains_none q c);
+  owned = λ q c. absurd (contains_none q c);
+  filled = λ q c. absurd (contains_none q c);
+  apart = λ q r k b c in_q. absurd (contains_none q in_q);
+}
 
 -- links stay where each page has the same page behind it
 pub relink : (s t : Sheets) (first : ℕ) (pages : List ℕ)
@@ -74,14 +85,16 @@ module _ (ground : Ground) (owner first : ℕ) (s t : Sheets) (pages : List ℕ)
   same_chain owned chain = record {
     linked = relink s t first pages
         (λ q c page. (subst IsEntryPage (sym (same q c)) page, ap next_of (same q c))) chain.linked;
-    once = chain.once;
-    past = chain.past;
-    owned = owned;
-    filled = λ q c d none. chain.filled q c d (sym (ap entries_of (same q c)) ∙ none);
-    apart = λ q r k b c in_q in_r at_q at_r. chain.apart q r k b c in_q in_r
-        (subst (λ (x : List ℕ). Contains (entries_of x) (record { key = k; body = b }))
-        (same q in_q) at_q)
-        (subst (λ (x : List ℕ). Contains (entries_of x) (record { key = k; body = c })) (same r in_r) at_r);
+    fit = record {
+      once = chain.fit.once;
+      past = chain.fit.past;
+      owned = owned;
+      filled = λ q c d none. chain.fit.filled q c d (sym (ap entries_of (same q c)) ∙ none);
+      apart = λ q r k b c in_q in_r at_q at_r. chain.fit.apart q r k b c in_q in_r
+          (subst (λ (x : List ℕ). Contains (entries_of x) (record { key = k; body = b }))
+          (same q in_q) at_q)
+          (subst (λ (x : List ℕ). Contains (entries_of x) (record { key = k; body = c })) (same r in_r) at_r);
+    };
   }
 
 -- ---- one page is written anew
@@ -116,30 +129,32 @@ module _ (ground : Ground) (owner : ℕ) (s t : Sheets) (first : ℕ) (pages : L
       → IsChain ground owner t first pages
   rewritten_chain full keys = record {
     linked = relink s t first pages (λ q c. linked_anew q) chain.linked;
-    once = chain.once;
-    past = chain.past;
-    owned =
-        λ q c. subst (λ (o : List ℕ). slice_get o q ≡ Some owner) (sym w.owners) (chain.owned q c);
-    filled = λ q c d none. elim (cases_eq q p) [
-      | inl e ↦ full (λ f. d (e ∙ f)) (sym w.entries_are ∙ ap (entries_at t) (sym e) ∙ none)
-      | inr o ↦ chain.filled q c d (sym (ap entries_of (same_at q o)) ∙ none)
-    ];
-    apart = λ q r k b c in_q in_r at_q at_r. elim (cases_eq q p) [
-      | inl e ↦ elim (cases_eq r p) [
-        | inl f ↦ e ∙ sym f
-        | inr f ↦ elim (keys k b (to_these q _ e at_q)) [
-          | inl old ↦ e ∙ chain.apart p r k old.0 c among in_r old.1 (to_old r _ f at_r)
-          | inr none ↦ absurd (none r c in_r (to_old r _ f at_r))
+    fit = record {
+      once = chain.fit.once;
+      past = chain.fit.past;
+      owned =
+          λ q c. subst (λ (o : List ℕ). slice_get o q ≡ Some owner) (sym w.owners) (chain.fit.owned q c);
+      filled = λ q c d none. elim (cases_eq q p) [
+        | inl e ↦ full (λ f. d (e ∙ f)) (sym w.entries_are ∙ ap (entries_at t) (sym e) ∙ none)
+        | inr o ↦ chain.fit.filled q c d (sym (ap entries_of (same_at q o)) ∙ none)
+      ];
+      apart = λ q r k b c in_q in_r at_q at_r. elim (cases_eq q p) [
+        | inl e ↦ elim (cases_eq r p) [
+          | inl f ↦ e ∙ sym f
+          | inr f ↦ elim (keys k b (to_these q _ e at_q)) [
+            | inl old ↦ e ∙ chain.fit.apart p r k old.0 c among in_r old.1 (to_old r _ f at_r)
+            | inr none ↦ absurd (none r c in_r (to_old r _ f at_r))
+          ]
         ]
-      ]
-      | inr d ↦ elim (cases_eq r p) [
-        | inl f ↦ elim (keys k c (to_these r _ f at_r)) [
-          | inl old ↦ chain.apart q p k b old.0 in_q among (to_old q _ d at_q) old.1 ∙ sym f
-          | inr none ↦ absurd (none q b in_q (to_old q _ d at_q))
+        | inr d ↦ elim (cases_eq r p) [
+          | inl f ↦ elim (keys k c (to_these r _ f at_r)) [
+            | inl old ↦ chain.fit.apart q p k b old.0 in_q among (to_old q _ d at_q) old.1 ∙ sym f
+            | inr none ↦ absurd (none q b in_q (to_old q _ d at_q))
+          ]
+          | inr f ↦ chain.fit.apart q r k b c in_q in_r (to_old q _ d at_q) (to_old r _ f at_r)
         ]
-        | inr f ↦ chain.apart q r k b c in_q in_r (to_old q _ d at_q) (to_old r _ f at_r)
-      ]
-    ];
+      ];
+    };
   }
 
   -- What stands on the chain: on this page what was put, else what there was but for one key, which

@@ -205,9 +205,9 @@ ascends es up apart = sorted_from_all_adjacent nat_list_cmp_total (map key_of es
 pub chain_apart : (ground : Ground) (owner first : ℕ) (s : Sheets) (pages : List ℕ)
     → IsChain ground owner s first pages → ArePagesApart s pages
 chain_apart ground owner first s pages chain = record {
-  once = chain.once;
+  once = chain.fit.once;
   each = λ p c. linked_page s first pages p chain.linked c;
-  apart = chain.apart;
+  apart = chain.fit.apart;
 }
 
 -- what was found on pages, put in order

@@ -107,9 +107,9 @@ pub chain_few : (ground : Ground) (owner : ℕ) (sheets : Sheets) (first : ℕ) 
     → ((k b : List ℕ) → IsOn sheets pages k b → fin.get m k ≡ Some b) → length pages ≤ 1 + fin.len m
 chain_few ground owner sheets first [] m chain map_is = omega arith
 chain_few ground owner sheets first (p ∷ ps) m chain map_is =
-    let h = keys_few sheets ps m (pairs_tail p ps chain.once)
+    let h = keys_few sheets ps m (pairs_tail p ps chain.fit.once)
     (λ q c. (let f = first_of (entries_at sheets q)
-    (chain.filled q (contains_later p q ps c) (λ e. pairs_head p ps chain.once (subst (Contains ps) (e ∙ chain.linked.0) c))) in
+    (chain.fit.filled q (contains_later p q ps c) (λ e. pairs_head p ps chain.fit.once (subst (Contains ps) (e ∙ chain.linked.0) c))) in
     (f.0, f.1, f.2, map_is f.0 f.1 (record { page = q; among = contains_later p q ps c; here = f.2 }))))
-    (λ q r k b c in_q in_r. chain.apart q r k b c (contains_later p q ps in_q) (contains_later p r ps in_r)) in
+    (λ q r k b c in_q in_r. chain.fit.apart q r k b c (contains_later p q ps in_q) (contains_later p r ps in_r)) in
     omega (arith, h)

@@ -68,7 +68,7 @@ module _ (ground : Ground) (owner first : ℕ) (key : List ℕ) (s t : Sheets) (
         | inl never ↦ absurd never
         | inr old ↦ less_from es taken.place key distinct taken.within taken.there (record { key = k; body = b }) old
       ])
-      (λ q b d in_q c. d (chain.apart q p key b held.0 in_q among c held.1)) in
+      (λ q b d in_q c. d (chain.fit.apart q p key b held.0 in_q among c held.1)) in
       record {
         chain =
             rewritten_chain ground owner s t first pages p (remove es taken.place) chain among w
@@ -138,7 +138,7 @@ put_here ground owner first key body s t pages p es chain among ex w =
             | inl same ↦ inl (λ j. record { key = sym same.0 j; body = sym same.1 j })
             | inr less ↦ inr (less_from old ex.place key distinct ex.within ex.there (record { key = k; body = b }) less)
           ])))
-          (λ q b d in_q c. d (chain.apart q p key b held.0 in_q among c held.1));
+          (λ q b d in_q c. d (chain.fit.apart q p key b held.0 in_q among c held.1));
       beside = record {
         owners = λ q off _. ap (λ (o : List ℕ). slice_get o q) w.owners;
         bytes = λ q past off _. w.others q (λ f. off (subst (Contains pages) (sym f) among));
@@ -231,16 +231,16 @@ module _ (ground : Ground) (owner first : ℕ) (s u : Sheets) (pages : List ℕ)
     (chain : IsChain ground owner s first pages) (some : 1 ≤ owner)
     (claimed : IsClaimed fresh owner ground s u) where
   pub fresh_off : Contains pages fresh → ⊥
-  fresh_off c = let same : owner ≡ 0 = same_Some owner 0 (sym (chain.owned fresh c) ∙ claimed.was_free) in omega (arith, same, some)
+  fresh_off c = let same : owner ≡ 0 = same_Some owner 0 (sym (chain.fit.owned fresh c) ∙ claimed.was_free) in omega (arith, same, some)
 
   pub claimed_same : (q : ℕ) → Contains pages q → bytes_at u q ≡ bytes_at s q
-  claimed_same q c = bytes_same s u q (claimed.owned.bytes q (chain.past q c).past)
+  claimed_same q c = bytes_same s u q (claimed.owned.bytes q (chain.fit.past q c).past)
 
   pub claimed_chain : IsChain ground owner u first pages
   claimed_chain = same_chain ground owner first s u pages claimed_same
       (λ q c. ap (λ (o : List ℕ). slice_get o q) claimed.owned.owners
       ∙ slice_get_set s.owners fresh q owner (λ e. fresh_off (subst (Contains pages) e c))
-      ∙ chain.owned q c) chain
+      ∙ chain.fit.owned q c) chain
 
   pub claimed_old : (key : List ℕ) (old : Option ℕ) → HasOld s key pages old
       → HasOld u key pages old
@@ -306,39 +306,41 @@ module _ (ground : Ground) (owner first : ℕ) (s u : Sheets) (pages : List ℕ)
           (linked_push v t first front last fresh
           (λ q c page. (
           let off : q ≢ last = λ e. pairs_last front last
-          (subst (AllPairs (λ a b. a ≢ b)) ended chain.once) (subst (Contains front) e c) in
+          (subst (AllPairs (λ a b. a ≢ b)) ended chain.fit.once) (subst (Contains front) e c) in
           let new : q ≢ fresh = λ e. fresh_off
           (subst (Contains pages) e (subst (λ (x : List ℕ). Contains x q) (sym ended) (Contains-append_left front (last ∷ []) q c))) in
           let same = bytes_same v t q (bytes_stay q off new) in
           (subst IsEntryPage (sym same) page, ap next_of same)))
           a.hung.is_page a.hung.next_is fresh_page.0 fresh_page.1
           (subst (AreLinked v first) ended d.chain.linked));
-      once = all_pairs_push (λ a b. a ≢ b) pages fresh chain.once
-          (λ k d below e. fresh_off (subst (Contains pages) e (Contains-get_or pages k d below)));
-      past = λ q c. elim (Contains-push_cases pages fresh q c)
-          [ inl old ↦ chain.past q old | inr e ↦ subst (IsPast ground) e claimed.past ];
-      owned =
-          λ q c. ap (λ (o : List ℕ). slice_get o q) (a.hung.owners ∙ a.begun.owners)
-          ∙ elim (Contains-push_cases pages fresh q c) [
-            | inl old ↦ d.chain.owned q old
-            | inr e ↦ subst (λ n. slice_get v.owners n ≡ Some owner) e
-                (ap (λ (o : List ℕ). slice_get o fresh) (d.owners ∙ claimed.owned.owners)
-                ∙ slice_get_set_same s.owners fresh owner 0 claimed.was_free)
-          ];
-      filled = λ q c f none. elim (Contains-push_cases pages fresh q c) [
-        | inl old ↦ d.chain.filled q old f (sym (at_page q old) ∙ none)
-        | inr e ↦ not_empty (record { key = key; body = body } ∷ []) (omega arith) (sym at_fresh ∙ ap (entries_at t) e ∙ none)
-      ];
-      apart = λ q r k b c in_q in_r at_q at_r. elim (Contains-push_cases pages fresh q in_q) [
-        | inl old_q ↦ elim (Contains-push_cases pages fresh r in_r) [
-          | inl old_r ↦ d.chain.apart q r k b c old_q old_r (to_old q _ old_q at_q) (to_old r _ old_r at_r)
-          | inr e ↦ absurd (absent q k b old_q (on_fresh r k c e at_r).0 at_q)
-        ]
-        | inr e ↦ elim (Contains-push_cases pages fresh r in_r) [
-          | inl old_r ↦ absurd (absent r k c old_r (on_fresh q k b e at_q).0 at_r)
-          | inr f ↦ sym e ∙ f
-        ]
-      ];
+      fit = record {
+        once = all_pairs_push (λ a b. a ≢ b) pages fresh chain.fit.once
+            (λ k d below e. fresh_off (subst (Contains pages) e (Contains-get_or pages k d below)));
+        past = λ q c. elim (Contains-push_cases pages fresh q c)
+            [ inl old ↦ chain.fit.past q old | inr e ↦ subst (IsPast ground) e claimed.past ];
+        owned =
+            λ q c. ap (λ (o : List ℕ). slice_get o q) (a.hung.owners ∙ a.begun.owners)
+            ∙ elim (Contains-push_cases pages fresh q c) [
+              | inl old ↦ d.chain.fit.owned q old
+              | inr e ↦ subst (λ n. slice_get v.owners n ≡ Some owner) e
+                  (ap (λ (o : List ℕ). slice_get o fresh) (d.owners ∙ claimed.owned.owners)
+                  ∙ slice_get_set_same s.owners fresh owner 0 claimed.was_free)
+            ];
+        filled = λ q c f none. elim (Contains-push_cases pages fresh q c) [
+          | inl old ↦ d.chain.fit.filled q old f (sym (at_page q old) ∙ none)
+          | inr e ↦ not_empty (record { key = key; body = body } ∷ []) (omega arith) (sym at_fresh ∙ ap (entries_at t) e ∙ none)
+        ];
+        apart = λ q r k b c in_q in_r at_q at_r. elim (Contains-push_cases pages fresh q in_q) [
+          | inl old_q ↦ elim (Contains-push_cases pages fresh r in_r) [
+            | inl old_r ↦ d.chain.fit.apart q r k b c old_q old_r (to_old q _ old_q at_q) (to_old r _ old_r at_r)
+            | inr e ↦ absurd (absent q k b old_q (on_fresh r k c e at_r).0 at_q)
+          ]
+          | inr e ↦ elim (Contains-push_cases pages fresh r in_r) [
+            | inl old_r ↦ absurd (absent r k c old_r (on_fresh q k b e at_q).0 at_r)
+            | inr f ↦ sym e ∙ f
+          ]
+        ];
+      };
     }
 
     pub put_behind : IsPutIn ground owner first key body s t pages

@@ -76,7 +76,7 @@ module _ (ground : Ground) (owner first : ℕ) (key : List ℕ) (s t : Sheets)
   p_off : (r : ℕ) → Contains ((others ++ q ∷ []) ++ rest) r → r ≢ p
   p_off r c e =
       without_off (others ++ q ∷ []) p rest
-      (subst (λ (x : List ℕ). AllPairs (λ a b. a ≢ b) x) is chain.once)
+      (subst (λ (x : List ℕ). AllPairs (λ a b. a ≢ b) x) is chain.fit.once)
       (subst (Contains ((others ++ q ∷ []) ++ rest)) e c)
 
   q_in : Contains ((others ++ q ∷ []) ++ rest) q
@@ -88,10 +88,10 @@ module _ (ground : Ground) (owner first : ℕ) (key : List ℕ) (s t : Sheets)
 
   same_page : (r : ℕ) → Contains ((others ++ q ∷ []) ++ rest) r → r ≢ q
       → bytes_at t r ≡ bytes_at s r
-  same_page r c d = bytes_same s t r (bytes_stay r (chain.past r (old_in r c)).past d)
+  same_page r c d = bytes_same s t r (bytes_stay r (chain.fit.past r (old_in r c)).past d)
 
   hung_page : bytes_at t q ≡ bytes_at u.between q
-  hung_page = bytes_same u.between t q (u.freed.bytes q (chain.past q (old_in q q_in)).past)
+  hung_page = bytes_same u.between t q (u.freed.bytes q (chain.fit.past q (old_in q q_in)).past)
 
   at_page : (r : ℕ) → Contains ((others ++ q ∷ []) ++ rest) r → entries_at t r ≡ entries_at s r
   at_page r c = elim (cases_eq r q) [
@@ -118,9 +118,9 @@ module _ (ground : Ground) (owner first : ℕ) (key : List ℕ) (s t : Sheets)
   apart_q : (r : ℕ) → (Contains others r ⊎ Contains rest r) → r ≢ q
   apart_q r c e = elim c [
     | inl i ↦ pairs_last others q
-        (pairs_front (others ++ q ∷ []) (p ∷ rest) (subst (λ (x : List ℕ). AllPairs (λ a b. a ≢ b) x) is chain.once))
+        (pairs_front (others ++ q ∷ []) (p ∷ rest) (subst (λ (x : List ℕ). AllPairs (λ a b. a ≢ b) x) is chain.fit.once))
         (subst (Contains others) e i)
-    | inr i ↦ pairs_across others q (p ∷ rest) (subst (λ (x : List ℕ). AllPairs (λ a b. a ≢ b) x) is chain.once)
+    | inr i ↦ pairs_across others q (p ∷ rest) (subst (λ (x : List ℕ). AllPairs (λ a b. a ≢ b) x) is chain.fit.once)
         (contains_later p q rest (subst (Contains rest) e i))
   ]
 
@@ -134,15 +134,17 @@ module _ (ground : Ground) (owner first : ℕ) (key : List ℕ) (s t : Sheets)
         (λ r c page. (let same = same_page r (Contains-append_right (others ++ q ∷ []) rest r c)
         (apart_q r (inr c)) in (subst IsEntryPage (sym same) page, ap next_of same)))
         (subst (AreLinked s first) is chain.linked);
-    once = without_once (others ++ q ∷ []) p rest
-        (subst (λ (x : List ℕ). AllPairs (λ a b. a ≢ b) x) is chain.once);
-    past = λ r c. chain.past r (old_in r c);
-    owned =
-        λ r c. owners_are r ∙ slice_get_set s.owners p r 0 (p_off r c) ∙ chain.owned r (old_in r c);
-    filled = λ r c d none. chain.filled r (old_in r c) d (sym (at_page r c) ∙ none);
-    apart = λ r r' k b b' c c' e e'. chain.apart r r' k b b' (old_in r c) (old_in r' c')
-        (subst (λ (x : List Entry). Contains x (record { key = k; body = b })) (at_page r c) e)
-        (subst (λ (x : List Entry). Contains x (record { key = k; body = b' })) (at_page r' c') e');
+    fit = record {
+      once = without_once (others ++ q ∷ []) p rest
+          (subst (λ (x : List ℕ). AllPairs (λ a b. a ≢ b) x) is chain.fit.once);
+      past = λ r c. chain.fit.past r (old_in r c);
+      owned =
+          λ r c. owners_are r ∙ slice_get_set s.owners p r 0 (p_off r c) ∙ chain.fit.owned r (old_in r c);
+      filled = λ r c d none. chain.fit.filled r (old_in r c) d (sym (at_page r c) ∙ none);
+      apart = λ r r' k b b' c c' e e'. chain.fit.apart r r' k b b' (old_in r c) (old_in r' c')
+          (subst (λ (x : List Entry). Contains x (record { key = k; body = b })) (at_page r c) e)
+          (subst (λ (x : List Entry). Contains x (record { key = k; body = b' })) (at_page r' c') e');
+    };
   }
 
   pub removed_page : IsRemovedFrom ground owner first key s t pages
@@ -152,7 +154,7 @@ module _ (ground : Ground) (owner first : ℕ) (key : List ℕ) (s t : Sheets)
     entries = λ k b. (
       λ on. (let here = subst (λ (x : List Entry). Contains x (record { key = k; body = b })) (at_page on.page on.among) on.here in (
         λ e. p_off on.page on.among
-            (chain.apart on.page p key b held.0 (old_in on.page on.among) p_in
+            (chain.fit.apart on.page p key b held.0 (old_in on.page on.among) p_in
             (subst (λ (x : List ℕ). Contains (entries_at s on.page) (record { key = x; body = b })) e here) held.1),
         record { page = on.page; among = old_in on.page on.among; here = here },
       )),
@@ -174,7 +176,7 @@ module _ (ground : Ground) (owner first : ℕ) (key : List ℕ) (s t : Sheets)
           (λ e. off (subst (Contains pages) (sym e) (old_in q q_in)));
       came = λ r c. inl (old_in r c);
       left = λ r c. elim (cases_eq r p) [
-        | inl e ↦ inr (ap (slice_get t.owners) e ∙ owners_are p ∙ slice_get_set_same s.owners p 0 owner (chain.owned p p_in))
+        | inl e ↦ inr (ap (slice_get t.owners) e ∙ owners_are p ∙ slice_get_set_same s.owners p 0 owner (chain.fit.owned p p_in))
         | inr d ↦ inl (still_in r d c)
       ];
     };

@@ -38,11 +38,11 @@ module _ (ground : Ground) (owner : ℕ) (s : Sheets) (first_of : ℕ → ℕ) (
       let y = below_to pages count q in_q in
       let same : y.bucket ≡ x.bucket = sym (b.placed y.bucket k d y.below (record { page = q; among = y.among; here = at_q }))
       ∙ b.placed x.bucket k c x.below (record { page = p; among = x.among; here = at_p }) in
-      (b.chains x.bucket x.below).apart p q k c d x.among (subst (λ n. Contains (pages n) q) same y.among) at_p at_q
+      (b.chains x.bucket x.below).fit.apart p q k c d x.among (subst (λ n. Contains (pages n) q) same y.among) at_p at_q
 
   pub below_apart : ArePagesApart s (pages_below pages count)
   below_apart = record {
-    once = once_below pages count (λ i less. (b.chains i less).once) b.once;
+    once = once_below pages count (λ i less. (b.chains i less).fit.once) b.once;
     each = λ q c. (let r = below_to pages count q c in linked_page s (first_of r.bucket) (pages r.bucket) q
         (b.chains r.bucket r.below).linked r.among);
     apart = across;
@@ -143,7 +143,7 @@ module _ (ground : Ground) (owner : ℕ) (s : Sheets) (first_of : ℕ → ℕ) (
 
   between_apart : ArePagesApart s those
   between_apart = record {
-    once = once_below (chains_from pages from) (end - from) (λ i less. (b.chains (from + i) (in_count i less)).once)
+    once = once_below (chains_from pages from) (end - from) (λ i less. (b.chains (from + i) (in_count i less)).fit.once)
         (λ i j q in_i in_j at_i at_j. (let same = b.once (from + i) (from + j) q (in_count i in_i) (in_count j in_j) at_i at_j in
         omega (arith, same)));
     each = λ q c. (let r = between_to q c in linked_page s (first_of r.bucket) (pages r.bucket) q (b.chains r.bucket r.below).linked

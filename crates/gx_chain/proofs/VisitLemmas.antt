@@ -18,7 +18,7 @@ use Rattle.gx_chain.specs.declared.check.Visits.{Visits}
 use Rattle.gx_chain.specs.Chain.{entries_at, next_at, AreLinked, IsChain}
 use Rattle.gx_chain.specs.Check.{IsWholeChain, HasWholeChain, has_key, HasAddedKeys, SharesKey, AreVisited, IsNext, IsVisitedChain, HasUnseenChain}
 use Rattle.gx_seen.specs.Seen.{IsUnseen, AreAllSeen}
-use Rattle.gx_chain.proofs.ChainLemmas.{linked_page}
+use Rattle.gx_chain.proofs.ChainLemmas.{linked_page, fit_none}
 use Rattle.gx_chain.proofs.ListLemmas.{contains_here, contains_later, contains_none, contains_middle, without_off}
 use Rattle.gx_chain.proofs.WalkLemmas.{IsAtHand, is_some_page}
 use Rattle.gx_chain.proofs.WriteLemmas.{slice_get_set, slice_get_set_same}
@@ -29,11 +29,7 @@ pub visited_none : (ground : Ground) (owner : ℕ) (sheets : Sheets) (first : �
     (visits : Visits) → visits.seen.items ≡ before → visits.keys.keys ≡ []
     → AreVisited ground owner sheets first before [] visits
 visited_none ground owner sheets first before visits same none = record {
-  once = λ i j d less below. absurd (omega (arith, below));
-  past = λ q c. absurd (contains_none q c);
-  owned = λ q c. absurd (contains_none q c);
-  filled = λ q c. absurd (contains_none q c);
-  apart = λ q r k b c in_q. absurd (contains_none q in_q);
+  fit = fit_none ground owner sheets first;
   seen = λ q. (
     λ is. inl (ap (λ (x : List Bool). slice_get x q) (sym same) ∙ is),
     λ c. elim c [ inl is ↦ ap (λ (x : List Bool). slice_get x q) same ∙ is | inr among ↦ absurd (contains_none q among) ],
@@ -63,31 +59,33 @@ module _ (ground : Ground) (owner : ℕ) (sheets : Sheets) (first : ℕ) (before
       → number < length old.seen.items → new.seen.items ≡ set old.seen.items number true
       → AreVisited ground owner sheets first before (front ++ number ∷ []) new
   visited_more past filled added below marked = record {
-    once = all_pairs_push (λ (a b : ℕ). a ≢ b) front number v.once
-        (λ k d less e. off_front (k, less, get_or_default front k number d less ∙ e));
-    past = λ q c. elim (Contains-push_cases front number q c)
-        [ inl before ↦ v.past q before | inr same ↦ subst (IsPast ground) same past ];
-    owned = λ q c. elim (Contains-push_cases front number q c) [
-      | inl before ↦ v.owned q before
-      | inr same ↦ subst (λ n. slice_get sheets.owners n ≡ Some owner) same unseen.0
-    ];
-    filled = λ q c d. elim (Contains-push_cases front number q c) [
-      | inl before ↦ v.filled q before d
-      | inr same ↦ subst (λ n. n ≢ first → entries_at sheets n ≢ []) same filled d
-    ];
-    apart = λ q r k b c in_q in_r at_q at_r. elim (Contains-push_cases front number q in_q) [
-      | inl before ↦ elim (Contains-push_cases front number r in_r) [
-        | inl before_too ↦ v.apart q r k b c before before_too at_q at_r
-        | inr same ↦ absurd (added.fresh k (c, subst (λ n. Contains (entries_at sheets n) (record { key = k; body = c })) (sym same) at_r)
-            ((v.keys k).1 (b, record { page = q; among = before; here = at_q })))
-      ]
-      | inr same ↦ elim (Contains-push_cases front number r in_r) [
-        | inl before ↦
-            absurd (added.fresh k (b, subst (λ n. Contains (entries_at sheets n) (record { key = k; body = b })) (sym same) at_q)
-            ((v.keys k).1 (c, record { page = r; among = before; here = at_r })))
-        | inr same_too ↦ sym same ∙ same_too
-      ]
-    ];
+    fit = record {
+      once = all_pairs_push (λ (a b : ℕ). a ≢ b) front number v.fit.once
+          (λ k d less e. off_front (k, less, get_or_default front k number d less ∙ e));
+      past = λ q c. elim (Contains-push_cases front number q c)
+          [ inl before ↦ v.fit.past q before | inr same ↦ subst (IsPast ground) same past ];
+      owned = λ q c. elim (Contains-push_cases front number q c) [
+        | inl before ↦ v.fit.owned q before
+        | inr same ↦ subst (λ n. slice_get sheets.owners n ≡ Some owner) same unseen.0
+      ];
+      filled = λ q c d. elim (Contains-push_cases front number q c) [
+        | inl before ↦ v.fit.filled q before d
+        | inr same ↦ subst (λ n. n ≢ first → entries_at sheets n ≢ []) same filled d
+      ];
+      apart = λ q r k b c in_q in_r at_q at_r. elim (Contains-push_cases front number q in_q) [
+        | inl before ↦ elim (Contains-push_cases front number r in_r) [
+          | inl before_too ↦ v.fit.apart q r k b c before before_too at_q at_r
+          | inr same ↦ absurd (added.fresh k (c, subst (λ n. Contains (entries_at sheets n) (record { key = k; body = c })) (sym same) at_r)
+              ((v.keys k).1 (b, record { page = q; among = before; here = at_q })))
+        ]
+        | inr same ↦ elim (Contains-push_cases front number r in_r) [
+          | inl before ↦
+              absurd (added.fresh k (b, subst (λ n. Contains (entries_at sheets n) (record { key = k; body = b })) (sym same) at_q)
+              ((v.keys k).1 (c, record { page = r; among = before; here = at_r })))
+          | inr same_too ↦ sym same ∙ same_too
+        ]
+      ];
+    };
     seen = λ q. (
       λ is. elim (cases_eq q number) [
         | inl e ↦ inr (subst (Contains (front ++ number ∷ [])) (sym e) (Contains-push front number))
@@ -135,12 +133,12 @@ module _ {S : Type 0} (g : Ghosts S) (p : S) (owner first : ℕ) (visits : Visit
 
   next_off : Contains n.front page → ⊥
   next_off c =
-      without_off n.front page n.rest (subst (AllPairs (λ (a b : ℕ). a ≢ b)) n.is n.chain.once)
+      without_off n.front page n.rest (subst (AllPairs (λ (a b : ℕ). a ≢ b)) n.is n.chain.fit.once)
       (Contains-append_left n.front n.rest page c)
 
   pub next_unseen : IsUnseen (g.working p) owner visits.seen.items page
   next_unseen = (
-    n.chain.owned page next_in,
+    n.chain.fit.owned page next_in,
     λ is. elim ((n.visited.seen page).0 is) [ inl earlier ↦ n.unseen page next_in earlier | inr here ↦ next_off here ],
   )
 
@@ -148,7 +146,7 @@ module _ {S : Type 0} (g : Ghosts S) (p : S) (owner first : ℕ) (visits : Visit
   next_page = linked_page (g.working p) first n.all page n.chain.linked next_in
 
   pub next_filled : page ≢ first → entries_at (g.working p) page ≢ []
-  next_filled = n.chain.filled page next_in
+  next_filled = n.chain.fit.filled page next_in
 
   pub next_fresh : SharesKey (entries_at (g.working p) page) visits.keys.keys → ⊥
   next_fresh s =
@@ -156,7 +154,7 @@ module _ {S : Type 0} (g : Ghosts S) (p : S) (owner first : ℕ) (visits : Visit
       let in_all = subst (λ (x : List ℕ). Contains x on.1.page) (sym n.is)
       (Contains-append_left n.front (page ∷ n.rest) on.1.page on.1.among) in
       next_off (subst (Contains n.front)
-      (n.chain.apart on.1.page page s.key on.0 s.among.0 in_all next_in on.1.here s.among.1)
+      (n.chain.fit.apart on.1.page page s.key on.0 s.among.0 in_all next_in on.1.here s.among.1)
       on.1.among)
 
 -- ---- pages that lead to another one
@@ -250,7 +248,7 @@ module _ (ground : Ground) (owner : ℕ) (sheets : Sheets) (first : ℕ) (before
   whole_goes_on done number visits past h all chain =
       goes_on sheets first h.front number all h.led chain.linked
       (is_some_page ground number few_pages past)
-      (λ q c. is_some_page ground q few_pages (h.visited.past q c))
+      (λ q c. is_some_page ground q few_pages (h.visited.fit.past q c))
 
   pub whole_hand : (done number : ℕ) (visits : Visits) → IsPast ground number
       → HasVisited ground owner sheets first before done number visits → (all : List ℕ)
@@ -335,17 +333,10 @@ came_to_end ground owner sheets first before done visits few_pages h =
     let linked = lead_ends sheets first h.front h.led in
     record {
       pages = h.front;
-      chain = record {
-        linked = linked;
-        once = h.visited.once;
-        past = h.visited.past;
-        owned = h.visited.owned;
-        filled = h.visited.filled;
-        apart = h.visited.apart;
-      };
+      chain = record { linked = linked; fit = h.visited.fit };
       only = λ other c. one_chain sheets first other h.front c.linked linked
-          (λ r i. is_some_page ground r few_pages (c.past r i))
-          (λ r i. is_some_page ground r few_pages (h.visited.past r i));
+          (λ r i. is_some_page ground r few_pages (c.fit.past r i))
+          (λ r i. is_some_page ground r few_pages (h.visited.fit.past r i));
       seen = h.visited.seen;
       keys = h.visited.keys;
     }

@@ -103,7 +103,7 @@ pub hand_last : (ground : Ground) (owner : ℕ) (sheets : Sheets) (first : ℕ) 
     → all ≡ h.front ++ number ∷ []
 hand_last ground owner sheets first all done number chain few_pages h none =
     let ended : h.rest ≡ [] = none_behind ground sheets h.rest (next_at sheets number) none few_pages
-    (λ q c. chain.past q (subst (λ (x : List ℕ). Contains x q) (sym h.is)
+    (λ q c. chain.fit.past q (subst (λ (x : List ℕ). Contains x q) (sym h.is)
     (Contains-append_right h.front (number ∷ h.rest) q (contains_later number q h.rest c))))
     h.linked.2 in
     h.is ∙ ap (λ (x : List ℕ). h.front ++ number ∷ x) ended
@@ -113,7 +113,7 @@ pub hand_ends : (ground : Ground) (owner : ℕ) (sheets : Sheets) (first : ℕ) 
     (done number : ℕ) → IsChain ground owner sheets first all → IsAtHand sheets all done number
     → done < ground.size
 hand_ends ground owner sheets first all done number chain h =
-    let most = few ground.size all chain.once (λ q c. (chain.past q c).below) in
+    let most = few ground.size all chain.fit.once (λ q c. (chain.fit.past q c).below) in
     let long = ap length h.is in
     omega (arith, most, long, length-append h.front (number ∷ h.rest), h.steps)
 
@@ -129,7 +129,7 @@ pub hand_leads : (ground : Ground) (owner : ℕ) (sheets : Sheets) (first : ℕ)
     → LeadsOn ground (next_at sheets number)
 hand_leads ground owner sheets first all done number chain h =
     rest_leads ground sheets (next_at sheets number) h.rest
-    (λ q c. chain.past q (subst (λ (x : List ℕ). Contains x q) (sym h.is)
+    (λ q c. chain.fit.past q (subst (λ (x : List ℕ). Contains x q) (sym h.is)
     (Contains-append_right h.front (number ∷ h.rest) q (contains_later number q h.rest c))))
     h.linked.2
 

@@ -28,12 +28,10 @@ pub record IsOn (sheets : Sheets) (pages : List ℕ) (key body : List ℕ) : Typ
   pub among : Contains pages page
   pub here : Contains (entries_at sheets page) (record { key = key; body = body })
 
--- These are the pages of a chain that begins at the first one, each once. All belong to the owner,
--- no key stands twice, and each
--- page but the first has an entry.
-pub record IsChain (ground : Ground) (owner : ℕ) (sheets : Sheets) (first : ℕ) (pages : List ℕ) :
-    Type 0 where
-  pub linked : AreLinked sheets first pages
+-- These pages are fit for a chain that begins at the first one: each stands once and belongs to the
+-- owner, no key stands twice, and each page but the first has an entry.
+pub record AreFitPages (ground : Ground) (owner : ℕ) (sheets : Sheets) (first : ℕ)
+    (pages : List ℕ) : Type 0 where
   pub once : AllPairs (λ a b. a ≢ b) pages
   pub past : (page : ℕ) → Contains pages page → IsPast ground page
   pub owned : (page : ℕ) → Contains pages page → slice_get sheets.owners page ≡ Some owner
@@ -43,6 +41,12 @@ pub record IsChain (ground : Ground) (owner : ℕ) (sheets : Sheets) (first : �
       → Contains (entries_at sheets page) (record { key = key; body = body })
       → Contains (entries_at sheets other) (record { key = key; body = again })
       → page ≡ other
+
+-- These are the pages of a chain that begins at the first one.
+pub record IsChain (ground : Ground) (owner : ℕ) (sheets : Sheets) (first : ℕ) (pages : List ℕ) :
+    Type 0 where
+  pub linked : AreLinked sheets first pages
+  pub fit : AreFitPages ground owner sheets first pages
 
 -- the pages tell what the device holds, and an entry page stands there
 abbrev pub IsEntryAt : {S : Type 0} → Ghosts S → S → ℕ → Type 0

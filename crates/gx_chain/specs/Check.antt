@@ -1,14 +1,14 @@
 -- What is found of a chain that is checked.
-use Rattle.std.specs.Prelude.{◌≡◌, ◌≢◌, ◌↔◌, ◌⊎◌, ℕ, Bool, true, List, [], ◌++◌, ◌∷◌, slice_get, Some, IsTrue}
+use Rattle.std.specs.Prelude.{◌≡◌, ◌≢◌, ◌↔◌, ◌⊎◌, ℕ, Bool, true, List, ◌++◌, ◌∷◌, slice_get, Some, IsTrue}
 use Rattle.std.specs.Global.{Vec}
-use Rattle.std.specs.List.{AllPairs, Contains, list_any}
+use Rattle.std.specs.List.{Contains, list_any}
 use Rattle.std.specs.Ordering.{eq_by_cmp}
 use Rattle.gx_ports.specs.declared.page_view.PageView.{Ghosts}
-use Rattle.gx_ports.specs.Sheets.{Sheets, Ground, IsPast}
+use Rattle.gx_ports.specs.Sheets.{Sheets, Ground}
 use Rattle.gx_ports.specs.Keyed.{key_cmp}
 use Rattle.gx_slots.specs.Entries.{Entry}
 use Rattle.gx_chain.specs.declared.check.Visits.{Visits}
-use Rattle.gx_chain.specs.Chain.{entries_at, IsChain, IsOn}
+use Rattle.gx_chain.specs.Chain.{AreFitPages, IsChain, IsOn}
 
 -- a chain stands there, and its owner has no other page
 pub record IsWholeChain (ground : Ground) (owner : ℕ) (sheets : Sheets) (first : ℕ) : Type 0 where
@@ -53,18 +53,10 @@ abbrev pub AreKeysOn : Sheets → List ℕ → List (Vec ℕ) → Type 0
 AreKeysOn sheets pages keys =
     (key : List ℕ) → (has_key keys key ≡ true) ↔ ((body : List ℕ) × IsOn sheets pages key body)
 
--- These pages could begin a chain, and they and their keys are noted.
+-- These pages are fit for a chain, and they and their keys are noted.
 pub record AreVisited (ground : Ground) (owner : ℕ) (sheets : Sheets) (first : ℕ)
     (before : List Bool) (pages : List ℕ) (visits : Visits) : Type 0 where
-  pub once : AllPairs (λ a b. a ≢ b) pages
-  pub past : (page : ℕ) → Contains pages page → IsPast ground page
-  pub owned : (page : ℕ) → Contains pages page → slice_get sheets.owners page ≡ Some owner
-  pub filled : (page : ℕ) → Contains pages page → page ≢ first → entries_at sheets page ≢ []
-  pub apart : (page other : ℕ) (key body again : List ℕ) → Contains pages page
-      → Contains pages other
-      → Contains (entries_at sheets page) (record { key = key; body = body })
-      → Contains (entries_at sheets other) (record { key = key; body = again })
-      → page ≡ other
+  pub fit : AreFitPages ground owner sheets first pages
   pub seen : AreSeen before pages visits.seen.items
   pub keys : AreKeysOn sheets pages visits.keys.keys
 

@@ -34,9 +34,9 @@ module _ (ground : Ground) (place : Place) (s : Sheets) (pages : ℕ → List �
       elim (cases_eq q (place.root + i)) [
         | inl first ↦ elim (cases_eq q (place.root + j)) [
           | inl first_too ↦ omega (arith, first, first_too)
-          | inr d ↦ same ((chains j in_j).filled q at_j d)
+          | inr d ↦ same ((chains j in_j).fit.filled q at_j d)
         ]
-        | inr d ↦ same ((chains i in_i).filled q at_i d)
+        | inr d ↦ same ((chains i in_i).fit.filled q at_i d)
       ]
 
 -- ---- a key is looked up on the chain of its bucket
@@ -103,7 +103,7 @@ module _ (ground : Ground) (place : Place) (s t : Sheets) (map : LeafMap) (key :
   ]
 
   pub others_stay : OthersStay ground place.owner s t
-  others_stay = others_beside ground place.owner s t (h.pages j) now (h.chains j in_j).owned is.owned b
+  others_stay = others_beside ground place.owner s t (h.pages j) now (h.chains j in_j).fit.owned is.owned b
 
   -- it has what was put, and but for the key what it had
   pub hash_changed : (Put : List ℕ → List ℕ → Type 0) → ((k c : List ℕ) → Put k c → k ≡ key)
@@ -157,12 +157,12 @@ pub hash_same : (ground : Ground) (place : Place) (s t : Sheets) (map : LeafMap)
     → IsHash ground place s map → IsHash ground place t map
 hash_same ground place s t map roots same h =
     let bytes = λ (i q : ℕ) (in_i : i < roots_of place.spec) (c : Contains (h.pages i) q). bytes_same s t q
-    (same.bytes q ((h.chains i in_i).past q c).past ((h.chains i in_i).owned q c)) in
+    (same.bytes q ((h.chains i in_i).fit.past q c).past ((h.chains i in_i).fit.owned q c)) in
     let back = λ (i : ℕ) (k c : List ℕ) (in_i : i < roots_of place.spec). same_on_back ground place.owner (place.root + i) s t (h.pages i)
     (λ q at. bytes i q in_i at) k c in
     as_hash ground place t map h.pages roots
     (λ i in_i. same_chain ground place.owner (place.root + i) s t (h.pages i) (λ q c. bytes i q in_i c)
-    (λ q c. (same.owned q).0 ((h.chains i in_i).owned q c)) (h.chains i in_i))
+    (λ q c. (same.owned q).0 ((h.chains i in_i).fit.owned q c)) (h.chains i in_i))
     (λ q o. h.owned q ((same.owned q).1 o))
     (λ i k c in_i on. h.placed i k c in_i (back i k c in_i on))
     (λ k c. (let in_i = bucket_below place.spec k roots in (

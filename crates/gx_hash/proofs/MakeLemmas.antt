@@ -121,11 +121,13 @@ module _ (ground : Ground) (place : Place) (s t : Sheets) (at : IsPlace ground p
       let first = place.root + i in
       record {
         linked = (refl, r.is_page, r.next_is);
-        once = λ i j d less below. absurd (omega (arith, less, below));
-        past = λ q c. subst (IsPast ground) (only first q c) (root_past i less);
-        owned = λ q c. subst (λ n. slice_get t.owners n ≡ Some place.owner) (only first q c) r.owned;
-        filled = λ q c d. absurd (d (sym (only first q c)));
-        apart = λ q r k b c in_q in_r _ _. sym (only first q in_q) ∙ only first r in_r;
+        fit = record {
+          once = λ i j d less below. absurd (omega (arith, less, below));
+          past = λ q c. subst (IsPast ground) (only first q c) (root_past i less);
+          owned = λ q c. subst (λ n. slice_get t.owners n ≡ Some place.owner) (only first q c) r.owned;
+          filled = λ q c d. absurd (d (sym (only first q c)));
+          apart = λ q r k b c in_q in_r _ _. sym (only first q in_q) ∙ only first r in_r;
+        };
       }
 
   none_on : (i : ℕ) (k b : List ℕ) → i < roots_of place.spec → IsOn t ((place.root + i) ∷ []) k b → ⊥

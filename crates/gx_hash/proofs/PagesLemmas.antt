@@ -38,7 +38,7 @@ module _ (ground : Ground) (place : Place) (s : Sheets) (pages : ℕ → List �
 
   rest_later : (first : ℕ) (xs : List ℕ) → IsChain ground place.owner s first xs → (q : ℕ) → Contains (drop 1 xs) q → q ≢ first
   rest_later first [] chain q c = absurd (contains_none q c)
-  rest_later first (x ∷ xs) chain q c = λ e. pairs_head x xs chain.once (subst (Contains xs) (e ∙ chain.linked.0) c)
+  rest_later first (x ∷ xs) chain q c = λ e. pairs_head x xs chain.fit.once (subst (Contains xs) (e ∙ chain.linked.0) c)
 
   rest_once : (xs : List ℕ) → AllPairs (λ a b. a ≢ b) xs → AllPairs (λ a b. a ≢ b) (drop 1 xs)
   rest_once [] once = once
@@ -63,13 +63,13 @@ module _ (ground : Ground) (place : Place) (s : Sheets) (pages : ℕ → List �
       → length (pages_below pages count) ≤ count + fin.len map
   below_few map map_is =
       let few = keys_few s (pages_below rests count) map
-      (once_below rests count (λ i less. rest_once (pages i) (chains i less).once)
+      (once_below rests count (λ i less. rest_once (pages i) (chains i less).fit.once)
       (λ i j q in_i in_j at_i at_j. chains_once ground place s pages count chains placed i j q in_i in_j (rest_of (pages i) q at_i)
       (rest_of (pages j) q at_j)))
       (λ q c. (let r = below_to rests count q c in
       let chain = chains r.bucket r.below in
       let e = first_of (entries_at s q)
-      (chain.filled q (rest_of (pages r.bucket) q r.among) (rest_later (place.root + r.bucket) (pages r.bucket) chain q r.among)) in
+      (chain.fit.filled q (rest_of (pages r.bucket) q r.among) (rest_later (place.root + r.bucket) (pages r.bucket) chain q r.among)) in
       (e.0, e.1, e.2, map_is e.0 e.1 (record { page = q; among = rest_in q c; here = e.2 }))))
       (λ p q k b c in_p in_q. across ground place.owner s (λ n. place.root + n) (bucket_of place.spec) count pages chains_of p q k b c
       (rest_in p in_p) (rest_in q in_q)) in
@@ -94,7 +94,7 @@ module _ (ground : Ground) (place : Place) (s : Sheets) (map : LeafMap) (h : IsH
   all_owned q o = let r = h.owned q o in below_from h.pages (roots_of place.spec) r.bucket q r.below r.among
 
   are_owned : (q : ℕ) → Contains all q → slice_get s.owners q ≡ Some place.owner
-  are_owned q c = let r = below_to h.pages (roots_of place.spec) q c in (h.chains r.bucket r.below).owned q r.among
+  are_owned q c = let r = below_to h.pages (roots_of place.spec) q c in (h.chains r.bucket r.below).fit.owned q r.among
 
   pub hash_few : page_count place.owner s ≤ roots_of place.spec + fin.len map
   hash_few =
@@ -116,7 +116,7 @@ hash_read ground place s pages some roots chains owned placed =
     let map_is = owned_map_is place.owner s all some
     (below_apart ground place.owner s (λ n. place.root + n) (bucket_of place.spec) (roots_of place.spec) pages
     (chains_of ground place s pages (roots_of place.spec) chains placed))
-    (λ q c. (let r = below_to pages (roots_of place.spec) q c in (chains r.bucket r.below).owned q r.among))
+    (λ q c. (let r = below_to pages (roots_of place.spec) q c in (chains r.bucket r.below).fit.owned q r.among))
     (λ q o. (let r = owned q o in below_from pages (roots_of place.spec) r.bucket q r.below r.among)) in
     record {
       pages = pages;

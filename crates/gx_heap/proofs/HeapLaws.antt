@@ -22,13 +22,13 @@ heap_read ground place s pages some chain all_owned = record {
   pages = pages;
   chain = chain;
   owned = all_owned;
-  map_is = owned_map_is place.owner s pages some (chain_apart ground place.owner place.root s pages chain) chain.owned all_owned;
+  map_is = owned_map_is place.owner s pages some (chain_apart ground place.owner place.root s pages chain) chain.fit.owned all_owned;
 }
 
 pub heap_laws : (ground : Ground) (place : Place) → place.spec.kind ≡ kinds.Heap → IsPlace ground place
     → AreFileLaws ground place (IsHeap ground place) (heap_map ground place)
 heap_laws ground place kind at = record {
-  one = λ s m is. one_map place.owner s is.pages at.least (chain_apart ground place.owner place.root s is.pages is.chain) is.chain.owned
+  one = λ s m is. one_map place.owner s is.pages at.least (chain_apart ground place.owner place.root s is.pages is.chain) is.chain.fit.owned
       is.owned m is.map_is;
   same = λ old new m same is. heap_same ground place old new m same is;
   few = λ s m is.

@@ -44,7 +44,7 @@ module _ (ground : Ground) (place : Place) (s t : Sheets) (map : LeafMap) (key b
       (λ is. (p.entries k b).1 (found.0 is), λ on. found.1 ((p.entries k b).0 on))))
 
   pub heap_put_others : OthersStay ground place.owner s t
-  heap_put_others = others_beside ground place.owner s t h.pages p.pages h.chain.owned p.chain.owned p.beside
+  heap_put_others = others_beside ground place.owner s t h.pages p.pages h.chain.fit.owned p.chain.fit.owned p.beside
 
 module _ (ground : Ground) (place : Place) (s t : Sheets) (map : LeafMap) (key : List ℕ) (some : 1 ≤ place.owner)
     (h : IsHeap ground place s map) (p : IsRemovedFrom ground place.owner place.root key s t h.pages) where
@@ -54,7 +54,7 @@ module _ (ground : Ground) (place : Place) (s t : Sheets) (map : LeafMap) (key :
       (λ is. (p.entries k b).1 (found.0 is), λ on. found.1 ((p.entries k b).0 on))))
 
   pub heap_removed_others : OthersStay ground place.owner s t
-  heap_removed_others = others_beside ground place.owner s t h.pages p.pages h.chain.owned p.chain.owned p.beside
+  heap_removed_others = others_beside ground place.owner s t h.pages p.pages h.chain.fit.owned p.chain.fit.owned p.beside
 
 -- ---- its pages are few, and decide
 
@@ -68,10 +68,10 @@ heap_few ground place s map h =
 pub heap_same : (ground : Ground) (place : Place) (s t : Sheets) (map : LeafMap) → SameFor ground place.owner s t
     → IsHeap ground place s map → IsHeap ground place t map
 heap_same ground place s t map same h =
-    let bytes = λ (q : ℕ) (c : Contains h.pages q). bytes_same s t q (same.bytes q (h.chain.past q c).past (h.chain.owned q c)) in
+    let bytes = λ (q : ℕ) (c : Contains h.pages q). bytes_same s t q (same.bytes q (h.chain.fit.past q c).past (h.chain.fit.owned q c)) in
     record {
       pages = h.pages;
-      chain = same_chain ground place.owner place.root s t h.pages bytes (λ q c. (same.owned q).0 (h.chain.owned q c)) h.chain;
+      chain = same_chain ground place.owner place.root s t h.pages bytes (λ q c. (same.owned q).0 (h.chain.fit.owned q c)) h.chain;
       owned = λ q o. h.owned q ((same.owned q).1 o);
       map_is = λ k b. (
         λ is. same_on ground place.owner place.root s t h.pages bytes k b ((h.map_is k b).0 is),
@@ -100,11 +100,13 @@ module _ (ground : Ground) (place : Place) (s t : Sheets) (some : 1 ≤ place.ow
     pages = place.root ∷ [];
     chain = record {
       linked = (refl, made.written.is_page, made.written.next_is);
-      once = λ i j d less below. absurd (omega arith);
-      past = λ q c. subst (IsPast ground) (only q c) made.claimed.past;
-      owned = λ q c. subst (λ n. slice_get t.owners n ≡ Some place.owner) (only q c) root_owned;
-      filled = λ q c d. absurd (d (sym (only q c)));
-      apart = λ q r k b c in_q in_r _ _. sym (only q in_q) ∙ only r in_r;
+      fit = record {
+        once = λ i j d less below. absurd (omega arith);
+        past = λ q c. subst (IsPast ground) (only q c) made.claimed.past;
+        owned = λ q c. subst (λ n. slice_get t.owners n ≡ Some place.owner) (only q c) root_owned;
+        filled = λ q c d. absurd (d (sym (only q c)));
+        apart = λ q r k b c in_q in_r _ _. sym (only q in_q) ∙ only r in_r;
+      };
     };
     owned = λ q o. elim (cases_eq q place.root) [
       | inl e ↦ subst (Contains (place.root ∷ [])) (sym e) (contains_here place.root [])

@@ -162,11 +162,11 @@ module _ (ground : Ground) (place : Place) (s t : Sheets) (map : LeafMap) (some 
   bucket_others = others_beside ground place.owner s t (root ∷ h.pages j) (root ∷ now)
       (λ q at. elim (contains_cases root q (h.pages j) at) [
         | inl e ↦ subst (λ n. slice_get s.owners n ≡ Some place.owner) e h.root
-        | inr later ↦ (h.buckets.chains j below).owned q later
+        | inr later ↦ (h.buckets.chains j below).fit.owned q later
       ])
       (λ q at. elim (contains_cases root q now at) [
         | inl e ↦ subst (λ n. slice_get t.owners n ≡ Some place.owner) e c.root
-        | inr later ↦ c.chain.owned q later
+        | inr later ↦ c.chain.fit.owned q later
       ])
       c.beside
 

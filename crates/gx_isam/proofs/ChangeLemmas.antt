@@ -41,7 +41,7 @@ module _ {S : Type 0} (g : Ghosts S) (place : Place) (p q : S) (reads : ReadsPag
 pub leads_on : (ground : Ground) (owner : ℕ) (s : Sheets) (first : ℕ) (pages : List ℕ) → IsChain ground owner s first pages
     → LeadsOn ground first
 leads_on ground owner s first [] chain = inl chain.linked
-leads_on ground owner s first (q ∷ qs) chain = inr (subst (λ n. IsPast ground n) (sym chain.linked.0) (chain.past q (contains_here q qs)))
+leads_on ground owner s first (q ∷ qs) chain = inr (subst (λ n. IsPast ground n) (sym chain.linked.0) (chain.fit.past q (contains_here q qs)))
 
 -- at its first page an entry page stands
 pub entry_first : (ground : Ground) (owner : ℕ) (s : Sheets) (first : ℕ) (pages : List ℕ) → IsChain ground owner s first pages

@@ -24,7 +24,7 @@ pub no_pages : (ground : Ground) (owner : ℕ) (s : Sheets) (pages : List ℕ) �
     → pages ≡ []
 no_pages ground owner s [] small chain = refl
 no_pages ground owner s (q ∷ qs) small chain =
-    let below = (chain.past q (contains_here q qs)).below in
+    let below = (chain.fit.past q (contains_here q qs)).below in
     let same : NONE ≡ q = chain.linked.0 in
     absurd (omega (arith, small, below, same))
 
@@ -69,7 +69,7 @@ module _ (ground : Ground) (place : Place) (s u : Sheets) (map : LeafMap) (some 
       omega (arith, zero, some)
 
   fresh_off : Contains old f → ⊥
-  fresh_off c = let zero : place.owner ≡ 0 = same_Some place.owner 0 (sym (chain_old.owned f c) ∙ n.claim.was_free) in
+  fresh_off c = let zero : place.owner ≡ 0 = same_Some place.owner 0 (sym (chain_old.fit.owned f c) ∙ n.claim.was_free) in
       omega (arith, zero, some)
 
   root_off_old : Contains old root → ⊥
@@ -91,7 +91,7 @@ module _ (ground : Ground) (place : Place) (s u : Sheets) (map : LeafMap) (some 
   old_apart q c e = fresh_off (subst (Contains old) e c)
 
   old_same : (q : ℕ) → Contains old q → bytes_at u q ≡ bytes_at s q
-  old_same q c = bytes_same s u q (byte_stays q (chain_old.past q c).past (λ e. root_off_old (subst (Contains old) e c)) (old_apart q c))
+  old_same q c = bytes_same s u q (byte_stays q (chain_old.fit.past q c).past (λ e. root_off_old (subst (Contains old) e c)) (old_apart q c))
 
   fresh_bytes : bytes_at u f ≡ bytes_at n.filled f
   fresh_bytes = bytes_same n.filled u f (n.written.others f fresh_apart)
@@ -101,7 +101,7 @@ module _ (ground : Ground) (place : Place) (s u : Sheets) (map : LeafMap) (some 
 
   chain_still : IsChain ground place.owner u (first_of (bytes_at s root) j) old
   chain_still = same_chain ground place.owner (first_of (bytes_at s root) j) s u old old_same
-      (λ q c. owner_stays q (old_apart q c) ∙ chain_old.owned q c) chain_old
+      (λ q c. owner_stays q (old_apart q c) ∙ chain_old.fit.owned q c) chain_old
 
   still_on : (k b : List ℕ) → IsOn u old k b → IsOn s old k b
   still_on k b on = same_on_back ground place.owner 0 s u old old_same k b on
@@ -118,29 +118,31 @@ module _ (ground : Ground) (place : Place) (s u : Sheets) (map : LeafMap) (some 
       subst (λ m. AreLinked u m old)
           (sym (ap next_of fresh_bytes ∙ n.page.next_is)) chain_still.linked,
     );
-    once = pairs_cons f old fresh_off chain_old.once;
-    past = λ q c. elim (contains_cases f q old c) [
-      | inl e ↦ subst (λ m. IsPast ground m) e n.claim.past
-      | inr later ↦ chain_old.past q later
-    ];
-    owned = λ q c. elim (contains_cases f q old c) [
-      | inl e ↦ subst (λ m. slice_get u.owners m ≡ Some place.owner) e fresh_owned
-      | inr later ↦ chain_still.owned q later
-    ];
-    filled = λ q c d none. elim (contains_cases f q old c) [
-      | inl e ↦ d (sym e)
-      | inr later ↦ h.buckets.filled j q below later (ap entries_of (sym (old_same q later)) ∙ none)
-    ];
-    apart = λ q r k b c in_q in_r at_q at_r. elim (contains_cases f q old in_q) [
-      | inl e ↦ elim (contains_cases f r old in_r) [
-        | inl x ↦ sym e ∙ x
-        | inr later ↦ absurd (es_apart k b c (here_es k b q e at_q) (still_on k c (record { page = r; among = later; here = at_r })))
-      ]
-      | inr before ↦ elim (contains_cases f r old in_r) [
-        | inl x ↦ absurd (es_apart k c b (here_es k c r x at_r) (still_on k b (record { page = q; among = before; here = at_q })))
-        | inr later ↦ chain_still.apart q r k b c before later at_q at_r
-      ]
-    ];
+    fit = record {
+      once = pairs_cons f old fresh_off chain_old.fit.once;
+      past = λ q c. elim (contains_cases f q old c) [
+        | inl e ↦ subst (λ m. IsPast ground m) e n.claim.past
+        | inr later ↦ chain_old.fit.past q later
+      ];
+      owned = λ q c. elim (contains_cases f q old c) [
+        | inl e ↦ subst (λ m. slice_get u.owners m ≡ Some place.owner) e fresh_owned
+        | inr later ↦ chain_still.fit.owned q later
+      ];
+      filled = λ q c d none. elim (contains_cases f q old c) [
+        | inl e ↦ d (sym e)
+        | inr later ↦ h.buckets.filled j q below later (ap entries_of (sym (old_same q later)) ∙ none)
+      ];
+      apart = λ q r k b c in_q in_r at_q at_r. elim (contains_cases f q old in_q) [
+        | inl e ↦ elim (contains_cases f r old in_r) [
+          | inl x ↦ sym e ∙ x
+          | inr later ↦ absurd (es_apart k b c (here_es k b q e at_q) (still_on k c (record { page = r; among = later; here = at_r })))
+        ]
+        | inr before ↦ elim (contains_cases f r old in_r) [
+          | inl x ↦ absurd (es_apart k c b (here_es k c r x at_r) (still_on k b (record { page = q; among = before; here = at_q })))
+          | inr later ↦ chain_still.fit.apart q r k b c before later at_q at_r
+        ]
+      ];
+    };
   }
 
   pub hung_bucket : IsBucketChanged ground place j s u old (f ∷ old)

@@ -51,7 +51,7 @@ module _ (ground : Ground) (place : Place) (s : Sheets) (pages : ℕ → List �
 
   are_owned : (q : ℕ) → Contains all q → slice_get rootless.owners q ≡ Some place.owner
   are_owned q c = let r = below_to pages count q c in slice_get_set s.owners place.root q 0 (off_root q c)
-      ∙ (b.chains r.bucket r.below).owned q r.among
+      ∙ (b.chains r.bucket r.below).fit.owned q r.among
 
   all_owned : (q : ℕ) → slice_get rootless.owners q ≡ Some place.owner → Contains all q
   all_owned q o = elim (cases_eq q place.root) [
@@ -91,14 +91,14 @@ isam_same ground place s t map past same h =
     let count = ap bucket_count root in
     let old = λ (i : ℕ) (less : i < bucket_count (bytes_at t place.root)). subst (λ n. i < n) count less in
     let bytes = λ (i q : ℕ) (in_i : i < bucket_count (bytes_at s place.root)) (c : Contains (h.pages i) q). bytes_same s t q
-    (same.bytes q ((h.buckets.chains i in_i).past q c).past ((h.buckets.chains i in_i).owned q c)) in
+    (same.bytes q ((h.buckets.chains i in_i).fit.past q c).past ((h.buckets.chains i in_i).fit.owned q c)) in
     let back = λ (i : ℕ) (k c : List ℕ) (in_i : i < bucket_count (bytes_at s place.root)). same_on_back ground place.owner 0 s t
     (h.pages i) (λ q at. bytes i q in_i at) k c in
     as_isam ground place t map h.pages (subst IsIndexPage (sym root) h.index) ((same.owned place.root).0 h.root)
     (record {
       chains = λ i less. subst (λ (b : List ℕ). IsChain ground place.owner t (first_of b i) (h.pages i)) (sym root)
           (same_chain ground place.owner (first_of (bytes_at s place.root) i) s t (h.pages i) (λ q c. bytes i q (old i less) c)
-          (λ q c. (same.owned q).0 ((h.buckets.chains i (old i less)).owned q c)) (h.buckets.chains i (old i less)));
+          (λ q c. (same.owned q).0 ((h.buckets.chains i (old i less)).fit.owned q c)) (h.buckets.chains i (old i less)));
       filled = λ i q less c none. h.buckets.filled i q (old i less) c (ap entries_of (sym (bytes i q (old i less) c)) ∙ none);
       placed = λ i k c less on. ap (λ (b : List ℕ). bucket_of b k) root ∙ h.buckets.placed i k c (old i less) (back i k c (old i less) on);
     })

@@ -32,11 +32,13 @@ pub tail_chain : (ground : Ground) (owner : ℕ) (s : Sheets) (first : ℕ) (res
     → IsChain ground owner s (next_at s first) rest
 tail_chain ground owner s first rest chain = record {
   linked = chain.linked.2;
-  once = pairs_tail first rest chain.once;
-  past = λ q c. chain.past q (contains_later first q rest c);
-  owned = λ q c. chain.owned q (contains_later first q rest c);
-  filled = λ q c d. chain.filled q (contains_later first q rest c) (λ e. pairs_head first rest chain.once (subst (Contains rest) e c));
-  apart = λ p q k b c in_p in_q. chain.apart p q k b c (contains_later first p rest in_p) (contains_later first q rest in_q);
+  fit = record {
+    once = pairs_tail first rest chain.fit.once;
+    past = λ q c. chain.fit.past q (contains_later first q rest c);
+    owned = λ q c. chain.fit.owned q (contains_later first q rest c);
+    filled = λ q c d. chain.fit.filled q (contains_later first q rest c) (λ e. pairs_head first rest chain.fit.once (subst (Contains rest) e c));
+    apart = λ p q k b c in_p in_q. chain.fit.apart p q k b c (contains_later first p rest in_p) (contains_later first q rest in_q);
+  };
 }
 
 -- a chain of a bucket was changed, and its first page left out where it has no entry
@@ -72,7 +74,7 @@ module _ (ground : Ground) (place : Place) (s t u : Sheets) (map : LeafMap) (som
     chain = subst (λ n. IsChain ground place.owner t n pages) (sym (ap (λ (b : List ℕ). first_of b j) root_same ∙ first_is)) chain;
     filled = λ q c none. elim (cases_eq q first) [
       | inl e ↦ full (ap (entries_at t) (sym e) ∙ none)
-      | inr d ↦ chain.filled q c d none
+      | inr d ↦ chain.fit.filled q c d none
     ];
     beside = record {
       owners = λ q off off'. beside.owners q (λ c. off (contains_later root q (h.pages j) c)) (λ c. off' (contains_later root q pages c));
@@ -103,7 +105,7 @@ module _ (ground : Ground) (place : Place) (s t u : Sheets) (map : LeafMap) (som
     rest_in q c = subst (λ (x : List ℕ). Contains x q) (sym is) (contains_later first q rest c)
 
     rest_apart : (q : ℕ) → Contains rest q → q ≢ first
-    rest_apart q c e = pairs_head first rest whole.once (subst (Contains rest) e c)
+    rest_apart q c e = pairs_head first rest whole.fit.once (subst (Contains rest) e c)
 
     first_old : Contains (h.pages j) first
     first_old =
@@ -121,13 +123,13 @@ module _ (ground : Ground) (place : Place) (s t u : Sheets) (map : LeafMap) (som
     owner_stays q d = owners_are q ∙ slice_get_set t.owners first q 0 d
 
     first_free : slice_get u.owners first ≡ Some 0
-    first_free = owners_are first ∙ slice_get_set_same t.owners first 0 place.owner (chain.owned first first_in)
+    first_free = owners_are first ∙ slice_get_set_same t.owners first 0 place.owner (chain.fit.owned first first_in)
 
     byte_stays : (q : ℕ) → ground.tables ≤ q → q ≢ root → slice_get u.bytes q ≡ slice_get t.bytes q
     byte_stays q in' d = l.freed.bytes q in' ∙ l.written.others q d
 
     rest_same : (q : ℕ) → Contains rest q → bytes_at u q ≡ bytes_at t q
-    rest_same q c = bytes_same t u q (byte_stays q (chain.past q (rest_in q c)).past (λ e. off_new (subst (Contains pages) e (rest_in q c))))
+    rest_same q c = bytes_same t u q (byte_stays q (chain.fit.past q (rest_in q c)).past (λ e. off_new (subst (Contains pages) e (rest_in q c))))
 
     root_now : bytes_at u root ≡ bytes_at m root
     root_now = bytes_same m u root (l.freed.bytes root past)
@@ -141,8 +143,8 @@ module _ (ground : Ground) (place : Place) (s t u : Sheets) (map : LeafMap) (som
       root = owner_stays root root_apart ∙ root_owned;
       chain = subst (λ n. IsChain ground place.owner u n rest) (sym (ap (λ (b : List ℕ). first_of b j) root_now ∙ l.written.first_is))
           (same_chain ground place.owner (next_at t first) t u rest rest_same
-          (λ q c. owner_stays q (rest_apart q c) ∙ chain.owned q (rest_in q c)) (tail_chain ground place.owner t first rest whole));
-      filled = λ q c none. chain.filled q (rest_in q c) (rest_apart q c) (ap entries_of (sym (rest_same q c)) ∙ none);
+          (λ q c. owner_stays q (rest_apart q c) ∙ chain.fit.owned q (rest_in q c)) (tail_chain ground place.owner t first rest whole));
+      filled = λ q c none. chain.fit.filled q (rest_in q c) (rest_apart q c) (ap entries_of (sym (rest_same q c)) ∙ none);
       beside = record {
         owners = λ q off off'.
             let apart : q ≢ first = λ e. off (contains_later root q (h.pages j) (subst (Contains (h.pages j)) (sym e) first_old)) in
@@ -187,7 +189,7 @@ module _ (ground : Ground) (place : Place) (s t u : Sheets) (map : LeafMap) (som
         ↔ (((c : List ℕ) → Contains (entries_at t first) (record { key = k; body = c }) → ⊥) × IsOn t pages k b)
     on_rest k b = (
       λ on. (let old = same_on_back ground place.owner 0 t u rest rest_same k b on in (
-        λ c at. rest_apart old.page old.among (chain.apart old.page first k b c (rest_in old.page old.among) first_in old.here at),
+        λ c at. rest_apart old.page old.among (chain.fit.apart old.page first k b c (rest_in old.page old.among) first_in old.here at),
         record { page = old.page; among = rest_in old.page old.among; here = old.here },
       )),
       λ gone. elim (contains_cases first gone.1.page rest (subst (λ (x : List ℕ). Contains x gone.1.page) is gone.1.among)) [

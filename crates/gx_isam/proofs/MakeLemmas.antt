@@ -13,6 +13,7 @@ use Rattle.gx_ports.specs.Roots.{roots_of, roots_of_kind}
 use Rattle.gx_ports.specs.Sheets.{Sheets, Ground, IsClaimed, bytes_at}
 use Rattle.gx_ports.specs.Keyed.{key_cmp}
 use Rattle.gx_chain.specs.Chain.{IsChain}
+use Rattle.gx_chain.proofs.ChainLemmas.{fit_none}
 use Rattle.gx_chain.proofs.ListLemmas.{contains_none}
 use Rattle.gx_chain.proofs.WriteLemmas.{slice_get_set, slice_get_set_same}
 use Rattle.gx_isam_index.specs.Index.{IsIndexPage, bucket_count, first_of}
@@ -48,11 +49,7 @@ module _ (ground : Ground) (place : Place) (s c t : Sheets) (page : List ℕ) (k
       let zero : i ≡ 0 = omega (arith, less, size) in
       record {
         linked = ap (λ (b : List ℕ). first_of b i) root_page ∙ ap (first_of page) zero ∙ none;
-        once = λ j k d lt in'. absurd (omega (arith, in'));
-        past = λ q q_in. absurd (contains_none q q_in);
-        owned = λ q q_in. absurd (contains_none q q_in);
-        filled = λ q q_in. absurd (contains_none q q_in);
-        apart = λ q r k b b' q_in. absurd (contains_none q q_in);
+        fit = fit_none ground place.owner t (first_of (bytes_at t place.root) i);
       }
 
   pub isam_made : IsIsam ground place t fin.empty

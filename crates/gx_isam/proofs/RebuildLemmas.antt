@@ -23,6 +23,7 @@ use Rattle.gx_slots.specs.Entries.{Entry}
 use Rattle.gx_slots.specs.Page.{IsEntryPage, entries_of}
 use Rattle.gx_chain.specs.Chain.{entries_at, next_at, IsChain, IsOn}
 use Rattle.gx_chain.specs.Changes.{StaysBeside}
+use Rattle.gx_chain.proofs.ChainLemmas.{fit_none}
 use Rattle.gx_chain.proofs.CountLemmas.{count_listed}
 use Rattle.gx_chain.proofs.EntryLemmas.{more_from, more_to}
 use Rattle.gx_chain.proofs.ListLemmas.{contains_here, contains_later, contains_none}
@@ -139,7 +140,7 @@ module _ (ground : Ground) (place : Place) (s u : Sheets) (map : LeafMap) (some 
   cut_count =
       let owners : u.owners ≡ set s.owners first 0 = l.freed.owners ∙ ap (λ (o : List ℕ). set o first 0) l.written.owners in
       ap (λ (o : List ℕ). count_by (λ n. n == place.owner) o + 1) owners
-      ∙ count_freed place.owner first s.owners some (chain.owned first first_in)
+      ∙ count_freed place.owner first s.owners some (chain.fit.owned first first_in)
 
   pub cut_firsts : (bucket_count (bytes_at u place.root) ≡ bucket_count (bytes_at s place.root))
       × ((other : ℕ) → other < bucket_count (bytes_at s place.root) → other ≢ j
@@ -298,11 +299,7 @@ module _ (ground : Ground) (place : Place) (before s m t : Sheets) (page : List 
   blank_chain : (i : ℕ) → i < bucket_count (bytes_at t place.root) → IsChain ground place.owner t (first_of (bytes_at t place.root) i) []
   blank_chain i less = record {
     linked = ap (λ (b : List ℕ). first_of b i) blank_page ∙ none i (subst (λ (b : List ℕ). i < bucket_count b) blank_page less);
-    once = λ j k d lt in'. absurd (omega (arith, in'));
-    past = λ q q_in. absurd (contains_none q q_in);
-    owned = λ q q_in. absurd (contains_none q q_in);
-    filled = λ q q_in. absurd (contains_none q q_in);
-    apart = λ q r k b b' q_in. absurd (contains_none q q_in);
+    fit = fit_none ground place.owner t (first_of (bytes_at t place.root) i);
   }
 
   pub blank_isam : IsIsam ground place t fin.empty

@@ -1,5 +1,5 @@
 -- Indexed sequential files that are checked.
-use Rattle.std.proofs.Common.{◌≡◌, ◌≢◌, inl, inr, ℕ, ◌<◌, ◌≤◌, ◌^◌, Bool, List, [], sym, ap, subst, ◌∙◌, arith}
+use Rattle.std.proofs.Common.{◌≡◌, ◌≢◌, inl, inr, ℕ, ◌<◌, ◌≤◌, ◌^◌, Bool, List, [], sym, ap, subst, ◌∙◌}
 use Rattle.std.specs.Prelude.{IsTrue}
 use Rattle.std.specs.List.{Contains}
 use Rattle.std.proofs.lemmas.Bool.{cases_eq}
@@ -11,6 +11,7 @@ use Rattle.gx_ports.specs.LeafMaps.{LeafMap}
 use Rattle.gx_ports.specs.Sheets.{Sheets, Ground, bytes_at}
 use Rattle.gx_chain.specs.Chain.{entries_at, IsChain}
 use Rattle.gx_chain.specs.Placed.{HaveBucket}
+use Rattle.gx_chain.proofs.ChainLemmas.{fit_none}
 use Rattle.gx_chain.proofs.ListLemmas.{contains_here, contains_none}
 use Rattle.gx_chain.proofs.PlacedChainLemmas.{IsVisiting, all_marked, chain_there}
 use Rattle.gx_isam_index.specs.Index.{IsIndexPage, bucket_count, bucket_of, first_of}
@@ -78,14 +79,7 @@ pub visited_nothing : (ground : Ground) (owner : ℕ) (s : Sheets) (index : List
     → first_of index bucket ≡ NONE → IsVisitedBucket ground owner s index bucket seen seen
 visited_nothing ground owner s index bucket seen small none = record {
   pages = [];
-  chain = record {
-    linked = none;
-    once = λ j k d lt in'. absurd (omega (arith, in'));
-    past = λ q c. absurd (contains_none q c);
-    owned = λ q c. absurd (contains_none q c);
-    filled = λ q c. absurd (contains_none q c);
-    apart = λ q r k b b' c. absurd (contains_none q c);
-  };
+  chain = record { linked = none; fit = fit_none ground owner s (first_of index bucket) };
   only = λ other chain. no_pages ground owner s other small (subst (λ n. IsChain ground owner s n other) none chain);
   placed = record { placed = λ k b on. absurd (contains_none on.page on.among); filled = λ q c. absurd (contains_none q c) };
   seen = λ q. (λ is. inl is, λ is. elim is [ inl old ↦ old | inr never ↦ absurd (contains_none q never) ]);
@@ -97,7 +91,7 @@ pub filled_chain : (ground : Ground) (owner : ℕ) (s : Sheets) (index : List �
     → ArePlaced index s bucket pages
 filled_chain ground owner s index bucket first pages chain placed some = record {
   placed = placed;
-  filled = λ q c none. elim (cases_eq q first) [ inl e ↦ some (ap (entries_at s) (sym e) ∙ none) | inr d ↦ chain.filled q c d none ];
+  filled = λ q c none. elim (cases_eq q first) [ inl e ↦ some (ap (entries_at s) (sym e) ∙ none) | inr d ↦ chain.fit.filled q c d none ];
 }
 
 pub entry_there : {S : Type 0} (g : Ghosts S) (p : S) (owner : ℕ) (index : List ℕ) (bucket first : ℕ) (seen : List Bool)

@@ -7,6 +7,7 @@ use Rattle.gx_ports.specs.declared.pages.Place.{Place}
 use Rattle.gx_ports.specs.LeafMaps.{LeafMap}
 use Rattle.gx_ports.specs.Sheets.{Sheets, Ground, IsPast}
 use Rattle.gx_btree.specs.Bplus.{IsBplus}
+use Rattle.gx_chain.specs.Chain.{IsChain}
 use Rattle.gx_hash.specs.Hash.{IsHash}
 use Rattle.gx_heap.specs.Heap.{IsHeap}
 use Rattle.gx_isam.specs.Isam.{IsIsam}
@@ -28,17 +29,23 @@ module _ (a b : Ground) (size : a.size ≡ b.size) (tables : a.tables ≡ b.tabl
     below = subst (λ (n : ℕ). page < n) (sym size) p.below;
   }
 
+  chain_there : (owner : ℕ) (sheets : Sheets) (first : ℕ) (pages : List ℕ) → IsChain a owner sheets first pages
+      → IsChain b owner sheets first pages
+  chain_there owner sheets first pages chain = record {
+    linked = chain.linked;
+    fit = record {
+      once = chain.fit.once;
+      past = λ page among. past_there page (chain.fit.past page among);
+      owned = chain.fit.owned;
+      filled = chain.fit.filled;
+      apart = chain.fit.apart;
+    };
+  }
+
   heap_there : (place : Place) (sheets : Sheets) (m : LeafMap) → IsHeap a place sheets m → IsHeap b place sheets m
   heap_there place sheets m h = record {
     pages = h.pages;
-    chain = record {
-      linked = h.chain.linked;
-      once = h.chain.once;
-      past = λ page among. past_there page (h.chain.past page among);
-      owned = h.chain.owned;
-      filled = h.chain.filled;
-      apart = h.chain.apart;
-    };
+    chain = chain_there place.owner sheets place.root h.pages h.chain;
     owned = h.owned;
     map_is = h.map_is;
   }
@@ -55,14 +62,7 @@ module _ (a b : Ground) (size : a.size ≡ b.size) (tables : a.tables ≡ b.tabl
   hash_there : (place : Place) (sheets : Sheets) (m : LeafMap) → IsHash a place sheets m → IsHash b place sheets m
   hash_there place sheets m h = record {
     pages = h.pages;
-    chains = λ bucket below. (let chain = h.chains bucket below in record {
-      linked = chain.linked;
-      once = chain.once;
-      past = λ page among. past_there page (chain.past page among);
-      owned = chain.owned;
-      filled = chain.filled;
-      apart = chain.apart;
-    });
+    chains = λ bucket below. chain_there place.owner sheets _ (h.pages bucket) (h.chains bucket below);
     once = h.once;
     owned = h.owned;
     placed = h.placed;
@@ -75,14 +75,7 @@ module _ (a b : Ground) (size : a.size ≡ b.size) (tables : a.tables ≡ b.tabl
     root = h.root;
     pages = h.pages;
     buckets = record {
-      chains = λ bucket below. (let chain = h.buckets.chains bucket below in record {
-        linked = chain.linked;
-        once = chain.once;
-        past = λ page among. past_there page (chain.past page among);
-        owned = chain.owned;
-        filled = chain.filled;
-        apart = chain.apart;
-      });
+      chains = λ bucket below. chain_there place.owner sheets _ (h.pages bucket) (h.buckets.chains bucket below);
       filled = h.buckets.filled;
       placed = h.buckets.placed;
     };

@@ -20,7 +20,7 @@ returns-in_ok-write-in-Here-clause-put g c told before chain =
     let many = g.met.P.Pages.many p told in
     let spot = subst (IsSpot s c.args.key.now c.args.body.now before page) c.in-Here.is
     (c.in_ok-number.ensures.found told c.args.owner before chain) in
-    let below = (chain.past c.in-Here.number spot.0).below in
+    let below = (chain.fit.past c.in-Here.number spot.0).below in
     put_here (g.P.PageView.ground p) c.args.owner c.args.first c.args.key.now c.args.body.now s t
     before c.in-Here.number (entries_of page) chain spot.0 spot.1.entries_are
     (written s m t c.in-Here.number (next_at s c.in-Here.number) page (entries_of page)

@@ -44,7 +44,7 @@ returns-then-count-gt0-clause-removed g c told before chain =
     (c.in_ok-found.ensures.found told c.args.owner before chain) in
     let among =
     subst (λ (x : List ℕ). Contains x number) (sym f.is) (contains_middle f.front number f.rest) in
-    let below = (chain.past number among).below in
+    let below = (chain.fit.past number among).below in
     let entries = c.take.ensures.entries ∙ ap (λ b. remove (entries_of b) place) f.bytes_are in
     let taken : IsTaken number c.args.key.now s t = record {
       place = place;
@@ -74,7 +74,7 @@ returns-in_ok-write-in-None-clause-removed g c told before chain =
     (c.in_ok-found.ensures.found told c.args.owner before chain) in
     let among =
     subst (λ (x : List ℕ). Contains x number) (sym f.is) (contains_middle f.front number f.rest) in
-    let below = (chain.past number among).below in
+    let below = (chain.fit.past number among).below in
     let entries = c.take.ensures.entries ∙ ap (λ b. remove (entries_of b) place) f.bytes_are in
     let none = MatchOption-at_none (f.front ≡ [])
     (λ page. (others : List ℕ) × (f.front ≡ others ++ page ∷ [])) c.in-None.is f.previous in
