@@ -1,5 +1,5 @@
 -- What a call that reads a page of a tree gives.
-use Rattle.std.specs.Prelude.{◌≡◌, ℕ, List, length, Result, IsTrue, OnOk, IfOk, IsErrOf}
+use Rattle.std.specs.Prelude.{◌≡◌, ℕ, Bool, true, false, List, length, Result, IsTrue, OnOk, IfOk, IsErrOf}
 use Rattle.gx_bytes.specs.declared.page.TheConstants.{PAGE_LEN}
 use Rattle.gx_ports.specs.declared.page_view.PageView.{Ghosts}
 use Rattle.gx_ports.specs.declared.stop.Stop.{Stop}
@@ -8,7 +8,12 @@ use Rattle.gx_ports.specs.Files.{EndsFile}
 use Rattle.gx_ports.specs.PageCalls.{ReadsPages}
 use Rattle.gx_ports.specs.Sheets.{IsPast, bytes_at}
 use Rattle.gx_btree.specs.declared.reading.Shape.{Shape}
-use Rattle.gx_btree.specs.Bplus.{IsTreePage}
+use Rattle.gx_btree.specs.Bplus.{IsTreePage, Shows, Seems}
+
+-- bytes that were tested have this shape: the whole of them was tested, or their header alone
+abbrev pub Passes : Bool → Shape → List ℕ → Type 0
+Passes true = Shows
+Passes false = Seems
 
 -- The bytes of a page past the table are read, with its shape: `HasShape` says how far they are
 -- tested.

@@ -3,7 +3,7 @@ ghost use Rattle.std.specs.Prelude.{◌≡◌, ◌<◌, ◌↔◌, None, Some, l
 ghost use Rattle.gx_bytes.specs.declared.page.TheConstants.{PAGE_LEN};
 ghost use Rattle.gx_bnode.specs.Page.{IsInnerPage, first_of, branches_of};
 ghost use Rattle.gx_btree.specs.Bplus.{Shows, Seems};
-ghost use Rattle.gx_btree.specs.Reading.{ReadsTreePage};
+ghost use Rattle.gx_btree.specs.Reading.{Passes, ReadsTreePage};
 ghost use Rattle.gx_btree.specs.Tree.{child_for, bound_for};
 
 use gx_bnode::{child, child_of, is_inner, separators};
@@ -32,14 +32,7 @@ pub fn read_page<P: Pages>(
     requires bytes { length into.old ≡ PAGE_LEN }
     ensures { ReadsTreePage P.PageView Shows page into.new pages.old pages.new result }
 {
-    if page < pages.tables() || page >= pages.pages() {
-        return Err(Stop::Damaged(pages.block(from)));
-    }
-    pages.read(page, into)?;
-    match shape_of(into) {
-        Some(shape) => Ok(shape),
-        None => Err(Stop::Damaged(pages.block(page))),
-    }
+    read_tested(pages, from, page, into, true)
 }
 
 // What the bytes are. None where they are no page of a tree.
@@ -70,14 +63,40 @@ pub(crate) fn read_kind<P: Pages>(
     requires bytes { length into.old ≡ PAGE_LEN }
     ensures { ReadsTreePage P.PageView Seems page into.new pages.old pages.new result }
 {
+    read_tested(pages, from, page, into, false)
+}
+
+// Reads a page of a tree, whose number stands on the page `from`, and tests the whole of it, or no
+// more than its header.
+fn read_tested<P: Pages>(
+    pages: &mut P,
+    from: u32,
+    page: u32,
+    into: &mut [u8],
+    whole: bool,
+) -> Result<Shape, Stop>
+    requires from { from < (P.ground pages.old).size }
+    requires bytes { length into.old ≡ PAGE_LEN }
+    ensures { ReadsTreePage P.PageView (Passes whole) page into.new pages.old pages.new result }
+{
     if page < pages.tables() || page >= pages.pages() {
         return Err(Stop::Damaged(pages.block(from)));
     }
     pages.read(page, into)?;
-    match kind_of(into) {
+    match tested_shape(into, whole) {
         Some(shape) => Ok(shape),
         None => Err(Stop::Damaged(pages.block(page))),
     }
+}
+
+// What the bytes are, by a test of the whole of them, or of their header alone. None where they are
+// no page of a tree.
+fn tested_shape(page: &[u8], whole: bool) -> Option<Shape>
+    requires { length page.now ≡ PAGE_LEN }
+    ensures { MatchOption result ((shape : Shape) → ¬ Shows shape page.now)
+        (λ shape. Passes whole shape page.now) }
+{
+    if whole { shape_of(page) } else { kind_of(page) }
 }
 
 // What the bytes are, if they are a page of a tree, by their header alone.

@@ -1,7 +1,7 @@
 -- Index pages: byte 0 is 0x58, byte 1 is 0, the number of buckets, 1 to 64, in two bytes, for each
 -- bucket its first page in four, and then
 -- for each bucket but the first a separator.
-use Rattle.std.specs.Prelude.{◌≡◌, ℕ, ◌+◌, ◌-◌, ◌*◌, ◌^◌, ◌<◌, ◌≤◌, List, ◌++◌, length, take, drop, slice_index}
+use Rattle.std.specs.Prelude.{◌≡◌, ℕ, ◌+◌, ◌-◌, ◌*◌, ◌^◌, ◌<◌, ◌≤◌, Bool, true, false, List, ◌++◌, length, take, drop, slice_index}
 use Rattle.std.specs.Borrow.{Bor}
 use Rattle.std.specs.Int.{w16, w32, to_be_bytes, from_be_bytes}
 use Rattle.std.specs.List.{AllPairs, count_by}
@@ -68,6 +68,12 @@ pub record IsIndexPage (bytes : List ℕ) : Type 0 where
   pub some : 1 ≤ bucket_count bytes
   pub most : bucket_count bytes ≤ 64
   pub separators : HoldsAscending (bucket_count bytes - 1) (behind_firsts bytes)
+
+-- the part of a separator that is compared with a key: the front that is as long as the key, or the
+-- whole
+abbrev pub part_of : Bool → List ℕ → List ℕ → List ℕ
+part_of true key separator = take (length key) separator
+part_of false key separator = separator
 
 -- the bucket of a key among separators: how many of them are at or below it
 abbrev pub bucket_among : List (List ℕ) → List ℕ → ℕ

@@ -1,10 +1,11 @@
 // The index page of an indexed sequential file.
-ghost use Rattle.std.specs.Prelude.{◌≡◌, ◌≢◌, ◌↔◌, ℕ, ◌+◌, ◌-◌, ◌*◌, ◌<◌, ◌≤◌, length, take, IsTrue};
+ghost use Rattle.std.specs.Prelude.{◌≡◌, ◌≢◌, ◌↔◌, ℕ, ◌+◌, ◌-◌, ◌*◌, ◌<◌, ◌≤◌, length, IsTrue};
+ghost use Rattle.std.specs.List.{count_by};
 ghost use Rattle.std.specs.Ordering.{is_le};
 ghost use Rattle.gx_bytes.specs.Records.{SplitsRecord};
 ghost use Rattle.gx_bytes.specs.declared.page.TheConstants.{NONE, PAGE_LEN};
 ghost use Rattle.gx_ports.specs.Keyed.{key_cmp};
-ghost use Rattle.gx_isam_index.specs.Index.{IsFit, HoldsAscending, IsIndexPage, behind_firsts, bucket_count, bucket_of, first_of, last_bucket, lent, separator_bytes, separators_of};
+ghost use Rattle.gx_isam_index.specs.Index.{IsFit, HoldsAscending, IsIndexPage, behind_firsts, bucket_count, bucket_of, first_of, last_bucket, lent, part_of, separator_bytes, separators_of};
 
 use gx_bytes::{NONE, has_kind, overwrite, record_count, split_u16, split_u32, write_header};
 use gx_order::is_below;
@@ -88,15 +89,7 @@ pub fn bucket_of(page: &[u8], key: &[u8]) -> u16
     ensures value { result ≡ bucket_of page.now key.now }
     ensures below { result < bucket_count page.now }
 {
-    let count = record_count(page);
-    let mut rest = behind_firsts(page, count);
-    let mut bucket = 0;
-    for _ in 1..count {
-        let (separator, behind) = split_separator(rest).unwrap();
-        bucket += u16::from(is_at_most(separator, key));
-        rest = behind;
-    }
-    bucket
+    count_at_most(page, key, false)
 }
 
 /// The last bucket with keys that begin with `hi`, or with less: how many separators do.
@@ -105,12 +98,24 @@ pub fn last_bucket(page: &[u8], hi: &[u8]) -> u16
     ensures value { result ≡ last_bucket page.now hi.now }
     ensures below { result < bucket_count page.now }
 {
+    count_at_most(page, hi, true)
+}
+
+// How many separators are at or below a key. With `fronts` just the front of each is compared that
+// is as long as the key.
+fn count_at_most(page: &[u8], key: &[u8], fronts: bool) -> u16
+    requires { IsIndexPage page.now }
+    ensures value { result ≡ count_by
+        (λ separator. is_le (key_cmp (part_of fronts key.now separator) key.now))
+        (separators_of page.now) }
+    ensures below { result < bucket_count page.now }
+{
     let count = record_count(page);
     let mut rest = behind_firsts(page, count);
     let mut bucket = 0;
     for _ in 1..count {
         let (separator, behind) = split_separator(rest).unwrap();
-        bucket += u16::from(is_front_at_most(separator, hi));
+        bucket += u16::from(is_at_most(part_of(separator, key, fronts), key));
         rest = behind;
     }
     bucket
@@ -173,11 +178,16 @@ fn are_some_separators(bytes: &[u8], count: u16) -> bool
     true
 }
 
-// Whether the front of `a` that is as long as `hi` is `hi`, or stands before it.
-fn is_front_at_most(a: &[u8], hi: &[u8]) -> bool
-    ensures { result ≡ is_le (key_cmp (take (length hi.now) a.now) hi.now) }
+// The part of a separator that is compared with a key: the front that is as long as the key, or the
+// whole.
+fn part_of<'a>(separator: &'a [u8], key: &[u8], front: bool) -> &'a [u8]
+    ensures { result.now ≡ part_of front key.now separator.now }
 {
-    is_at_most(&a[..a.len().min(hi.len())], hi)
+    if front {
+        &separator[..separator.len().min(key.len())]
+    } else {
+        separator
+    }
 }
 
 // Whether `a` is `b`, or stands before it.
