@@ -6,6 +6,8 @@ mod StoredLemmas
 mod CompleteLemmas
 mod OnceLemmas
 mod EndLemmas
+mod UnhadLemmas
+mod PlayedLemmas
 mod TaskLemmas
 mod MakeLemmas
 mod RanLemmas

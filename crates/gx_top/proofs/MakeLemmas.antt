@@ -32,7 +32,8 @@ use Rattle.gx_top.specs.Tries.{IsAsDue, IsDueStatus}
 use Rattle.gx_requests.specs.Words.{Action, checking, trying, explaining, making, running, inspecting, request_words, IsCount}
 use Rattle.gx_top.proofs.CompleteLemmas.{same_words, one_acceptance, accepted_not_refused, made_not_explained, made_not_inspected, made_not_worked}
 use Rattle.gx_top.proofs.StayLemmas.{devices_same, unprepared_devices}
-use Rattle.gx_top.proofs.EndLemmas.{IsUnhad, done_not_outside, done_not_memory, unplayed, not_done}
+use Rattle.gx_top.proofs.EndLemmas.{done_not_outside, done_not_memory, unplayed, not_done}
+use Rattle.gx_top.proofs.UnhadLemmas.{IsUnhad}
 
 -- ---- how it may end
 

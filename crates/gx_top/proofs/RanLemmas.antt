@@ -17,7 +17,7 @@ use Rattle.gx_top.specs.Ran.{StaysWrong, LeavesRun, LeavesRunBy}
 use Rattle.gx_play.specs.Say.{SameDevices}
 use Rattle.gx_requests.specs.Words.{Action, checking, trying, explaining, making, running, inspecting, request_words}
 use Rattle.gx_top.proofs.CompleteLemmas.{same_words}
-use Rattle.gx_top.proofs.EndLemmas.{IsStopStatus, stop_status}
+use Rattle.gx_top.proofs.PlayedLemmas.{IsStopStatus, stop_status}
 use Rattle.gx_top.proofs.StayLemmas.{devices_same, unprepared_devices}
 use Rattle.gx_operations.proofs.NameLemmas.{other_at}
 

@@ -33,7 +33,8 @@ use Rattle.gx_requests.specs.Words.{Action, trying, running}
 use Rattle.gx_top.proofs.StoredLemmas.{same_internal}
 use Rattle.gx_play.proofs.OverLemmas.{held_as}
 use Rattle.gx_top.proofs.CompleteLemmas.{one_task, made_no_task, had_not_wrong}
-use Rattle.gx_top.proofs.EndLemmas.{IsRun, IsUnhad}
+use Rattle.gx_top.proofs.PlayedLemmas.{IsRun}
+use Rattle.gx_top.proofs.UnhadLemmas.{IsUnhad}
 
 -- ---- over leaves in memory
 

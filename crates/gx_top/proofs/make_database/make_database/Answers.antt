@@ -2,7 +2,7 @@ use Rattle.std.proofs.Common.{ap, refl, ◌∙◌}
 use Rattle.gx_store.specs.Store.{CanAttach}
 use Rattle.gx_play.specs.Endings.{IsEnded}
 use Rattle.gx_requests.specs.Words.{making, request_words}
-use Rattle.gx_top.proofs.EndLemmas.{unhad_end}
+use Rattle.gx_top.proofs.UnhadLemmas.{unhad_end}
 use Rattle.gx_top.proofs.MakeLemmas.{to_make, not_played, unhad, made_due, made_left, unprepared_left}
 use Rattle.gx_top.proofs.make_database.make_database.Goals as goal
 

@@ -11,7 +11,8 @@ use Rattle.gx_store.specs.Store.{HoldsMaps, machine_of}
 use Rattle.gx_play.specs.Endings.{IsEnded}
 use Rattle.gx_play.specs.Plays.{IsPlayedAs}
 use Rattle.gx_operations.specs.Settled.{IsSettledIn}
-use Rattle.gx_top.proofs.EndLemmas.{IsUnhad, run_end, run_due, unhad_end, unhad_due}
+use Rattle.gx_top.proofs.PlayedLemmas.{run_end, run_due}
+use Rattle.gx_top.proofs.UnhadLemmas.{IsUnhad, unhad_end, unhad_due}
 use Rattle.gx_operations.proofs.StoreLemmas.{limit_on}
 use Rattle.gx_top.proofs.TaskLemmas.{run_task, run_is_task, not_wrong, device_run, on_store_told, opened_told, unopened_told, unopened_unhad}
 use Rattle.gx_top.proofs.RanLemmas.{played_left}

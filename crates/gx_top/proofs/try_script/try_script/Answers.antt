@@ -1,6 +1,6 @@
 use Rattle.std.proofs.Common.{ap, refl, ◌∙◌}
 use Rattle.gx_requests.specs.Words.{trying, request_words}
-use Rattle.gx_top.proofs.EndLemmas.{run_end, run_due}
+use Rattle.gx_top.proofs.PlayedLemmas.{run_end, run_due}
 use Rattle.gx_top.proofs.TaskLemmas.{try_task, try_run}
 use Rattle.gx_top.proofs.try_script.try_script.Goals as goal
 
