@@ -101,8 +101,3 @@ same_block g sound old new (Err s) why ends err = λ block f. let same : s ≡ D
 pub not_ok : {T : Type 0} (result : Result T Stop) (P : Stop → Type 0) (A : Type 0) → IsErrAnd result P → OnOk result A
 not_ok (Ok x) P A err = absurd err
 not_ok (Err s) P A err = tt
-
--- what holds where a call didn't fail holds where it went well
-pub not_failed : {T : Type 0} {A : Type 0} (result : Result T Stop) → (¬ IsErrOf result Fault → A) → OnOk result A
-not_failed (Ok x) rest = rest (λ e. cc)
-not_failed (Err s) rest = tt

@@ -7,7 +7,7 @@ use Rattle.gx_device.specs.Faults.{Rose}
 use Rattle.gx_ports.specs.declared.stop.Stop.{Stop}
 use Rattle.gx_ports.specs.declared.stop.Stop.TheVariants.{Fault, Full, Damaged}
 use Rattle.gx_ports.specs.declared.view.View.{Ghosts}
-use Rattle.gx_ports.specs.Calls.{Reads, Ends, ReadsMaps}
+use Rattle.gx_ports.specs.Calls.{Reads, Ends, ReadsLeaf, ReadsMaps}
 use Rattle.gx_ports.proofs.CallLemmas.{reads_joined}
 
 -- a stop that is given on is the same
@@ -34,6 +34,9 @@ module _ {S : Type 0} (g : Ghosts S) where
   -- a call passes where it answers Ok
   pub passes : {T : Type 0} {a b : S} {sound : Type 0} {x : T} → Reads g a b → Ends g sound a b (Ok x) → Passes g a b
   passes reads ends = record { reads = reads; whole = ends.whole; counted = ends.counted refl }
+
+  pub leaf_passes : {T : Type 0} {a b : S} {sound : Type 0} {x : T} → ReadsLeaf g sound a b (Ok x) → Passes g a b
+  leaf_passes x = passes x.reads x.ends
 
   -- a call after those that passed
   pub ends_after : {T : Type 0} {a b c : S} (r : Result T Stop) {sound before : Type 0} → Passes g a b → (before → sound)

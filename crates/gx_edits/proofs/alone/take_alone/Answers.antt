@@ -25,7 +25,7 @@ returns g c = record {
       (c.remove.ensures.ok whole);
   others = λ n whole fault away.
       let t = tree_of c.args.node.now in
-      c.remove.ensures.others whole fault n
+      c.remove.ensures.edits.others whole fault n
       (λ is. away (subst (λ k. In k (leaves_of t)) (sym is)
       (only_in_tree t c.args.leaf c.requires.only)));
   keeps = search rules;

@@ -9,7 +9,7 @@ returns-clause-full g c = λ whole e.
     let b = g.B.View in
     let maps = b.working c.args.leaves.now in
     let first = c.in_ok-put.ensures in
-    let then = c.put-2.ensures.full (first.ends.whole whole) e in
+    let then = c.put-2.ensures.full (first.edits.ends.whole whole) e in
     let few : entry_count (b.working c.put.new.self) ≤ entry_count maps + 1 = omega (
       arith,
       ap entry_count (first.ok whole),
@@ -18,5 +18,5 @@ returns-clause-full g c = λ whole e.
     ) in
     crowded_more (b.limit c.args.leaves.now) (entry_count (b.working c.put.new.self))
     (entry_count maps + 1) few
-    (subst (λ limit. IsCrowdedBy limit (entry_count (b.working c.put.new.self))) first.keeps.limit
+    (subst (λ limit. IsCrowdedBy limit (entry_count (b.working c.put.new.self))) first.edits.keeps.limit
     then)

@@ -52,7 +52,7 @@ returns g c = record {
       (c.put.ensures.ok whole);
   others = λ n whole fault away.
       let t = tree_of c.args.node.now in
-      c.put.ensures.others whole fault n
+      c.put.ensures.edits.others whole fault n
       (λ is. away (subst (λ (i : ℕ). In i (leaves_of t)) (sym is)
       (first_in_tree t c.args.first c.args.second c.requires.two)));
   keeps = search rules;

@@ -14,7 +14,7 @@ returns-clause-full g c =
           let gone = w.in_ok-remove.ensures in
           let mid = w.remove.new.self in
           let then = c.put.ensures.full (subst (λ s. b.whole s) (sym w.leaves-is)
-          (gone.ends.whole whole)) e in
+          (gone.edits.ends.whole whole)) e in
           let here = subst (λ s. IsCrowdedBy (b.limit s) (entry_count (b.working s))) w.leaves-is
           then in
           let few : entry_count (b.working mid) ≤ entry_count maps = omega (
@@ -24,7 +24,7 @@ returns-clause-full g c =
                 w.as_slice.result.now c.requires.second,
           ) in
           crowded_more (b.limit c.args.leaves.now) (entry_count (b.working mid)) (entry_count maps)
-          few (subst (λ limit. IsCrowdedBy limit (entry_count (b.working mid))) gone.keeps.limit
+          few (subst (λ limit. IsCrowdedBy limit (entry_count (b.working mid))) gone.edits.keeps.limit
           here)
       | else-has_record w ↦ λ whole e.
           subst (λ s. IsCrowdedBy (b.limit s) (entry_count (b.working s))) w.leaves-is

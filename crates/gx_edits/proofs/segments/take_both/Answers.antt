@@ -20,7 +20,7 @@ returns-in_err-remove g c = record {
   others = λ n whole fault away.
       let t = tree_of c.args.node.now in
       let p = err_from_is_err_and c.from_residual.result c.from_residual.ensures.1 in
-      c.in_err-remove.ensures.others whole (λ f. fault (p.1 ∙ ap Err p.2 ∙ f)) n
+      c.in_err-remove.ensures.edits.others whole (λ f. fault (p.1 ∙ ap Err p.2 ∙ f)) n
       (λ is. away (subst (λ (i : ℕ). In i (leaves_of t)) (sym is)
       (second_in_tree t c.args.first c.args.second c.requires.two)));
   keeps = search rules;
@@ -32,7 +32,7 @@ pub remove-requires-2-clause-leaf : goal.remove-requires-2-clause-leaf
 remove-requires-2-clause-leaf g c =
     omega (
       arith,
-      c.in_ok-remove.ensures.keeps.leaves,
+      c.in_ok-remove.ensures.edits.keeps.leaves,
       c.requires.can.below c.args.first
           (first_in_tree (tree_of c.args.node.now) c.args.first c.args.second c.requires.two),
     )
@@ -53,14 +53,14 @@ returns g c = record {
       maps c.requires.can.below held old c.as_slice-2.result.now _ there key
       (done ∙ ap (λ ms. without_entry ms c.args.first c.as_slice-2.result.now)
       (gone.ok whole ∙ ap (without_entry maps c.args.second) both)))
-      (c.remove-2.ensures.ok (gone.ends.whole whole));
+      (c.remove-2.ensures.ok (gone.edits.ends.whole whole));
   others = λ n whole fault away.
       let t = tree_of c.args.node.now in
       let gone = c.in_ok-remove.ensures in
-      c.remove-2.ensures.others (gone.ends.whole whole) fault n
+      c.remove-2.ensures.edits.others (gone.edits.ends.whole whole) fault n
       (λ is. away (subst (λ (i : ℕ). In i (leaves_of t)) (sym is)
       (first_in_tree t c.args.first c.args.second c.requires.two)))
-      ∙ gone.others whole (λ f. cc) n
+      ∙ gone.edits.others whole (λ f. cc) n
       (λ is. away (subst (λ (i : ℕ). In i (leaves_of t)) (sym is)
       (second_in_tree t c.args.first c.args.second c.requires.two)));
   keeps = search rules;

@@ -8,7 +8,7 @@ use Rattle.gx_values.specs.Values.{AreFit}
 use Rattle.gx_schema.specs.Lookups.{data_fields}
 use Rattle.gx_ports.specs.LeafMaps.{LeafMap}
 use Rattle.gx_stack.specs.Seen.{tree_of}
-use Rattle.gx_stack.proofs.PassLemmas.{passes, passes_joined, reads_stopped}
+use Rattle.gx_stack.proofs.PassLemmas.{passes_joined, leaf_passes, reads_stopped}
 use Rattle.gx_scan.proofs.BothLemmas.{one_fits, none_there, steps_first, both_are, steps_both}
 use Rattle.gx_scan.proofs.GroupLemmas.{first_there, other_there}
 use Rattle.gx_scan.proofs.KeyLemmas.{row_values}
@@ -24,7 +24,7 @@ pub select-requires-2 : goal.select-requires-2
 select-requires-2 g c =
     let groups = c.args.groups.now in
     subst (λ (maps : List LeafMap). groups.others.leaf < length maps) (sym
-    c.in_ok-select.ensures.reads.working)
+    c.in_ok-select.ensures.reads.reads.working)
     (c.requires.asked.tree.below groups.others.leaf (other_there (tree_of c.args.node.now) groups
     c.requires.groups))
 
@@ -63,8 +63,8 @@ returns-in_default g c = record {
       let key = c.args.key.now in
       let span = c.args.span.now in
       let maps = g.B.View.working c.args.leaves.now in
-      let reads = c.in_ok-select.ensures.reads in
-      let ends = c.in_ok-select.ensures.ends in
+      let reads = c.in_ok-select.ensures.reads.reads in
+      let ends = c.in_ok-select.ensures.reads.ends in
       let f = sound.1.0 in
       let is = sound.1.1 in
       let all = both_are file t groups _ maps f c.requires.asked.storable c.requires.asked.tree is
@@ -81,8 +81,8 @@ returns-in_default g c = record {
       let none = c.in_default.is in
       cc)
       (passes_joined g.B.View
-      (passes g.B.View c.in_ok-select.ensures.reads c.in_ok-select.ensures.ends)
-      (passes g.B.View c.in_ok-select-2.ensures.reads c.in_ok-select-2.ensures.ends));
+      (leaf_passes g.B.View c.in_ok-select.ensures.reads)
+      (leaf_passes g.B.View c.in_ok-select-2.ensures.reads));
 }
 
 pub returns : goal.returns
@@ -94,8 +94,8 @@ returns g c = record {
       let key = c.args.key.now in
       let span = c.args.span.now in
       let maps = g.B.View.working c.args.leaves.now in
-      let reads = c.in_ok-select.ensures.reads in
-      let ends = c.in_ok-select.ensures.ends in
+      let reads = c.in_ok-select.ensures.reads.reads in
+      let ends = c.in_ok-select.ensures.reads.ends in
       let all = both_are file t groups _ maps f c.requires.asked.storable c.requires.asked.tree is
       c.requires.groups key span c.requires.asked.fits c.requires.asked.bounds.lo
       c.requires.asked.bounds.hi
@@ -117,8 +117,8 @@ returns g c = record {
       let key = c.args.key.now in
       let span = c.args.span.now in
       let maps = g.B.View.working c.args.leaves.now in
-      let reads = c.in_ok-select.ensures.reads in
-      let ends = c.in_ok-select.ensures.ends in
+      let reads = c.in_ok-select.ensures.reads.reads in
+      let ends = c.in_ok-select.ensures.reads.ends in
       steps_both file t groups _ maps f c.requires.asked.storable c.requires.asked.tree is
       c.requires.groups key span c.requires.asked.fits c.requires.asked.bounds.lo
       c.requires.asked.bounds.hi

@@ -4,7 +4,7 @@ use Rattle.std.proofs.lemmas.List.Sorted.{IsPermutation-refl}
 use Rattle.std.specs.FinMap as fin
 use Rattle.std.specs.List.Sorted.{IsPermutation}
 use Rattle.gx_stack.specs.Seen.{tree_of}
-use Rattle.gx_stack.proofs.PassLemmas.{passes, reads_stopped}
+use Rattle.gx_stack.proofs.PassLemmas.{leaf_passes, reads_stopped}
 use Rattle.gx_model.specs.Found.{meets_conds}
 use Rattle.gx_scan.specs.Within.{is_within}
 use Rattle.gx_scan.specs.Steps.{is_key_inside, rows_inside}
@@ -76,5 +76,5 @@ returns-clause-adds g c = record {
       true≢false
       (sym (c.in_ok-add_pieced_rows.ensures.chosen (rows_inside span f) (fits, all)).0
       ∙ c.if-branch.false))
-      (passes g.B.View c.in_ok-select.ensures.reads c.in_ok-select.ensures.ends);
+      (leaf_passes g.B.View c.in_ok-select.ensures.reads);
 }

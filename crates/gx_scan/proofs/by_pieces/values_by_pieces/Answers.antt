@@ -7,7 +7,7 @@ use Rattle.gx_values.specs.declared.values.Value.{Value}
 use Rattle.gx_values.specs.Values.{AreFit}
 use Rattle.gx_schema.specs.Lookups.{data_fields}
 use Rattle.gx_stack.specs.Seen.{tree_of}
-use Rattle.gx_stack.proofs.PassLemmas.{passes, reads_stopped}
+use Rattle.gx_stack.proofs.PassLemmas.{leaf_passes, reads_stopped}
 use Rattle.gx_scan.proofs.KeyLemmas.{row_values}
 use Rattle.gx_scan.proofs.PieceLemmas.{pieces_there, one_fits, one_pieces, one_steps}
 use Rattle.gx_scan.proofs.by_pieces.values_by_pieces.Goals as goal
@@ -48,7 +48,7 @@ returns-in_default g c = record {
       let found = c.in_ok-values.ensures.read one fits all in
       let none = c.in_default.is in
       cc)
-      (passes g.B.View c.in_ok-select.ensures.reads c.in_ok-select.ensures.ends);
+      (leaf_passes g.B.View c.in_ok-select.ensures.reads);
 }
 
 pub returns : goal.returns

@@ -1,3 +1,4 @@
+use Rattle.std.proofs.Common.{rules, refl}
 use Rattle.std.specs.FinMap.{insert}
 use Rattle.gx_ports.specs.LeafMaps.{map_at}
 use Rattle.gx_leaves.proofs.ChangeLemmas.{maps, holds, file_whole, others_stay, fresh_stays, stays_whole, sets, full}
@@ -10,33 +11,28 @@ returns-clause-ok g c = λ whole.
     sets g.P.PageView l.places.items l.pages l.laid_out c.args.leaf c.place-place.result c.place-place.ensures.at c.put_in_file.new.pages c.put_in_file.ensures.keeps c.put_in_file.result (insert old c.args.key.now c.args.body.now) c.put_in_file.ensures.others
     (c.put_in_file.ensures.ok old (holds g.P.PageView l.places.items l.pages l.laid_out c.args.leaf c.place-place.result c.place-place.ensures.at whole)) whole
 
-pub returns-clause-others : goal.returns-clause-others
-returns-clause-others g c =
-    let l = c.args.self.now in
-    others_stay g.P.PageView l.places.items l.pages l.laid_out c.args.leaf c.place-place.result c.place-place.ensures.at c.put_in_file.new.pages c.put_in_file.ensures.keeps c.put_in_file.result c.put_in_file.ensures.others
-
-pub returns-clause-ends : goal.returns-clause-ends
-returns-clause-ends g c =
+pub returns-clause-edits : goal.returns-clause-edits
+returns-clause-edits g c =
     let l = c.args.self.now in
     let old = map_at (maps g.P.PageView l.places.items l.pages) c.args.leaf in
-    let cause = c.put_in_file.ensures.ends.cause in record {
-      whole = stays_whole g.P.PageView l.places.items l.pages l.laid_out c.args.leaf c.place-place.result c.place-place.ensures.at c.put_in_file.new.pages c.put_in_file.ensures.keeps c.put_in_file.result (insert old c.args.key.now c.args.body.now) c.put_in_file.ensures.others
-          (λ whole. c.put_in_file.ensures.ok old (holds g.P.PageView l.places.items l.pages l.laid_out c.args.leaf c.place-place.result c.place-place.ensures.at whole));
-      later = cause.later;
-      fault = cause.fault;
-      counted = cause.counted;
-      damaged = λ block is whole. cause.damaged block is (file_whole g.P.PageView l.places.items l.pages l.laid_out c.args.leaf c.place-place.result c.place-place.ensures.at whole);
+    let cause = c.put_in_file.ensures.ends.cause in
+    let home = c.put_in_file.ensures.ends.home in record {
+      others = others_stay g.P.PageView l.places.items l.pages l.laid_out c.args.leaf c.place-place.result c.place-place.ensures.at c.put_in_file.new.pages c.put_in_file.ensures.keeps c.put_in_file.result c.put_in_file.ensures.others;
+      fresh_others = fresh_stays g.P.PageView l.places.items l.pages l.laid_out c.args.leaf c.place-place.result c.place-place.ensures.at c.put_in_file.new.pages c.put_in_file.ensures.keeps c.put_in_file.result c.put_in_file.ensures.others;
+      keeps = search rules;
+      work = refl;
+      ends = record {
+        whole = stays_whole g.P.PageView l.places.items l.pages l.laid_out c.args.leaf c.place-place.result c.place-place.ensures.at c.put_in_file.new.pages c.put_in_file.ensures.keeps c.put_in_file.result (insert old c.args.key.now c.args.body.now) c.put_in_file.ensures.others
+            (λ whole. c.put_in_file.ensures.ok old (holds g.P.PageView l.places.items l.pages l.laid_out c.args.leaf c.place-place.result c.place-place.ensures.at whole));
+        later = cause.later;
+        fault = cause.fault;
+        counted = cause.counted;
+        damaged = λ block is whole. cause.damaged block is (file_whole g.P.PageView l.places.items l.pages l.laid_out c.args.leaf c.place-place.result c.place-place.ensures.at whole);
+      };
+      block = record { bound = λ block is. (home block is).1.within; home = home };
     }
 
 pub returns-clause-full : goal.returns-clause-full
 returns-clause-full g c =
     let l = c.args.self.now in
     full g.P.PageView l.places.items l.pages l.laid_out c.args.leaf c.place-place.result c.place-place.ensures.at c.put_in_file.new.pages c.put_in_file.ensures.keeps c.put_in_file.result c.put_in_file.ensures.others c.put_in_file.ensures.full (λ told. (g.met.P.Pages.many c.put_in_file.new.pages told).0)
-
-pub returns-clause-block : goal.returns-clause-block
-returns-clause-block g c = let home = c.put_in_file.ensures.ends.home in record { bound = λ block is. (home block is).1.within; home = home }
-
-pub returns-clause-fresh_others : goal.returns-clause-fresh_others
-returns-clause-fresh_others g c =
-    let l = c.args.self.now in
-    fresh_stays g.P.PageView l.places.items l.pages l.laid_out c.args.leaf c.place-place.result c.place-place.ensures.at c.put_in_file.new.pages c.put_in_file.ensures.keeps c.put_in_file.result c.put_in_file.ensures.others

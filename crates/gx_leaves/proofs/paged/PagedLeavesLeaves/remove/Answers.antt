@@ -1,3 +1,4 @@
+use Rattle.std.proofs.Common.{rules, refl}
 use Rattle.std.specs.FinMap.{remove}
 use Rattle.gx_ports.specs.LeafMaps.{map_at}
 use Rattle.gx_leaves.proofs.ChangeLemmas.{maps, holds, file_whole, others_stay, fresh_stays, stays_whole, sets}
@@ -10,28 +11,23 @@ returns-clause-ok g c = λ whole.
     sets g.P.PageView l.places.items l.pages l.laid_out c.args.leaf c.place-place.result c.place-place.ensures.at c.remove_from_file.new.pages c.remove_from_file.ensures.keeps c.remove_from_file.result (remove old c.args.key.now) c.remove_from_file.ensures.others
     (c.remove_from_file.ensures.ok old (holds g.P.PageView l.places.items l.pages l.laid_out c.args.leaf c.place-place.result c.place-place.ensures.at whole)) whole
 
-pub returns-clause-others : goal.returns-clause-others
-returns-clause-others g c =
-    let l = c.args.self.now in
-    others_stay g.P.PageView l.places.items l.pages l.laid_out c.args.leaf c.place-place.result c.place-place.ensures.at c.remove_from_file.new.pages c.remove_from_file.ensures.keeps c.remove_from_file.result c.remove_from_file.ensures.others
-
-pub returns-clause-ends : goal.returns-clause-ends
-returns-clause-ends g c =
+pub returns-clause-edits : goal.returns-clause-edits
+returns-clause-edits g c =
     let l = c.args.self.now in
     let old = map_at (maps g.P.PageView l.places.items l.pages) c.args.leaf in
-    let cause = c.remove_from_file.ensures.ends.cause in record {
-      whole = stays_whole g.P.PageView l.places.items l.pages l.laid_out c.args.leaf c.place-place.result c.place-place.ensures.at c.remove_from_file.new.pages c.remove_from_file.ensures.keeps c.remove_from_file.result (remove old c.args.key.now) c.remove_from_file.ensures.others
-          (λ whole. c.remove_from_file.ensures.ok old (holds g.P.PageView l.places.items l.pages l.laid_out c.args.leaf c.place-place.result c.place-place.ensures.at whole));
-      later = cause.later;
-      fault = cause.fault;
-      counted = cause.counted;
-      damaged = λ block is whole. cause.damaged block is (file_whole g.P.PageView l.places.items l.pages l.laid_out c.args.leaf c.place-place.result c.place-place.ensures.at whole);
+    let cause = c.remove_from_file.ensures.ends.cause in
+    let home = c.remove_from_file.ensures.ends.home in record {
+      others = others_stay g.P.PageView l.places.items l.pages l.laid_out c.args.leaf c.place-place.result c.place-place.ensures.at c.remove_from_file.new.pages c.remove_from_file.ensures.keeps c.remove_from_file.result c.remove_from_file.ensures.others;
+      fresh_others = fresh_stays g.P.PageView l.places.items l.pages l.laid_out c.args.leaf c.place-place.result c.place-place.ensures.at c.remove_from_file.new.pages c.remove_from_file.ensures.keeps c.remove_from_file.result c.remove_from_file.ensures.others;
+      keeps = search rules;
+      work = refl;
+      ends = record {
+        whole = stays_whole g.P.PageView l.places.items l.pages l.laid_out c.args.leaf c.place-place.result c.place-place.ensures.at c.remove_from_file.new.pages c.remove_from_file.ensures.keeps c.remove_from_file.result (remove old c.args.key.now) c.remove_from_file.ensures.others
+            (λ whole. c.remove_from_file.ensures.ok old (holds g.P.PageView l.places.items l.pages l.laid_out c.args.leaf c.place-place.result c.place-place.ensures.at whole));
+        later = cause.later;
+        fault = cause.fault;
+        counted = cause.counted;
+        damaged = λ block is whole. cause.damaged block is (file_whole g.P.PageView l.places.items l.pages l.laid_out c.args.leaf c.place-place.result c.place-place.ensures.at whole);
+      };
+      block = record { bound = λ block is. (home block is).1.within; home = home };
     }
-
-pub returns-clause-block : goal.returns-clause-block
-returns-clause-block g c = let home = c.remove_from_file.ensures.ends.home in record { bound = λ block is. (home block is).1.within; home = home }
-
-pub returns-clause-fresh_others : goal.returns-clause-fresh_others
-returns-clause-fresh_others g c =
-    let l = c.args.self.now in
-    fresh_stays g.P.PageView l.places.items l.pages l.laid_out c.args.leaf c.place-place.result c.place-place.ensures.at c.remove_from_file.new.pages c.remove_from_file.ensures.keeps c.remove_from_file.result c.remove_from_file.ensures.others

@@ -1,5 +1,6 @@
+use Rattle.std.proofs.Common.{rules, refl}
 use Rattle.gx_ports.specs.LeafMaps.{map_at}
-use Rattle.gx_leaves.proofs.ChangeLemmas.{maps, holds, file_whole, others_stay, stays_whole, stays, full, fresh_now, fresh_stays, not_failed}
+use Rattle.gx_leaves.proofs.ChangeLemmas.{maps, holds, file_whole, others_stay, stays_whole, stays, full, fresh_now, fresh_stays}
 use Rattle.gx_leaves.proofs.paged.PagedLeavesLeaves.reorganize.Goals as goal
 
 pub returns-clause-ok : goal.returns-clause-ok
@@ -9,22 +10,25 @@ returns-clause-ok g c = λ whole.
     stays g.P.PageView l.places.items l.pages l.laid_out c.args.leaf c.place-place.result c.place-place.ensures.at c.reorganize_file.new.pages c.reorganize_file.ensures.keeps c.reorganize_file.result c.reorganize_file.ensures.others
     (c.reorganize_file.ensures.ok old (holds g.P.PageView l.places.items l.pages l.laid_out c.args.leaf c.place-place.result c.place-place.ensures.at whole)) whole
 
-pub returns-clause-others : goal.returns-clause-others
-returns-clause-others g c =
-    let l = c.args.self.now in
-    others_stay g.P.PageView l.places.items l.pages l.laid_out c.args.leaf c.place-place.result c.place-place.ensures.at c.reorganize_file.new.pages c.reorganize_file.ensures.keeps c.reorganize_file.result c.reorganize_file.ensures.others
-
-pub returns-clause-ends : goal.returns-clause-ends
-returns-clause-ends g c =
+pub returns-clause-edits : goal.returns-clause-edits
+returns-clause-edits g c =
     let l = c.args.self.now in
     let old = map_at (maps g.P.PageView l.places.items l.pages) c.args.leaf in
-    let cause = c.reorganize_file.ensures.ends.cause in record {
-      whole = stays_whole g.P.PageView l.places.items l.pages l.laid_out c.args.leaf c.place-place.result c.place-place.ensures.at c.reorganize_file.new.pages c.reorganize_file.ensures.keeps c.reorganize_file.result old c.reorganize_file.ensures.others
-          (λ whole. c.reorganize_file.ensures.ok old (holds g.P.PageView l.places.items l.pages l.laid_out c.args.leaf c.place-place.result c.place-place.ensures.at whole));
-      later = cause.later;
-      fault = cause.fault;
-      counted = cause.counted;
-      damaged = λ block is whole. cause.damaged block is (file_whole g.P.PageView l.places.items l.pages l.laid_out c.args.leaf c.place-place.result c.place-place.ensures.at whole);
+    let cause = c.reorganize_file.ensures.ends.cause in
+    let home = c.reorganize_file.ensures.ends.home in record {
+      others = others_stay g.P.PageView l.places.items l.pages l.laid_out c.args.leaf c.place-place.result c.place-place.ensures.at c.reorganize_file.new.pages c.reorganize_file.ensures.keeps c.reorganize_file.result c.reorganize_file.ensures.others;
+      fresh_others = fresh_stays g.P.PageView l.places.items l.pages l.laid_out c.args.leaf c.place-place.result c.place-place.ensures.at c.reorganize_file.new.pages c.reorganize_file.ensures.keeps c.reorganize_file.result c.reorganize_file.ensures.others;
+      keeps = search rules;
+      work = refl;
+      ends = record {
+        whole = stays_whole g.P.PageView l.places.items l.pages l.laid_out c.args.leaf c.place-place.result c.place-place.ensures.at c.reorganize_file.new.pages c.reorganize_file.ensures.keeps c.reorganize_file.result old c.reorganize_file.ensures.others
+            (λ whole. c.reorganize_file.ensures.ok old (holds g.P.PageView l.places.items l.pages l.laid_out c.args.leaf c.place-place.result c.place-place.ensures.at whole));
+        later = cause.later;
+        fault = cause.fault;
+        counted = cause.counted;
+        damaged = λ block is whole. cause.damaged block is (file_whole g.P.PageView l.places.items l.pages l.laid_out c.args.leaf c.place-place.result c.place-place.ensures.at whole);
+      };
+      block = record { bound = λ block is. (home block is).1.within; home = home };
     }
 
 pub returns-clause-full : goal.returns-clause-full
@@ -38,12 +42,3 @@ returns-clause-fresh g c = λ whole.
     let old = map_at (maps g.P.PageView l.places.items l.pages) c.args.leaf in
     let held = holds g.P.PageView l.places.items l.pages l.laid_out c.args.leaf c.place-place.result c.place-place.ensures.at whole in
     fresh_now g.P.PageView l.places.items l.pages l.laid_out c.args.leaf c.place-place.result c.place-place.ensures.at c.reorganize_file.new.pages c.reorganize_file.ensures.keeps c.reorganize_file.result old (c.reorganize_file.ensures.ok old held) (c.reorganize_file.ensures.fresh old held)
-
-pub returns-clause-fresh_others : goal.returns-clause-fresh_others
-returns-clause-fresh_others g c = λ whole.
-    let l = c.args.self.now in
-    not_failed c.reorganize_file.result
-    (fresh_stays g.P.PageView l.places.items l.pages l.laid_out c.args.leaf c.place-place.result c.place-place.ensures.at c.reorganize_file.new.pages c.reorganize_file.ensures.keeps c.reorganize_file.result c.reorganize_file.ensures.others whole)
-
-pub returns-clause-block : goal.returns-clause-block
-returns-clause-block g c = let home = c.reorganize_file.ensures.ends.home in record { bound = λ block is. (home block is).1.within; home = home }
