@@ -236,8 +236,8 @@ pub record IsHolding {S : Type 0} (g : Ghosts S) (schema : Schema) (built : Buil
   pub whole_is : g.whole leaves
   pub kept_whole_is : g.kept_whole leaves
 
--- What the play of a script keeps of the leaves that it hands back, whatever they held. What was said
--- before stays, in front, and no device is attached.
+-- What the play of a script keeps of the leaves that it hands back, whatever they held. What was
+-- said before stays, in front, and no device is attached.
 pub record KeepsOver {S : Type 0} (g : Ghosts S) (old new : S) : Type 0 where
   pub head : g.head new ≡ g.head old
   pub begins : IsTrue g.tells → IsPrefix (g.content old).now.said (g.content new).now.said
