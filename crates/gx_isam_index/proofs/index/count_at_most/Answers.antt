@@ -1,4 +1,4 @@
-use Rattle.std.proofs.Common.{◌≡◌, ap, ◌∙◌, arith}
+use Rattle.std.proofs.Common.{◌≡◌, ℕ, Bool, List, ap, ◌∙◌, arith}
 use Rattle.std.specs.Ordering.{is_le}
 use Rattle.gx_ports.specs.Keyed.{key_cmp}
 use Rattle.gx_bytes.proofs.RecordLemmas.{holds_split, split_found}
@@ -17,11 +17,12 @@ pub loop-preserved : goal.loop-preserved
 loop-preserved c =
     let found = split_found separator_bytes IsFit lent c.loop.rest.now c.split_separator.result
     c.unwrap.result c.unwrap.ensures c.split_separator.ensures in
-    let test = λ separator. is_le (key_cmp (part_of c.args.fronts c.args.key.now separator) c.args.key.now) in
+    let test : List ℕ → Bool = λ (separator : List ℕ).
+    is_le (key_cmp (part_of c.args.fronts c.args.key.now separator) c.args.key.now) in
     let more : c.from-bucket.result ≡ tick (test c.unwrap.result.0.now) =
     tick_of c.from-bucket.result c.is_at_most.result c.from-bucket.ensures
     ∙ ap tick (c.is_at_most.ensures
-    ∙ ap (λ part. is_le (key_cmp part c.args.key.now)) c.part_of.ensures) in
+    ∙ ap (λ (part : List ℕ). is_le (key_cmp part c.args.key.now)) c.part_of.ensures) in
     counting_more test (behind_firsts c.args.page.now) c.record_count-count.result c.loop.counter
     c.loop.rest.now c.loop.bucket c.unwrap.result.0.now c.unwrap.result.1.now c.from-bucket.result
     c.loop.invariant c.loop-test.true found.0 found.1 more
