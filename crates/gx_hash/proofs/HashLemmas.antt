@@ -103,7 +103,7 @@ module _ (ground : Ground) (place : Place) (s t : Sheets) (map : LeafMap) (key :
   ]
 
   pub others_stay : OthersStay ground place.owner s t
-  others_stay = others_beside ground place.owner s t (h.pages j) now (h.chains j in_j).fit.owned is.owned b
+  others_stay = others_beside ground place.owner s t (h.pages j) now (h.chains j in_j).fit.owned is.fit.owned b
 
   -- it has what was put, and but for the key what it had
   pub hash_changed : (Put : List ℕ → List ℕ → Type 0) → ((k c : List ℕ) → Put k c → k ≡ key)
