@@ -1,6 +1,6 @@
 -- What a call on one file does to the leaves.
 use Rattle.std.proofs.Common.{◌≡◌, ◌≢◌, ℕ, ◌+◌, ◌*◌, ◌<◌, List, length, set, IsTrue, sym, ap, subst, ◌∙◌}
-use Rattle.std.specs.Prelude.{slice_get, Some, Result, Ok, Err, OnOk, IsErrOf, IsErrAnd}
+use Rattle.std.specs.Prelude.{◌↔◌, slice_get, Some, Result, Ok, Err, OnOk, IsErrOf, IsErrAnd}
 use Rattle.std.specs.FinMap.{empty}
 use Rattle.std.proofs.lemmas.List.{set-get_or}
 use Rattle.std.proofs.lemmas.Option.{same_Some}
@@ -11,10 +11,12 @@ use Rattle.gx_ports.specs.declared.stop.Stop.TheVariants.{Fault, Full, Damaged}
 use Rattle.gx_ports.specs.Stops.{is_outside, HasStopCause}
 use Rattle.gx_ports.specs.LeafMaps.{LeafMap, map_at, entry_count, SameElsewhere}
 use Rattle.gx_ports.specs.PageCalls.{KeepsPages}
-use Rattle.gx_ports.specs.Sheets.{IsHome}
+use Rattle.gx_ports.specs.Heads.{Head}
+use Rattle.gx_ports.specs.Sheets.{Sheets, Ground, IsHome}
 use Rattle.gx_ports.specs.Files.{Holds, IsWhole, SparesOthers, IsFull, EndsFile}
 use Rattle.gx_leaves.specs.Kinds.{IsFileAt, IsFreshOf, map_in}
-use Rattle.gx_leaves.specs.Places.{IsLaidOut}
+use Rattle.gx_leaves.specs.PagedLaws.{map_count}
+use Rattle.gx_leaves.specs.Places.{specs_of, IsLaidOut}
 use Rattle.gx_leaves.specs.Wholeness.{maps_of, limits_of, AreWhole, AreLaid, IsFreshAt}
 use Rattle.gx_leaves.proofs.FrameLemmas.{fresh_stays as others_fresh, held_at, elsewhere, laws_at, maps_set, laid_stays}
 use Rattle.gx_leaves.proofs.CrowdLemmas.{crowded}
@@ -101,3 +103,40 @@ same_block g sound old new (Err s) why ends err = λ block f. let same : s ≡ D
 pub not_ok : {T : Type 0} (result : Result T Stop) (P : Stop → Type 0) (A : Type 0) → IsErrAnd result P → OnOk result A
 not_ok (Ok x) P A err = absurd err
 not_ok (Err s) P A err = tt
+
+-- what a call keeps of pages, leaves on them keep
+module _ {S : Type 0} (g : Ghosts S) (places : List Place) (old new : S) (keeps : KeepsPages g old new) where
+  pub same_count : length (maps g places new) ≡ length (maps g places old)
+  same_count = map_count (g.ground new) places (g.working new) ∙ sym (map_count (g.ground old) places (g.working old))
+
+  pub same_kept : maps_of (g.ground new) places (g.kept new) ≡ maps_of (g.ground old) places (g.kept old)
+  same_kept = ap (λ (b : Ground). maps_of b places (g.kept new)) keeps.ground ∙ ap (λ (s : Sheets). maps_of (g.ground old) places s) keeps.kept
+
+  -- the leaves were whole at the last commit
+  abbrev pub WereWhole : S → Type 0
+  WereWhole p = AreWhole g.tells (g.steady p) (g.ground p) places (g.kept p)
+
+  pub were_whole : WereWhole old ↔ WereWhole new
+  were_whole = (
+    λ whole. record {
+      told = whole.told;
+      settled = keeps.steady.0 whole.settled;
+      laid = subst (λ (b : Ground). AreLaid b places (g.kept new)) (sym keeps.ground)
+          (subst (λ (s : Sheets). AreLaid (g.ground old) places s) (sym keeps.kept) whole.laid);
+    },
+    λ whole. record {
+      told = whole.told;
+      settled = keeps.steady.1 whole.settled;
+      laid = subst (λ (s : Sheets). AreLaid (g.ground old) places s) keeps.kept
+          (subst (λ (b : Ground). AreLaid b places (g.kept new)) keeps.ground whole.laid);
+    },
+  )
+
+  pub same_limit : Some (limits_of (g.ground new) places) ≡ Some (limits_of (g.ground old) places)
+  same_limit = ap (λ (b : Ground). Some (limits_of b places)) keeps.ground
+
+  abbrev pub head : Ground → Head
+  head b = record { blocks = b.head; leaves = specs_of places }
+
+  pub same_head : head (g.ground new) ≡ head (g.ground old)
+  same_head = ap head keeps.ground

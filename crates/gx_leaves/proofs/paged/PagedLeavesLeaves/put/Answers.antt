@@ -1,7 +1,7 @@
-use Rattle.std.proofs.Common.{rules, refl}
+use Rattle.std.proofs.Common.{refl}
 use Rattle.std.specs.FinMap.{insert}
 use Rattle.gx_ports.specs.LeafMaps.{map_at}
-use Rattle.gx_leaves.proofs.ChangeLemmas.{maps, holds, file_whole, others_stay, fresh_stays, stays_whole, sets, full}
+use Rattle.gx_leaves.proofs.ChangeLemmas.{maps, holds, file_whole, others_stay, fresh_stays, stays_whole, sets, full, same_count, same_kept, were_whole, same_limit, same_head}
 use Rattle.gx_leaves.proofs.paged.PagedLeavesLeaves.put.Goals as goal
 
 pub returns-clause-ok : goal.returns-clause-ok
@@ -19,7 +19,15 @@ returns-clause-edits g c =
     let home = c.put_in_file.ensures.ends.home in record {
       others = others_stay g.P.PageView l.places.items l.pages l.laid_out c.args.leaf c.place-place.result c.place-place.ensures.at c.put_in_file.new.pages c.put_in_file.ensures.keeps c.put_in_file.result c.put_in_file.ensures.others;
       fresh_others = fresh_stays g.P.PageView l.places.items l.pages l.laid_out c.args.leaf c.place-place.result c.place-place.ensures.at c.put_in_file.new.pages c.put_in_file.ensures.keeps c.put_in_file.result c.put_in_file.ensures.others;
-      keeps = search rules;
+      keeps = record {
+        leaves = same_count g.P.PageView l.places.items l.pages c.put_in_file.new.pages c.put_in_file.ensures.keeps;
+        kept = same_kept g.P.PageView l.places.items l.pages c.put_in_file.new.pages c.put_in_file.ensures.keeps;
+        kept_whole = were_whole g.P.PageView l.places.items l.pages c.put_in_file.new.pages c.put_in_file.ensures.keeps;
+        limit = same_limit g.P.PageView l.places.items l.pages c.put_in_file.new.pages c.put_in_file.ensures.keeps;
+        head = same_head g.P.PageView l.places.items l.pages c.put_in_file.new.pages c.put_in_file.ensures.keeps;
+        calm = c.put_in_file.ensures.keeps.calm;
+        silent = c.put_in_file.ensures.keeps.silent;
+      };
       work = refl;
       ends = record {
         whole = stays_whole g.P.PageView l.places.items l.pages l.laid_out c.args.leaf c.place-place.result c.place-place.ensures.at c.put_in_file.new.pages c.put_in_file.ensures.keeps c.put_in_file.result (insert old c.args.key.now c.args.body.now) c.put_in_file.ensures.others

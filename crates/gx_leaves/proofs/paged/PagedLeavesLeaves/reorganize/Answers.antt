@@ -1,6 +1,6 @@
-use Rattle.std.proofs.Common.{rules, refl}
+use Rattle.std.proofs.Common.{refl}
 use Rattle.gx_ports.specs.LeafMaps.{map_at}
-use Rattle.gx_leaves.proofs.ChangeLemmas.{maps, holds, file_whole, others_stay, stays_whole, stays, full, fresh_now, fresh_stays}
+use Rattle.gx_leaves.proofs.ChangeLemmas.{maps, holds, file_whole, others_stay, stays_whole, stays, full, fresh_now, fresh_stays, same_count, same_kept, were_whole, same_limit, same_head}
 use Rattle.gx_leaves.proofs.paged.PagedLeavesLeaves.reorganize.Goals as goal
 
 pub returns-clause-ok : goal.returns-clause-ok
@@ -18,7 +18,15 @@ returns-clause-edits g c =
     let home = c.reorganize_file.ensures.ends.home in record {
       others = others_stay g.P.PageView l.places.items l.pages l.laid_out c.args.leaf c.place-place.result c.place-place.ensures.at c.reorganize_file.new.pages c.reorganize_file.ensures.keeps c.reorganize_file.result c.reorganize_file.ensures.others;
       fresh_others = fresh_stays g.P.PageView l.places.items l.pages l.laid_out c.args.leaf c.place-place.result c.place-place.ensures.at c.reorganize_file.new.pages c.reorganize_file.ensures.keeps c.reorganize_file.result c.reorganize_file.ensures.others;
-      keeps = search rules;
+      keeps = record {
+        leaves = same_count g.P.PageView l.places.items l.pages c.reorganize_file.new.pages c.reorganize_file.ensures.keeps;
+        kept = same_kept g.P.PageView l.places.items l.pages c.reorganize_file.new.pages c.reorganize_file.ensures.keeps;
+        kept_whole = were_whole g.P.PageView l.places.items l.pages c.reorganize_file.new.pages c.reorganize_file.ensures.keeps;
+        limit = same_limit g.P.PageView l.places.items l.pages c.reorganize_file.new.pages c.reorganize_file.ensures.keeps;
+        head = same_head g.P.PageView l.places.items l.pages c.reorganize_file.new.pages c.reorganize_file.ensures.keeps;
+        calm = c.reorganize_file.ensures.keeps.calm;
+        silent = c.reorganize_file.ensures.keeps.silent;
+      };
       work = refl;
       ends = record {
         whole = stays_whole g.P.PageView l.places.items l.pages l.laid_out c.args.leaf c.place-place.result c.place-place.ensures.at c.reorganize_file.new.pages c.reorganize_file.ensures.keeps c.reorganize_file.result old c.reorganize_file.ensures.others
