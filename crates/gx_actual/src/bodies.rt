@@ -1,11 +1,13 @@
 // The bodies of records in leaves: the values other than the key, one after the other.
-ghost use Rattle.std.specs.Prelude.{◌≡◌, ◌+◌, ◌≤◌, ◌++◌, List, ℕ, length, drop, IfOk, IsTrue};
-ghost use Rattle.gx_values.specs.Values.{AreFit};
-ghost use Rattle.gx_values.specs.Written.{AreRead, IsAtFront};
-ghost use Rattle.gx_values.specs.declared.values.Kind.TheVariants as kind;
+ghost use Rattle.std.specs.Prelude.{◌≡◌, ◌≤◌, ◌++◌, List, ℕ, length, IfOk, IfSome, IsSomeAnd};
+ghost use Rattle.gx_values.specs.Values.{Fits, AreFit};
+ghost use Rattle.gx_values.specs.Borrowed.{value_of};
+ghost use Rattle.gx_values.specs.Written.{AreRead};
+ghost use Rattle.gx_values.specs.declared.values.Value.{Value as FieldValue};
+ghost use Rattle.gx_values.specs.declared.values.Value.TheVariants as value;
 ghost use Rattle.gx_actual.specs.Bodies.{field_bytes, body_of, IsShort, AreShort, HasLength};
 
-use gx_values::{Field, Kind, NoMemory, Octets, Value, Values, is_printable_text};
+use gx_values::{Field, Kind, NoMemory, Octets, Value, ValueRef, Values};
 use std::alloc::{AllocError, Global};
 
 /// The body of the values of these fields, of which no text or bytes may be longer than what its
@@ -70,11 +72,14 @@ pub fn read_body(alloc: Global, fields: &[Field], body: &[u8]) -> Result<Option<
     let mut values = Vec::with_capacity(alloc, fields.len())?;
     let mut rest = body;
     for field in fields {
-        let Some(value) = read_value(alloc, field.kind, rest)? else {
+        let Some((front, more)) = split_value(field.kind, rest) else {
             return Ok(None);
         };
-        rest = after(&value, rest);
+        let Some(value) = front.checked_copy(alloc, field.kind)? else {
+            return Ok(None);
+        };
         values.push(value)?;
+        rest = more;
     }
     if rest.is_empty() {
         Ok(Some(Values(values)))
@@ -83,65 +88,42 @@ pub fn read_body(alloc: Global, fields: &[Field], body: &[u8]) -> Result<Option<
     }
 }
 
-// What follows a value that stands at the front.
-fn after<'a>(value: &Value, rest: &'a [u8]) -> &'a [u8]
-    requires can { HasLength value.now }
-    requires front { length (field_bytes value.now) ≤ length rest.now }
-    ensures { result.now ≡ drop (length (field_bytes value.now)) rest.now }
-{
-    let width = match value {
-        Value::Int(_) => 8,
-        Value::Text(text) => text.0.len() + 1,
-        Value::Bytes(bytes) => bytes.0.len() + 2,
-    };
-    &rest[width..]
-}
-
-// The value of this kind that stands at the front.
-fn read_value(alloc: Global, kind: Kind, rest: &[u8]) -> Result<Option<Value>, NoMemory>
+/// The value of this kind that stands at the front of a body, and what follows. Whether it fits the
+/// kind isn't tested. `None`: no value of the kind does.
+pub fn split_value(kind: Kind, rest: &[u8]) -> Option<(ValueRef<'_>, &[u8])>
     requires { IsShort kind }
-    ensures { IfOk result (IsAtFront field_bytes kind rest.now) }
+    ensures whole { IfSome result (λ s. rest.now ≡ field_bytes (value_of s.0) ++ s.1.now) }
+    ensures found { (v : FieldValue) (more : List ℕ) → Fits kind v →
+        rest.now ≡ field_bytes v ++ more →
+        IsSomeAnd result (λ s. (value_of s.0 ≡ v) × (s.1.now ≡ more)) }
 {
     match kind {
-        Kind::Int => Ok(read_int(rest)),
-        Kind::Text(most) => read_text(alloc, most, rest),
-        Kind::Bytes(most) => read_bytes(alloc, most, rest),
+        Kind::Int => {
+            let (front, more) = rest.split_first_chunk::<8>()?;
+            let int = u64::from_be_bytes(*front).cast_signed();
+            Some((ValueRef::Int(int), more))
+        }
+        Kind::Text(_) => {
+            let (length, more) = rest.split_first()?;
+            let (text, more) = more.split_at_checked(usize::from(*length))?;
+            Some((ValueRef::Text(text), more))
+        }
+        Kind::Bytes(_) => {
+            let (bytes, more) = split_bytes(rest)?;
+            Some((ValueRef::Bytes(bytes), more))
+        }
     }
 }
 
-fn read_int(rest: &[u8]) -> Option<Value>
-    ensures { IsAtFront field_bytes kind.Int rest.now result }
+/// The same of bytes, of whatever length. `None`: no bytes stand at the front.
+pub fn split_bytes(rest: &[u8]) -> Option<(&[u8], &[u8])>
+    ensures whole { IfSome result
+        (λ s. rest.now ≡ field_bytes (value.Bytes s.0.now) ++ s.1.now) }
+    ensures found { (bytes more : List ℕ) → length bytes ≤ 65535 →
+        rest.now ≡ field_bytes (value.Bytes bytes) ++ more →
+        IsSomeAnd result (λ s. (s.0.now ≡ bytes) × (s.1.now ≡ more)) }
 {
-    let front = rest.first_chunk::<8>()?;
-    Some(Value::Int(u64::from_be_bytes(*front).cast_signed()))
-}
-
-fn read_text(alloc: Global, most: u16, rest: &[u8]) -> Result<Option<Value>, NoMemory>
-    ensures { IfOk result (IsAtFront field_bytes (kind.Text most) rest.now) }
-{
-    let [length, more @ ..] = rest else {
-        return Ok(None);
-    };
-    let length = usize::from(*length);
-    if length > usize::from(most) || length > more.len() {
-        return Ok(None);
-    }
-    let text = &more[..length];
-    if !is_printable_text(text) {
-        return Ok(None);
-    }
-    Ok(Some(Value::Text(Octets::from_slice(alloc, text)?)))
-}
-
-fn read_bytes(alloc: Global, most: u16, rest: &[u8]) -> Result<Option<Value>, NoMemory>
-    ensures { IfOk result (IsAtFront field_bytes (kind.Bytes most) rest.now) }
-{
-    let [high, low, more @ ..] = rest else {
-        return Ok(None);
-    };
-    let length = u16::from_be_bytes([*high, *low]);
-    if length > most || usize::from(length) > more.len() {
-        return Ok(None);
-    }
-    Ok(Some(Value::Bytes(Octets::from_slice(alloc, &more[..usize::from(length)])?)))
+    let (length, more) = rest.split_first_chunk::<2>()?;
+    let length = u16::from_be_bytes(*length);
+    more.split_at_checked(usize::from(length))
 }

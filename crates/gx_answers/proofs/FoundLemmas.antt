@@ -37,7 +37,7 @@ use Rattle.gx_types.specs.Any.{any_rule}
 use Rattle.gx_types.specs.Nodes.{tree_at}
 use Rattle.gx_planner.specs.declared.plans.Plan.{Plan}
 use Rattle.gx_planner.specs.declared.plans.Plan.TheVariants.{Key, Link as ByLink, Index, KeyRange, IndexRange, Scan}
-use Rattle.gx_planner.specs.Plans.{rank_of, rank_by, is_indexed, first_of, by_or, plan_by_condition, least_plan, HasRank}
+use Rattle.gx_planner.specs.Plans.{condition_rank, rank_by, is_indexed, first_of, by_or, plan_by_condition, least_plan, HasRank}
 use Rattle.gx_links.specs.Links.{members_of}
 use Rattle.gx_links.specs.Linksets.{LinkRule}
 use Rattle.gx_model.specs.States.{File, Link, State, Row, file_in, link_in}
@@ -134,8 +134,9 @@ pub gives_key : (q : Find) (indexed : List Bool) (number : ℕ) (c : Cond)
     → slice_get q.conds number ≡ Some c → GivesKey c
 gives_key q indexed number c has there =
     let on = on_key q indexed 1 number c has there (inl refl) in
-    let rank : rank_of indexed c ≡ 1 =
-    same_Some (rank_of indexed c) 1 (sym (ap (option_map (rank_of indexed)) there) ∙ has) in
+    let rank : condition_rank indexed c ≡ 1 =
+    same_Some (condition_rank indexed c) 1 (sym (ap (option_map (condition_rank indexed)) there)
+    ∙ has) in
     let by : rank_by 1 4 c.op ≡ 1 =
     subst (λ (n : ℕ). cond (n == 0) (rank_by 1 4 c.op)
     (cond (is_indexed indexed n) (rank_by 3 5 c.op) 6) ≡ 1)

@@ -28,20 +28,26 @@ use Rattle.gx_audit.specs.Audits.{keys_of, AreFiles, AreAmong, with_files, IsLin
 -- ---- keys
 
 -- the keys that stand at the place of a file
-pub keys_at : (keys : List (List Value)) (fs : List File) (i j : ℕ) (ks : List Value) → keys ≡ map keys_of fs → i ≡ j → j < length keys
+pub keys_at : (keys : List (List Value)) (fs : List File) (i j : ℕ) (ks : List Value)
+    → keys ≡ map keys_of fs → i ≡ j → j < length keys
     → ks ≡ get_or keys i ks → ks ≡ keys_of (get_or fs j fin.empty)
 keys_at keys fs i j ks are same lt is =
-    let there : j < length fs = omega (arith, lt, ap (λ (xs : List (List Value)). length xs) are, length-map fs keys_of) in
+    let there : j < length fs =
+    omega (arith, lt, ap (λ (xs : List (List Value)). length xs) are, length-map fs keys_of) in
     is ∙ (λ k. get_or (are k) (same k) ks) ∙ get_or-map keys_of fs j fin.empty ks there
 
 -- ---- one link
 
-module _ (schema : Schema) (built : Built) (leaves : ℕ) (for : AreFor schema built leaves) (maps : List LeafMap) (fs : List File)
+module _ (schema : Schema) (built : Built) (leaves : ℕ) (for : AreFor schema built leaves)
+    (maps : List LeafMap) (fs : List File)
     (files : AreFiles schema built.files maps fs) (i : ℕ) (lt : i < length schema.links)
-    (l : AnyLinkset) (rule_is : any_link_rule l ≡ rule_at schema built.links i) (valid : IsValidLinkset l)
+    (l : AnyLinkset) (rule_is : any_link_rule l ≡ rule_at schema built.links i)
+    (valid : IsValidLinkset l)
     (held : (link : Link) (ms : List LeafMap) → IsHeldAt built.links i link ms ↔ IsHeldBy l link ms)
-    (members owners : List Value) (members_are : members ≡ keys_of (get_or fs (link_at schema i).member fin.empty))
-    (owners_are : owners ≡ keys_of (get_or fs (link_at schema i).owner fin.empty)) (whole : Type 0) where
+    (members owners : List Value)
+    (members_are : members ≡ keys_of (get_or fs (link_at schema i).member fin.empty))
+    (owners_are : owners ≡ keys_of (get_or fs (link_at schema i).owner fin.empty))
+    (whole : Type 0) where
   abbrev def : LinkDef
   def = link_at schema i
 
@@ -52,12 +58,14 @@ module _ (schema : Schema) (built : Built) (leaves : ℕ) (for : AreFor schema b
   owner_file = get_or fs def.owner fin.empty
 
   -- a valid link is one that nodes can hold
-  is_link : (link : Link) → IsLinkAt schema built maps fs i link → IsLink (any_link_rule l).owner (any_link_rule l).member link
+  is_link : (link : Link) → IsLinkAt schema built maps fs i link
+      → IsLink (any_link_rule l).owner (any_link_rule l).member link
   is_link link is =
       let storable = for.storable.links i lt in
       subst (λ r. IsLink r.owner r.member link) (sym rule_is) (record {
         fit = λ m o e. (
-          key_fits (file_at schema def.member) member_file m (files.each def.member storable.member).fit
+          key_fits (file_at schema def.member) member_file m
+              (files.each def.member storable.member).fit
               (member_there (with_files fs) def link m o is.valid e),
           key_fits (file_at schema def.owner) owner_file o (files.each def.owner storable.owner).fit
               (owner_there (with_files fs) def link m o is.valid e),
@@ -65,22 +73,29 @@ module _ (schema : Schema) (built : Built) (leaves : ℕ) (for : AreFor schema b
         few = λ o. omega (arith, as_many link o, is.valid.few o);
       })
 
-  pub no_pairs : ArePairs (any_link_rule l) (IsHeldBy l) whole maps None → IsPairCount schema built whole maps fs i None
+  pub no_pairs : ArePairs (any_link_rule l) (IsHeldBy l) whole maps None
+      → IsPairCount schema built whole maps fs i None
   no_pairs none w link is = none w (link, is_link link is, (held link maps).0 is.held)
 
-  pub pairs_among : (pairs : List (Value × Value)) → ArePairs (any_link_rule l) (IsHeldBy l) whole maps (Some pairs)
-      → AreAmong members owners pairs → IsPairCount schema built whole maps fs i (Some (length pairs))
+  pub pairs_among : (pairs : List (Value × Value))
+      → ArePairs (any_link_rule l) (IsHeldBy l) whole maps (Some pairs)
+      → AreAmong members owners pairs
+      → IsPairCount schema built whole maps fs i (Some (length pairs))
   pairs_among pairs are among w =
       let a = are w in (
         a.link,
         record {
           valid = record {
             members =
-                all_of (λ (p : Value × Value). IsTrue (is_some (fin.get member_file p.0))) (fin.entries a.link)
-                (λ p h. there member_file p.0 (subst (In p.0) members_are (among p (subst (In p) (sym a.those) h)).0));
+                all_of (λ (p : Value × Value). IsTrue (is_some (fin.get member_file p.0)))
+                (fin.entries a.link)
+                (λ p h. there member_file p.0
+                (subst (In p.0) members_are (among p (subst (In p) (sym a.those) h)).0));
             owners =
-                all_of (λ (p : Value × Value). IsTrue (is_some (fin.get owner_file p.1))) (fin.entries a.link)
-                (λ p h. there owner_file p.1 (subst (In p.1) owners_are (among p (subst (In p) (sym a.those) h)).1));
+                all_of (λ (p : Value × Value). IsTrue (is_some (fin.get owner_file p.1)))
+                (fin.entries a.link)
+                (λ p h. there owner_file p.1
+                (subst (In p.1) owners_are (among p (subst (In p) (sym a.those) h)).1));
             few = λ o. omega (arith, as_many a.link o, a.is_link.few o);
           };
           held = (held a.link maps).1 a.is_held;
@@ -88,21 +103,26 @@ module _ (schema : Schema) (built : Built) (leaves : ℕ) (for : AreFor schema b
         ap (λ (ps : List (Value × Value)). length ps) a.those ∙ sym (fin.len-entries a.link),
       )
 
-  pub pairs_apart : (pairs : List (Value × Value)) → ArePairs (any_link_rule l) (IsHeldBy l) whole maps (Some pairs)
-      → (IsStrictlySortedBy value_cmp members → IsStrictlySortedBy value_cmp owners → ¬ AreAmong members owners pairs)
+  pub pairs_apart : (pairs : List (Value × Value))
+      → ArePairs (any_link_rule l) (IsHeldBy l) whole maps (Some pairs)
+      → (IsStrictlySortedBy value_cmp members → IsStrictlySortedBy value_cmp owners
+      → ¬ AreAmong members owners pairs)
       → IsPairCount schema built whole maps fs i None
   pairs_apart pairs are apart w link is =
       let a = are w in
-      let same : a.link ≡ link = (any_link_laws l valid).told a.link link maps a.is_link (is_link link is) a.is_held
+      let same : a.link ≡ link =
+      (any_link_laws l valid).told a.link link maps a.is_link (is_link link is) a.is_held
       ((held link maps).0 is.held) in
       let entries : pairs ≡ fin.entries link = a.those ∙ ap fin.entries same in
       apart (subst (IsStrictlySortedBy value_cmp) (sym members_are) (keys_sorted member_file))
       (subst (IsStrictlySortedBy value_cmp) (sym owners_are) (keys_sorted owner_file)) (λ p h.
       let there_in = subst (In p) entries h in (
         subst (In p.0) (sym members_are)
-            (in_keys member_file p.0 (all_in (λ (q : Value × Value). IsTrue (is_some (fin.get member_file q.0)))
+            (in_keys member_file p.0
+            (all_in (λ (q : Value × Value). IsTrue (is_some (fin.get member_file q.0)))
             (fin.entries link) p is.valid.members there_in)),
         subst (In p.1) (sym owners_are)
-            (in_keys owner_file p.1 (all_in (λ (q : Value × Value). IsTrue (is_some (fin.get owner_file q.1)))
+            (in_keys owner_file p.1
+            (all_in (λ (q : Value × Value). IsTrue (is_some (fin.get owner_file q.1)))
             (fin.entries link) p is.valid.owners there_in)),
       ))

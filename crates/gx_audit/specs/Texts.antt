@@ -30,11 +30,11 @@ leaf_text i name k entries =
     codes "leaf " ++ decimal i ++ codes " " ++ name ++ codes " " ++ head_text (heads.Leaf k)
     ++ codes " entries " ++ decimal entries ++ codes "\n"
 
-abbrev pub file_text : List ℕ → ℕ → List ℕ
-file_text name records = codes "file " ++ name ++ codes " records " ++ decimal records ++ codes "\n"
+abbrev pub file_count_text : List ℕ → ℕ → List ℕ
+file_count_text name records = codes "file " ++ name ++ codes " records " ++ decimal records ++ codes "\n"
 
-abbrev pub link_text : List ℕ → ℕ → List ℕ
-link_text name members = codes "link " ++ name ++ codes " members " ++ decimal members ++ codes "\n"
+abbrev pub link_count_text : List ℕ → ℕ → List ℕ
+link_count_text name members = codes "link " ++ name ++ codes " members " ++ decimal members ++ codes "\n"
 
 -- the lines of the leaf, the file and the link with a number
 abbrev pub leaf_line : Schema → List LeafSpec → List ℕ → List LeafMap → ℕ → List ℕ
@@ -43,10 +43,10 @@ leaf_line schema specs owners maps i =
     (slice_index_or specs i no_spec).kind (len (map_at maps i))
 
 abbrev pub file_line : Schema → State → ℕ → List ℕ
-file_line schema s i = file_text (file_at schema i).name (len (file_in s i))
+file_line schema s i = file_count_text (file_at schema i).name (len (file_in s i))
 
 abbrev pub link_line : Schema → State → ℕ → List ℕ
-link_line schema s i = link_text (link_at schema i).name (len (link_in s i))
+link_line schema s i = link_count_text (link_at schema i).name (len (link_in s i))
 
 -- a line for each number below a count, in their order
 abbrev pub lines_below : (ℕ → List ℕ) → ℕ → List ℕ

@@ -9,7 +9,7 @@ ghost use Rattle.gx_equation.specs.Printing.{head_text};
 ghost use Rattle.gx_stack.specs.Held.{AreCounts};
 ghost use Rattle.gx_model.specs.States.{State};
 ghost use Rattle.gx_audit.specs.Audits.{keys_of};
-ghost use Rattle.gx_audit.specs.Texts.{definition_names, leaf_text, file_text, link_text, leaf_line, file_line, link_line, lines_below};
+ghost use Rattle.gx_audit.specs.Texts.{definition_names, leaf_text, file_count_text, link_count_text, leaf_line, file_line, link_line, lines_below};
 ghost use Rattle.gx_audit.specs.Texts.{inspect_text as the_text};
 
 use crate::files::FileKeys;
@@ -198,7 +198,7 @@ fn push_kind(text: &mut Vec<u8>, kind: LeafKind) -> Result<(), AllocError>
 }
 
 fn push_file(text: &mut Vec<u8>, name: &[u8], records: usize) -> Result<(), AllocError>
-    ensures { OnOk result (text.new.items ≡ text.old.items ++ file_text name.now records) }
+    ensures { OnOk result (text.new.items ≡ text.old.items ++ file_count_text name.now records) }
 {
     text.extend_from_slice(b"file ")?;
     text.extend_from_slice(name)?;
@@ -208,7 +208,7 @@ fn push_file(text: &mut Vec<u8>, name: &[u8], records: usize) -> Result<(), Allo
 }
 
 fn push_link(text: &mut Vec<u8>, name: &[u8], members: usize) -> Result<(), AllocError>
-    ensures { OnOk result (text.new.items ≡ text.old.items ++ link_text name.now members) }
+    ensures { OnOk result (text.new.items ≡ text.old.items ++ link_count_text name.now members) }
 {
     text.extend_from_slice(b"link ")?;
     text.extend_from_slice(name)?;

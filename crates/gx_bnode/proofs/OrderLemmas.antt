@@ -32,7 +32,8 @@ all_behind separators i key ascending below less k d in' =
           subst (λ (n : ℕ). cmp key (get_or separators n d) ≡ Less)
           (let n : i ≡ i + 0 = omega arith in n) here
       go (suc k) in' =
-          nat_list_cmp_total.trans key (get_or separators i d) (get_or separators (i + suc k) d) here
+          nat_list_cmp_total.trans key (get_or separators i d) (get_or separators (i + suc k) d)
+          here
           (ascending i (i + suc k) d (omega arith) (omega (arith, length-drop i separators)))
 
 -- a count of those that pass a test
@@ -85,7 +86,8 @@ count-is separators i key within before behind =
     let p = λ (separator : List ℕ). is_le (cmp separator key) in
     let front = count_all p (take i separators) before in
     let back = count_none p (drop i separators)
-    (All-weaker (λ s. cmp key s ≡ Less) (λ s. p s ≡ false) (λ s less. less_is_not_le key s less) (drop i separators) behind) in
+    (All-weaker (λ s. cmp key s ≡ Less) (λ s. p s ≡ false) (λ s less. less_is_not_le key s less)
+    (drop i separators) behind) in
     omega (
       arith,
       front,

@@ -139,7 +139,8 @@ pub page_first : (first : ℕ) (branches : List Branch) (bytes : List ℕ)
     → IsPageOf other branches new
 page_first first branches bytes is other new fits new_is size =
     record {
-      page = pages.page_numbered branch_format 0x49 branches first bytes is.page other new fits new_is size;
+      page = pages.page_numbered branch_format 0x49 branches first bytes is.page other new fits
+          new_is size;
       some = is.some;
       ascending = is.ascending;
     }
@@ -156,12 +157,15 @@ pub page_added : (first : ℕ) (branches : List Branch) (bytes : List ℕ)
     → put ≡ overwritten moved at (branch_bytes branch)
     → new ≡ overwritten put 2 (to_be_bytes w16 (length branches + 1)) → length new ≡ 4096
     → IsPageOf first (insert branches i branch) new
-page_added first branches bytes is i branch at end moved put new in' fit ascending at_is end_is room moved_is put_is new_is size = record {
-  page = pages.page_added branch_format 0x49 branches first bytes is.page i branch at end moved put
-      new in' fit at_is end_is room moved_is put_is new_is size;
-  some = omega (arith, length-insert branches i branch in');
-  ascending = subst AreAscending (sym (map-insert (λ b. b.separator) branches i branch)) ascending;
-}
+page_added first branches bytes is i branch at end moved put new in' fit ascending at_is end_is room
+    moved_is put_is new_is size = record {
+      page = pages.page_added branch_format 0x49 branches first bytes is.page i branch at end moved
+          put
+          new in' fit at_is end_is room moved_is put_is new_is size;
+      some = omega (arith, length-insert branches i branch in');
+      ascending = subst AreAscending (sym (map-insert (λ b. b.separator) branches i branch))
+          ascending;
+    }
 
 -- the branch at a place taken away
 pub page_taken : (first : ℕ) (branches : List Branch) (bytes : List ℕ)
@@ -171,14 +175,17 @@ pub page_taken : (first : ℕ) (branches : List Branch) (bytes : List ℕ)
     → moved ≡ copy_within bytes behind end at
     → new ≡ overwritten moved 2 (to_be_bytes w16 (length branches - 1)) → length new ≡ 4096
     → IsPageOf first (remove branches i) new
-page_taken first branches bytes is i at behind end d moved new below several at_is behind_is end_is moved_is new_is size = record {
-  page = pages.page_taken branch_format 0x49 branches first bytes is.page i at behind end d moved
-      new below at_is behind_is end_is moved_is new_is size;
-  some = omega (arith, length-remove branches i below);
-  ascending = subst AreAscending (sym (map-remove (λ b. b.separator) branches i))
-      (all_pairs_remove (λ a b. slice_cmp nat_cmp a b ≡ Less) (separators_in branches) i (omega (arith, separators_count branches))
-      is.ascending);
-}
+page_taken first branches bytes is i at behind end d moved new below several at_is behind_is end_is
+    moved_is new_is size = record {
+      page = pages.page_taken branch_format 0x49 branches first bytes is.page i at behind end d
+          moved
+          new below at_is behind_is end_is moved_is new_is size;
+      some = omega (arith, length-remove branches i below);
+      ascending = subst AreAscending (sym (map-remove (λ b. b.separator) branches i))
+          (all_pairs_remove (λ a b. slice_cmp nat_cmp a b ≡ Less) (separators_in branches) i
+          (omega (arith, separators_count branches))
+          is.ascending);
+    }
 
 -- how many bytes the branches behind the header take
 pub body_len : (bytes body : List ℕ) (count len : ℕ) → IsInnerPage bytes → body ≡ drop 8 bytes

@@ -54,7 +54,8 @@ sides branches place d fit below full most before across =
     ] in
     let last : place + 1 < length branches = elim (cases_lt (place + 1) (length branches)) [
       | inl some ↦ some
-      | inr none ↦ absurd (omega (arith, more, short, before, full, ap (sum_by branch_len) (take_all (place + 1) branches none)))
+      | inr none ↦ absurd (omega
+          (arith, more, short, before, full, ap (sum_by branch_len) (take_all (place + 1) branches none)))
     ] in
     (first, last, omega (arith, whole, across, most))
 
@@ -69,7 +70,8 @@ left_page first branches bytes is place new some within new_is size = record {
       pages.page_cut branch_format 0x49 branches first bytes is.page place new within new_is size;
   some = omega (arith, length-take-le place branches within);
   ascending = subst AreAscending (take-map (λ b. b.separator) place branches)
-      (all_pairs_take (λ a b. slice_cmp nat_cmp a b ≡ Less) (separators_in branches) place is.ascending);
+      (all_pairs_take (λ a b. slice_cmp nat_cmp a b ≡ Less) (separators_in branches) place
+      is.ascending);
 }
 
 -- the right page, which holds the branches behind the middle
@@ -94,7 +96,8 @@ right_page branches place child bytes top new others fit ascending below most fi
           (new_is ∙ ap (overwritten top 8) others_is) size_is;
       some = omega (arith, length-drop (place + 1) branches);
       ascending = subst AreAscending (drop-map (λ b. b.separator) (place + 1) branches)
-          (all_pairs_drop (λ a b. slice_cmp nat_cmp a b ≡ Less) (separators_in branches) (place + 1) ascending);
+          (all_pairs_drop (λ a b. slice_cmp nat_cmp a b ≡ Less) (separators_in branches)
+          (place + 1) ascending);
     }
 
 -- the branches behind the one at the middle

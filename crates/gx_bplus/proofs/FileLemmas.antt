@@ -22,7 +22,7 @@ use Rattle.gx_bnode.specs.Page as bnode
 use Rattle.gx_btree.specs.Bplus.{IsBplus, IsTreePage, IsOwned, IsWritten, ArePast}
 use Rattle.gx_btree.specs.Hole.{IsAtHand}
 use Rattle.gx_btree.specs.Tree as trees
-use Rattle.gx_btree.specs.Tree.{In, Tree, leaf, entries, ShowsInner, ShowsEntries, child_for}
+use Rattle.gx_btree.specs.Tree.{In, BplusTree, leaf, entries, ShowsInner, ShowsEntries, child_for}
 use Rattle.gx_btree.proofs.EntryLemmas.{shows_inner}
 use Rattle.gx_btree.proofs.CallLemmas.{ends_weaker, ends_after}
 use Rattle.gx_btree.proofs.SheetLemmas.{written_here, written_owned, claimed_owned, claimed_others, written_others, written_owners, get_set_other}
@@ -158,7 +158,7 @@ pub record IsDescent {S : Type 0} (g : Ghosts S) (place : Place) (key : List ℕ
 
 -- one page down
 pub next_hand : {steps : ℕ} (sheets : Sheets) (owner root at next : ℕ) (key page : List ℕ)
-    (old : Tree) → bytes_at sheets at ≡ page → IsInnerPage page → next ≡ child_for
+    (old : BplusTree) → bytes_at sheets at ≡ page → IsInnerPage page → next ≡ child_for
     (bnode.first_of page) (bnode.branches_of page) key
     → IsAtHand (bytes_at sheets) (IsOwned owner sheets) root at key old steps
     → IsAtHand (bytes_at sheets) (IsOwned owner sheets) root next key old (steps + 1)
@@ -283,7 +283,7 @@ module _ {S : Type 0} (g : Ghosts S) (place : Place) (key : List ℕ) (start : S
           },
         )) e
 
-    pub removed_of : (b c : S) → ReadsPages g now b → (tree : Tree)
+    pub removed_of : (b c : S) → ReadsPages g now b → (tree : BplusTree)
         → HasRemoved (g.ground b) place.owner place.root key (g.working b) (g.working c) tree
         → HasRemoved (g.ground start) place.owner place.root key (g.working start)
         (g.working c) tree
@@ -316,7 +316,7 @@ pub alone_of : {S : Type 0} (g : Ghosts S) (place : Place) (key : List ℕ) (sta
     (page : List ℕ) → ReadsPages g start b → (map : LeafMap)
     (holds : Holds g (IsBplus (g.ground start) place) start map)
     → bytes_at (g.working start) place.root ≡ page
-    → ((owner : ℕ) (tree : Tree) → trees.IsWhole (bytes_at (g.working b)) place.root tree
+    → ((owner : ℕ) (tree : BplusTree) → trees.IsWhole (bytes_at (g.working b)) place.root tree
     → trees.Owns (IsOwned owner (g.working b)) tree → ArePast (g.ground b) owner (g.working b)
     → bytes_at (g.working b) place.root ≡ page
     → HasRemoved (g.ground b) owner place.root key (g.working b) (g.working c) tree)

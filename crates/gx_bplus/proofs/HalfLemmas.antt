@@ -3,16 +3,17 @@ use Rattle.std.proofs.Common.{◌≡◌, ◌≢◌, ◌⊎◌, inl, inr, ◌++�
 use Rattle.gx_slots.specs.Entries.{Entry}
 use Rattle.gx_bnode.specs.Branches.{Branch}
 use Rattle.gx_btree.specs.Order.{IsBelow, IsUpTo}
-use Rattle.gx_btree.specs.Tree.{In, Tree, Kids, node, last, more, page_of, first_of, branches_of, entries, kids_entries, pages, kids_pages, Stands, AllStand, ShowsInner, Ordered, AreOrdered, IsFilled, Apart, AreApart}
+use Rattle.gx_btree.specs.Tree.{In, BplusTree, BplusKids, node, last, more, page_of, first_of, branches_of, entries, kids_entries, pages, kids_pages, Stands, AllStand, ShowsInner, Ordered, AreOrdered, IsFilled, Apart, AreApart}
 use Rattle.gx_btree.specs.Hole.{Same, Joins}
 use Rattle.gx_btree.proofs.MemberLemmas.{in_left, in_right, in_cases, joins_append}
 use Rattle.gx_btree.proofs.OrderLemmas.{below_below, up_to_below}
 use Rattle.gx_btree.proofs.KidLemmas.{branch, all_stand_same, some_key}
 
 -- children on both sides of a separator
-pub record IsCut (at : ℕ → List ℕ) (kids : Kids) (l : List Branch) (s : List ℕ) (c : ℕ) (r : List Branch) : Type 0 where
-  pub left : Kids
-  pub right : Kids
+pub record IsCut (at : ℕ → List ℕ) (kids : BplusKids) (l : List Branch) (s : List ℕ) (c : ℕ)
+    (r : List Branch) : Type 0 where
+  pub left : BplusKids
+  pub right : BplusKids
   pub first_is : first_of left ≡ first_of kids
   pub left_are : branches_of left ≡ l
   pub second_is : first_of right ≡ c
@@ -34,19 +35,22 @@ no_item [] y ys e = cc
 no_item (x ∷ xs) y ys e = cc
 
 -- a list goes to the front of the left part
-joins_front : {A : Type 0} (zs xs ys rest : List A) → Joins xs ys rest → Joins (zs ++ xs) (zs ++ ys) rest
+joins_front : {A : Type 0} (zs xs ys rest : List A) → Joins xs ys rest
+    → Joins (zs ++ xs) (zs ++ ys) rest
 joins_front zs xs ys rest j x = (
   λ h. elim (in_cases x zs xs h) [
     | inl a ↦ inl (in_left x zs ys a)
     | inr b ↦ elim ((j x).0 b) [ inl c ↦ inl (in_right x zs ys c) | inr d ↦ inr d ]
   ],
   λ h. elim h [
-    | inl a ↦ elim (in_cases x zs ys a) [ inl c ↦ in_left x zs xs c | inr d ↦ in_right x zs xs ((j x).1 (inl d)) ]
+    | inl a ↦ elim (in_cases x zs ys a)
+        [ inl c ↦ in_left x zs xs c | inr d ↦ in_right x zs xs ((j x).1 (inl d)) ]
     | inr b ↦ in_right x zs xs ((j x).1 (inr b))
   ],
 )
 
-pub cut_kids : (at : ℕ → List ℕ) (kids : Kids) (l : List Branch) (s : List ℕ) (c : ℕ) (r : List Branch)
+pub cut_kids : (at : ℕ → List ℕ) (kids : BplusKids) (l : List Branch) (s : List ℕ) (c : ℕ)
+    (r : List Branch)
     → branches_of kids ≡ l ++ branch s c ∷ r
     → AllStand at kids → AreOrdered kids → AreApart kids → IsCut at kids l s c r
 cut_kids at (last t) l s c r e stand ordered apart = absurd (no_item l (branch s c) r e)
@@ -82,7 +86,8 @@ cut_kids at (more t m kids) (b ∷ l) s c r e stand ordered apart =
       left = more t m h.left;
       right = h.right;
       first_is = refl;
-      left_are = ap (λ f. branch m f ∷ branches_of h.left) h.first_is ∙ ap (λ bs. branch m (first_of kids) ∷ bs) h.left_are
+      left_are = ap (λ f. branch m f ∷ branches_of h.left) h.first_is
+          ∙ ap (λ bs. branch m (first_of kids) ∷ bs) h.left_are
           ∙ ap (λ d. d ∷ l) b_is;
       second_is = h.second_is;
       right_are = h.right_are;
@@ -94,12 +99,15 @@ cut_kids at (more t m kids) (b ∷ l) s c r e stand ordered apart =
       apart_right = h.apart_right;
       below = λ x i. elim (in_cases x (entries t) (kids_entries h.left) i) [
         | inl a ↦ (let k = some_key h.left h.ordered_left in below_below x.key m s (ordered.2 x a)
-            (up_to_below m k.0.key s (ordered.3 k.0 ((h.entries_are k.0).1 (inl k.1))) (h.below k.0 k.1)))
+            (up_to_below m k.0.key s (ordered.3 k.0 ((h.entries_are k.0).1 (inl k.1)))
+            (h.below k.0 k.1)))
         | inr b ↦ h.below x b
       ];
       above = h.above;
-      entries_are = joins_front (entries t) (kids_entries kids) (kids_entries h.left) (kids_entries h.right) h.entries_are;
-      pages_are = joins_front (pages t) (kids_pages kids) (kids_pages h.left) (kids_pages h.right) h.pages_are;
+      entries_are = joins_front (entries t) (kids_entries kids) (kids_entries h.left)
+          (kids_entries h.right) h.entries_are;
+      pages_are = joins_front (pages t) (kids_pages kids) (kids_pages h.left)
+          (kids_pages h.right) h.pages_are;
       alone = λ q i j. elim (in_cases q (pages t) (kids_pages h.left) i) [
         | inl a ↦ apart.1 q a ((h.pages_are q).1 (inr j))
         | inr b ↦ h.alone q b j
@@ -107,9 +115,9 @@ cut_kids at (more t m kids) (b ∷ l) s c r e stand ordered apart =
     }
 
 -- two trees that have these children, on the pages a and fresh
-pub record AreHalves (new : ℕ → List ℕ) (kids : Kids) (s : List ℕ) (a fresh : ℕ) : Type 0 where
-  pub l : Tree
-  pub r : Tree
+pub record AreHalves (new : ℕ → List ℕ) (kids : BplusKids) (s : List ℕ) (a fresh : ℕ) : Type 0 where
+  pub l : BplusTree
+  pub r : BplusTree
   pub l_page : page_of l ≡ a
   pub r_page : page_of r ≡ fresh
   pub l_stands : Stands new l
@@ -128,14 +136,18 @@ pub record AreHalves (new : ℕ → List ℕ) (kids : Kids) (s : List ℕ) (a fr
   pub kids_in : (q : ℕ) → In q (kids_pages kids) → In q (pages l) ⊎ In q (pages r)
   pub alone : (q : ℕ) → In q (pages l) → In q (pages r) → ⊥
 
-pub halves : (at new : ℕ → List ℕ) (kids : Kids) (l : List Branch) (s : List ℕ) (c : ℕ) (r : List Branch) (a fresh : ℕ)
+pub halves : (at new : ℕ → List ℕ) (kids : BplusKids) (l : List Branch) (s : List ℕ) (c : ℕ)
+    (r : List Branch) (a fresh : ℕ)
     → branches_of kids ≡ l ++ branch s c ∷ r
-    → AllStand at kids → AreOrdered kids → AreApart kids → (In a (kids_pages kids) → ⊥) → (In fresh (kids_pages kids) → ⊥) → (fresh ≢ a)
+    → AllStand at kids → AreOrdered kids → AreApart kids → (In a (kids_pages kids) → ⊥)
+    → (In fresh (kids_pages kids) → ⊥) → (fresh ≢ a)
     → Same (kids_pages kids) at new
-    → ShowsInner (new a) (first_of kids) l → ShowsInner (new fresh) c r → AreHalves new kids s a fresh
+    → ShowsInner (new a) (first_of kids) l → ShowsInner (new fresh) c r
+    → AreHalves new kids s a fresh
 halves at new kids l s c r a fresh e stand ordered apart a_out fresh_out other same at_a at_fresh =
     let h = cut_kids at kids l s c r e stand ordered apart in
-    let l_shows : ShowsInner (new a) (first_of h.left) (branches_of h.left) = subst (λ f. ShowsInner (new a) f (branches_of h.left))
+    let l_shows : ShowsInner (new a) (first_of h.left) (branches_of h.left) =
+    subst (λ f. ShowsInner (new a) f (branches_of h.left))
     (sym h.first_is) (subst (ShowsInner (new a) (first_of kids)) (sym h.left_are) at_a) in
     let r_shows : ShowsInner (new fresh) (first_of h.right) (branches_of h.right) =
     subst (λ f. ShowsInner (new fresh) f (branches_of h.right)) (sym h.second_is)
@@ -165,7 +177,8 @@ halves at new kids l s c r a fresh e stand ordered apart a_out fresh_out other s
           | inr f ↦ a_out ((h.pages_are a).1 (inr (subst (λ n. In n (kids_pages h.right)) d f)))
         ]
         | inr d ↦ elim j [
-          | inl f ↦ fresh_out ((h.pages_are fresh).1 (inl (subst (λ n. In n (kids_pages h.left)) f d)))
+          | inl f ↦ fresh_out ((h.pages_are fresh).1
+              (inl (subst (λ n. In n (kids_pages h.left)) f d)))
           | inr f ↦ h.alone q d f
         ]
       ];

@@ -23,7 +23,7 @@ use Rattle.gx_bnode.specs.Page as bnode
 use Rattle.gx_btree.specs.Bplus.{IsBplus, IsTreePage, IsOwned, ArePast}
 use Rattle.gx_btree.specs.Hole.{IsAtHand}
 use Rattle.gx_btree.specs.Tree as trees
-use Rattle.gx_btree.specs.Tree.{In, Tree, entries, Owns, ShowsInner, child_for}
+use Rattle.gx_btree.specs.Tree.{In, BplusTree, entries, Owns, ShowsInner, child_for}
 use Rattle.gx_btree.proofs.CallLemmas.{ends_after}
 use Rattle.gx_btree.proofs.EntryLemmas.{shows_inner}
 use Rattle.gx_btree.proofs.FileLemmas.{past_of, descent_ends}
@@ -90,14 +90,15 @@ claimed_apart ground owner old new (inl same) = subst (OthersStay ground owner o
 claimed_apart ground owner old new (inr c) = claimed_others c.0 owner ground old new c.1
 
 -- the tree around a search that has come to an inner page
-record IsAround (at : ℕ → List ℕ) (owned : ℕ → Type 0) (root : ℕ) (old : Tree) : Type 0 where
-  pub tree : Tree
+record IsAround (at : ℕ → List ℕ) (owned : ℕ → Type 0) (root : ℕ) (old : BplusTree) : Type 0 where
+  pub tree : BplusTree
   pub whole : trees.IsWhole at root tree
   pub owns : Owns owned tree
   pub same : (x : Entry) → (In x (entries old) → In x (entries tree))
       × (In x (entries tree) → In x (entries old))
 
-around : {steps : ℕ} (at : ℕ → List ℕ) (owned : ℕ → Type 0) (root p : ℕ) (key : List ℕ) (old : Tree)
+around : {steps : ℕ} (at : ℕ → List ℕ) (owned : ℕ → Type 0) (root p : ℕ) (key : List ℕ)
+    (old : BplusTree)
     (first : ℕ) (branches : List Branch) → ShowsInner (at p) first branches
     → IsAtHand at owned root p key old steps → IsAround at owned root old
 around at owned root p key old first branches shows h =
@@ -197,7 +198,7 @@ module _ {S : Type 0} (g : Ghosts S) (place : Place) (key : List ℕ) (start : S
       (sym reads.working) there)
 
   -- what is put from there on is put from the start on
-  pub put_from : (b c : S) (e : Entry) (tree : Tree) → ReadsPages g start b
+  pub put_from : (b c : S) (e : Entry) (tree : BplusTree) → ReadsPages g start b
       → HasPut (g.ground b) place.owner place.root e (g.working b) (g.working c) tree
       → HasPut (g.ground start) place.owner place.root e (g.working start) (g.working c) tree
   put_from b c e tree reads h =
@@ -205,7 +206,7 @@ module _ {S : Type 0} (g : Ghosts S) (place : Place) (key : List ℕ) (start : S
       reads.keeps.ground (subst (λ s. HasPut (g.ground b) place.owner place.root e s
       (g.working c) tree) reads.working h)
 
-  pub come_from : (b c : S) (tree : Tree) (least at : ℕ) (page : List ℕ) → ReadsPages g start b
+  pub come_from : (b c : S) (tree : BplusTree) (least at : ℕ) (page : List ℕ) → ReadsPages g start b
       → HasCome (g.ground b) place.owner place.root key (g.working b)
       (g.working c) tree least at page → HasCome (g.ground start) place.owner place.root key
       (g.working start) (g.working c) tree least at page
@@ -377,7 +378,8 @@ module _ {S : Type 0} (g : Ghosts S) (place : Place) (key : List ℕ) (start : S
       pub growing_goes : (c : S) (at' : ℕ) (page' : List ℕ) → g.faults b ≡ g.faults now
           → KeepsPages g b c → g.faults c ≡ g.faults b → IsPast (g.ground b) at' → IsInnerPage page'
           → HasRoom (separators_of page')
-          → (IsTrue g.tells → (root steps : ℕ) (tree : Tree) → IsReached (g.ground b) place.owner
+          → (IsTrue g.tells → (root steps : ℕ) (tree : BplusTree)
+          → IsReached (g.ground b) place.owner
           (g.working b) root at next key tree steps page below
           → HasCome (g.ground b) place.owner root key (g.working b) (g.working c) tree
           (steps + 1) at' page')

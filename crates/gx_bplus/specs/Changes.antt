@@ -4,7 +4,7 @@ use Rattle.gx_slots.specs.Entries.{Entry}
 use Rattle.gx_bnode.specs.Branches.{Branch, AreAscending}
 use Rattle.gx_bnode.specs.Page.{separators_in}
 use Rattle.gx_btree.specs.Order.{IsBelow, IsUpTo}
-use Rattle.gx_btree.specs.Tree.{In, Tree, entries, Ascending, IsWhole, Owns, with_branch, IsSome}
+use Rattle.gx_btree.specs.Tree.{In, BplusTree, entries, Ascending, IsWhole, Owns, with_branch, IsSome}
 
 -- an entry is put among others, in the place of the one with its key
 abbrev pub IsPutIn : Entry → List Entry → List Entry → Type 0
@@ -36,16 +36,16 @@ MayStand branches key separator = (child : ℕ)
 
 -- a whole tree with an entry put in
 pub record IsPut (new : ℕ → List ℕ) (now : ℕ → Type 0) (root : ℕ) (e : Entry)
-    (old : Tree) : Type 0 where
-  pub tree : Tree
+    (old : BplusTree) : Type 0 where
+  pub tree : BplusTree
   pub whole : IsWhole new root tree
   pub owns : Owns now tree
   pub put : IsPutIn e (entries old) (entries tree)
 
 -- a whole tree without a key
 pub record IsRemoved (new : ℕ → List ℕ) (now : ℕ → Type 0) (root : ℕ) (key : List ℕ)
-    (old : Tree) : Type 0 where
-  pub tree : Tree
+    (old : BplusTree) : Type 0 where
+  pub tree : BplusTree
   pub whole : IsWhole new root tree
   pub owns : Owns now tree
   pub taken : IsTakenFrom key (entries old) (entries tree)

@@ -7,7 +7,7 @@ ghost use Rattle.gx_slots.specs.Entries.{IsFit};
 ghost use Rattle.gx_bnode.specs.Page.{IsInnerPage, HasRoom, first_of, branches_of, separators_of};
 ghost use Rattle.gx_btree.specs.declared.reading.Shape.TheVariants as shapes;
 ghost use Rattle.gx_btree.specs.Bplus.{Shows};
-ghost use Rattle.gx_btree.specs.Tree.{Tree, child_for};
+ghost use Rattle.gx_btree.specs.Tree.{BplusTree, child_for};
 ghost use Rattle.gx_bplus.specs.Search.{IsHeld, IsReached, HasReached, HasPut};
 ghost use Rattle.gx_bplus.specs.Splits.{ClaimsTwoPages};
 
@@ -38,7 +38,7 @@ pub(crate) fn put_below<P: Pages>(
     requires below { Shows shapes.Entries below.old }
     requires way { child ≡ child_for (first_of page.old) (branches_of page.old) key.now }
     requires fit { IsFit (record { key = key.now; body = body.now }) }
-    ensures put { IsTrue P.tells → (root steps : ℕ) (tree : Tree) →
+    ensures put { IsTrue P.tells → (root steps : ℕ) (tree : BplusTree) →
         IsReached (P.ground pages.old) owner (P.working pages.old) root at child key.now tree steps
         page.old below.old →
         OnOk result (HasPut (P.ground pages.old) owner root
@@ -84,7 +84,7 @@ pub(crate) fn put_alone<P: Pages>(
     requires root { IsPast (P.ground pages.old) root }
     requires page { Shows shapes.Entries page.old }
     requires fit { IsFit (record { key = key.now; body = body.now }) }
-    ensures put { IsTrue P.tells → (tree : Tree) →
+    ensures put { IsTrue P.tells → (tree : BplusTree) →
         IsHeld (P.ground pages.old) owner (P.working pages.old) root tree page.old →
         OnOk result (HasPut (P.ground pages.old) owner root
         (record { key = key.now; body = body.now })

@@ -8,7 +8,7 @@ ghost use Rattle.gx_slots.specs.Page.{entries_of};
 ghost use Rattle.gx_bnode.specs.Page.{IsInnerPage, first_of, branches_of};
 ghost use Rattle.gx_btree.specs.declared.reading.Shape.TheVariants as shapes;
 ghost use Rattle.gx_btree.specs.Bplus.{Shows, IsTreePage, IsOwned, ArePast};
-ghost use Rattle.gx_btree.specs.Tree.{Tree, IsWhole, Owns, child_for, first_without};
+ghost use Rattle.gx_btree.specs.Tree.{BplusTree, IsWhole, Owns, child_for, first_without};
 ghost use Rattle.gx_bplus.specs.Changes.{IsTakenFrom};
 ghost use Rattle.gx_bplus.specs.Search.{IsReached, HasReached, HasRemoved};
 
@@ -50,7 +50,7 @@ fn drop_page<P: Pages>(
     requires several { 2 ≤ length (branches_of page.old) }
     requires way { child ≡ child_for (first_of page.old) (branches_of page.old) key.now }
     ensures removed { IsTrue P.tells →
-        (owner root steps : ℕ) (tree : Tree) (below : List ℕ) →
+        (owner root steps : ℕ) (tree : BplusTree) (below : List ℕ) →
         IsReached (P.ground pages.old) owner (P.working pages.old) root at child key.now tree steps
         page.old below →
         Shows shapes.Entries below → IsTakenFrom key.now (entries_of below) [] →
@@ -82,7 +82,7 @@ fn replace_page<P: Pages>(
     requires way { child ≡ child_for (first_of page.now) (branches_of page.now) key.now }
     requires other { other ≡ first_without (first_of page.now) (branches_of page.now) key.now }
     ensures removed { IsTrue P.tells →
-        (owner root steps : ℕ) (tree : Tree) (below : List ℕ) →
+        (owner root steps : ℕ) (tree : BplusTree) (below : List ℕ) →
         IsReached (P.ground pages.old) owner (P.working pages.old) root at child key.now tree steps
         page.now below →
         Shows shapes.Entries below → IsTakenFrom key.now (entries_of below) [] →
@@ -129,7 +129,7 @@ pub(crate) fn remove_below<P: Pages>(
     requires page { IsInnerPage page.old }
     requires below { Shows shapes.Entries below.old }
     requires way { child ≡ child_for (first_of page.old) (branches_of page.old) key.now }
-    ensures removed { IsTrue P.tells → (owner root steps : ℕ) (tree : Tree) →
+    ensures removed { IsTrue P.tells → (owner root steps : ℕ) (tree : BplusTree) →
         IsReached (P.ground pages.old) owner (P.working pages.old) root at child key.now tree steps
         page.old below.old →
         OnOk result (HasRemoved (P.ground pages.old) owner root key.now (P.working pages.old)
@@ -166,7 +166,7 @@ pub(crate) fn remove_alone<P: Pages>(
 ) -> Result<(), Failed>
     requires root { IsPast (P.ground pages.old) root }
     requires page { Shows shapes.Entries page.old }
-    ensures removed { IsTrue P.tells → (owner : ℕ) (tree : Tree) →
+    ensures removed { IsTrue P.tells → (owner : ℕ) (tree : BplusTree) →
         IsWhole (bytes_at (P.working pages.old)) root tree →
         Owns (IsOwned owner (P.working pages.old)) tree →
         ArePast (P.ground pages.old) owner (P.working pages.old) →

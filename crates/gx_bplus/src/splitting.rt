@@ -10,7 +10,7 @@ ghost use Rattle.gx_bnode.specs.declared.format.TheConstants.{MAX_SEPARATOR_LEN}
 ghost use Rattle.gx_bnode.specs.Branches.{AreAscending};
 ghost use Rattle.gx_bnode.specs.Page.{IsInnerPage, HasRoom, first_of, branches_of, separators_of};
 ghost use Rattle.gx_btree.specs.Order.{IsBelow};
-ghost use Rattle.gx_btree.specs.Tree.{Tree, ShowsInner, child_for, with_branch};
+ghost use Rattle.gx_btree.specs.Tree.{BplusTree, ShowsInner, child_for, with_branch};
 ghost use Rattle.gx_bplus.specs.Changes.{MayStand};
 ghost use Rattle.gx_bplus.specs.Search.{IsHeld, IsReached, HasReached, HasCome};
 ghost use Rattle.gx_bplus.specs.Splits.{IsDivided, IsRaised, ClaimsTwoPages};
@@ -40,7 +40,7 @@ pub(crate) fn make_room<P: Pages>(
     requires room { HasRoom (separators_of page.old) }
     requires below { IsInnerPage below.old }
     requires way { child ≡ child_for (first_of page.old) (branches_of page.old) key.now }
-    ensures come { IsTrue P.tells → (root steps : ℕ) (tree : Tree) →
+    ensures come { IsTrue P.tells → (root steps : ℕ) (tree : BplusTree) →
         IsReached (P.ground pages.old) owner (P.working pages.old) root at child key.now tree steps
         page.old below.old →
         IfOk result (λ next. HasCome (P.ground pages.old) owner root key.now (P.working pages.old)
@@ -90,7 +90,7 @@ pub(crate) fn open_root<P: Pages>(
     requires most { owner ≤ MAX_OWNER }
     requires root { IsPast (P.ground pages.old) root }
     requires page { IsInnerPage page.old }
-    ensures come { IsTrue P.tells → (tree : Tree) →
+    ensures come { IsTrue P.tells → (tree : BplusTree) →
         IsHeld (P.ground pages.old) owner (P.working pages.old) root tree page.old →
         IfOk result (λ at. HasCome (P.ground pages.old) owner root key.now (P.working pages.old)
         (P.working pages.new) tree 0 at page.new) }

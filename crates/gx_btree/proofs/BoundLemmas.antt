@@ -2,7 +2,7 @@
 use Rattle.std.proofs.Common.{◌≢◌, inl, inr, ◌<◌, ◌≤◌, ◌+◌, ◌∷◌, ℕ, zero, suc, List, [], length, refl, sym, ◌∙◌, subst, arith}
 use Rattle.std.proofs.lemmas.Bool.{cases_eq}
 use Rattle.gx_laws.proofs.NumberLemmas.{below_last}
-use Rattle.gx_btree.specs.Tree.{In, Tree, pages}
+use Rattle.gx_btree.specs.Tree.{In, BplusTree, pages}
 use Rattle.gx_btree.specs.Hole.{AreUnique, IsAtHand}
 use Rattle.gx_btree.proofs.StepLemmas.{top_in}
 
@@ -43,14 +43,15 @@ few (suc n) xs u below =
     omega (arith, h, s)
 
 pub ends : {steps : ℕ} (at : ℕ → List ℕ) (owned : ℕ → Type 0) (root p : ℕ) (key : List ℕ)
-    (old : Tree) (size : ℕ)
+    (old : BplusTree) (size : ℕ)
     → IsAtHand at owned root p key old steps → ((q : ℕ) → owned q → q < size) → steps < size
 ends at owned root p key old size h within =
     let top = top_in h.subtree in
     let u : AreUnique (p ∷ h.path) =
     ((λ i. h.fits.alone p (subst (λ y. In y (pages h.subtree)) h.fits.page_is top) (h.path_in p i)), h.unique) in
     let k = few size (p ∷ h.path) u (λ x i. within x (elim i [
-      | inl e ↦ (h.owns x).1 (inl (subst (λ y. In y (pages h.subtree)) (h.fits.page_is ∙ sym e) top))
+      | inl e ↦ (h.owns x).1 (inl
+          (subst (λ y. In y (pages h.subtree)) (h.fits.page_is ∙ sym e) top))
       | inr j ↦ (h.owns x).1 (inr (h.path_in x j))
     ])) in
     let l = h.path_is in

@@ -23,8 +23,8 @@ use Rattle.gx_slots.specs.Page.{entries_of}
 use Rattle.gx_slots.proofs.PageLemmas.{entries_of-page}
 use Rattle.gx_bnode.specs.Branches.{Branch}
 use Rattle.gx_btree.specs.Bplus.{IsBplus, IsOwned}
-use Rattle.gx_btree.specs.Map.{has_entries, entries_if_owned, owned_entries, bplus_map}
-use Rattle.gx_btree.specs.Tree.{In, Tree, Kids, leaf, node, last, more, first_of, branches_of, entries, kids_entries, pages, kids_pages, Stands, AllStand, ShowsEntries, ShowsInner}
+use Rattle.gx_btree.specs.Map.{has_entries, tree_entries_on, tree_entries_below, bplus_map}
+use Rattle.gx_btree.specs.Tree.{In, BplusTree, BplusKids, leaf, node, last, more, first_of, branches_of, entries, kids_entries, pages, kids_pages, Stands, AllStand, ShowsEntries, ShowsInner}
 use Rattle.gx_btree.proofs.KidLemmas.{stands_same}
 use Rattle.gx_btree.proofs.MemberLemmas.{in_left, in_right, in_cases}
 use Rattle.gx_btree.proofs.PageCountLemmas.{file_few}
@@ -66,7 +66,7 @@ wider p some all q f (inl a) = inl (a.0, a.1, λ x i. f x (a.2 x i))
 wider p some all q f (inr b) = inr b
 
 mutual
-  page_seen : (p : ℕ → List ℕ) (t : Tree) (q : ℕ) → Stands p t → In q (pages t)
+  page_seen : (p : ℕ → List ℕ) (t : BplusTree) (q : ℕ) → Stands p t → In q (pages t)
       → IsSeen p (entries t) q
   page_seen p (leaf r es) q stands i =
       elim i [ inl e ↦ inl (es, subst (λ n. ShowsEntries (p n) es) (sym e) stands, λ x j. j) | inr n ↦ absurd n ]
@@ -75,7 +75,7 @@ mutual
     | inr j ↦ kids_seen p kids q stands.1 j
   ]
 
-  kids_seen : (p : ℕ → List ℕ) (kids : Kids) (q : ℕ) → AllStand p kids → In q (kids_pages kids)
+  kids_seen : (p : ℕ → List ℕ) (kids : BplusKids) (q : ℕ) → AllStand p kids → In q (kids_pages kids)
       → IsSeen p (kids_entries kids) q
   kids_seen p (last t) q stand i = page_seen p t q stand i
   kids_seen p (more t s kids) q stand i = elim (in_cases q (pages t) (kids_pages kids) i) [
@@ -90,17 +90,20 @@ abbrev IsOnPage : (ℕ → List ℕ) → List ℕ → Entry → Type 0
 IsOnPage p qs x = (q : ℕ) × In q qs × ((es : List Entry) × ShowsEntries (p q) es × In x es)
 
 mutual
-  on_page : (p : ℕ → List ℕ) (t : Tree) (x : Entry) → Stands p t → In x (entries t)
+  on_page : (p : ℕ → List ℕ) (t : BplusTree) (x : Entry) → Stands p t → In x (entries t)
       → IsOnPage p (pages t) x
   on_page p (leaf r es) x stands i = (r, inl refl, (es, stands, i))
   on_page p (node r kids) x stands i = let f = on_kids p kids x stands.1 i in (f.0, inr f.1, f.2)
 
-  on_kids : (p : ℕ → List ℕ) (kids : Kids) (x : Entry) → AllStand p kids → In x (kids_entries kids)
+  on_kids : (p : ℕ → List ℕ) (kids : BplusKids) (x : Entry) → AllStand p kids
+      → In x (kids_entries kids)
       → IsOnPage p (kids_pages kids) x
   on_kids p (last t) x stand i = on_page p t x stand i
   on_kids p (more t s kids) x stand i = elim (in_cases x (entries t) (kids_entries kids) i) [
-    | inl a ↦ (let f = on_page p t x stand.0 a in (f.0, in_left f.0 (pages t) (kids_pages kids) f.1, f.2))
-    | inr b ↦ (let f = on_kids p kids x stand.1 b in (f.0, in_right f.0 (pages t) (kids_pages kids) f.1, f.2))
+    | inl a ↦ (let f = on_page p t x stand.0 a in
+        (f.0, in_left f.0 (pages t) (kids_pages kids) f.1, f.2))
+    | inr b ↦ (let f = on_kids p kids x stand.1 b in
+        (f.0, in_right f.0 (pages t) (kids_pages kids) f.1, f.2))
   ]
 
 -- where there is an entry, one is found
@@ -109,7 +112,8 @@ found_some : (es : List Entry) (k b : List ℕ) → In (at k b) es
 found_some [] k b i = absurd i
 found_some (e ∷ es) k b i =
     elim (eq_by_cmp key_cmp k e.key) as
-    (λ t. eq_by_cmp key_cmp k e.key ≡ t → (c : List ℕ) × (cond t (Some e.body) (fin.find key_cmp k (map pair es)) ≡ Some c)) [
+    (λ t. eq_by_cmp key_cmp k e.key ≡ t
+    → (c : List ℕ) × (cond t (Some e.body) (fin.find key_cmp k (map pair es)) ≡ Some c)) [
       | true ↦ λ _. (e.body, refl)
       | false ↦ λ other. elim i [
         | inl same ↦ (let is : true ≡ false = sym (tied e.key)
@@ -125,27 +129,30 @@ pub record IsOwnedEntry (owner : ℕ) (s : Sheets) (e : Entry) : Type 0 where
   pub owned : has_entries owner s page ≡ true
   pub here : In e (entries_of (bytes_at s page))
 
-owned_from : (owner : ℕ) (s : Sheets) (n : ℕ) (e : Entry) → In e (owned_entries owner s n)
+owned_from : (owner : ℕ) (s : Sheets) (n : ℕ) (e : Entry) → In e (tree_entries_below owner s n)
     → IsOwnedEntry owner s e
 owned_from owner s zero e i = absurd i
-owned_from owner s (suc n) e i = elim (in_cases e (entries_if_owned owner s n) (owned_entries owner s n) i) [
-  | inl here ↦ elim (has_entries owner s n) as
-      (λ b. has_entries owner s n ≡ b → In e (cond b (entries_of (bytes_at s n)) []) → IsOwnedEntry owner s e) [
-        | true ↦ λ is j. record { page = n; owned = is; here = j }
-        | false ↦ λ _ j. absurd j
-      ] refl here
-  | inr later ↦ owned_from owner s n e later
-]
+owned_from owner s (suc n) e i =
+    elim (in_cases e (tree_entries_on owner s n) (tree_entries_below owner s n) i) [
+      | inl here ↦ elim (has_entries owner s n) as
+          (λ b. has_entries owner s n ≡ b → In e (cond b (entries_of (bytes_at s n)) [])
+          → IsOwnedEntry owner s e) [
+            | true ↦ λ is j. record { page = n; owned = is; here = j }
+            | false ↦ λ _ j. absurd j
+          ] refl here
+      | inr later ↦ owned_from owner s n e later
+    ]
 
 owned_to : (owner : ℕ) (s : Sheets) (n q : ℕ) (e : Entry) → q < n → has_entries owner s q ≡ true
-    → In e (entries_of (bytes_at s q)) → In e (owned_entries owner s n)
+    → In e (entries_of (bytes_at s q)) → In e (tree_entries_below owner s n)
 owned_to owner s zero q e less is i = absurd (omega (arith, less))
 owned_to owner s (suc n) q e less is i = elim (cases_eq q n) [
-  | inl same ↦ in_left e (entries_if_owned owner s n) (owned_entries owner s n)
+  | inl same ↦ in_left e (tree_entries_on owner s n) (tree_entries_below owner s n)
       (subst (λ b. In e (cond b (entries_of (bytes_at s n)) []))
       (sym (ap (has_entries owner s) (sym same) ∙ is))
       (subst (λ r. In e (entries_of (bytes_at s r))) same i))
-  | inr other ↦ in_right e (entries_if_owned owner s n) (owned_entries owner s n) (owned_to owner s n q e (omega (arith, less, other)) is i)
+  | inr other ↦ in_right e (tree_entries_on owner s n) (tree_entries_below owner s n)
+      (owned_to owner s n q e (omega (arith, less, other)) is i)
 ]
 
 module _ (ground : Ground) (place : Place) (s : Sheets) (m : LeafMap) (some : 1 ≤ place.owner)
@@ -158,18 +165,21 @@ module _ (ground : Ground) (place : Place) (s : Sheets) (m : LeafMap) (some : 1 
   owner_at q is =
       let here : slice_index_or s.owners q 0 ≡ place.owner =
       eqb-true (slice_index_or s.owners q 0) place.owner
-      (first_so (slice_index_or s.owners q 0 == place.owner) (slice_index_or (bytes_at s q) 0 0 == 68) is) in
+      (first_so (slice_index_or s.owners q 0 == place.owner)
+      (slice_index_or (bytes_at s q) 0 0 == 68) is) in
       shown (slice_get s.owners q) (unwrap_or-slice_get s.owners q 0 ∙ here)
 
   -- what is read stands in the tree
-  read_in : (e : Entry) → In e (owned_entries place.owner s (length s.owners))
+  read_in : (e : Entry) → In e (tree_entries_below place.owner s (length s.owners))
       → In e (entries b.tree)
   read_in e i =
       let o = owned_from place.owner s (length s.owners) e i in
       let kind : slice_index_or (bytes_at s o.page) 0 0 ≡ 68 =
       eqb-true (slice_index_or (bytes_at s o.page) 0 0) 68
-      (second_so (slice_index_or s.owners o.page 0 == place.owner) (slice_index_or (bytes_at s o.page) 0 0 == 68) o.owned) in
-      elim (page_seen (bytes_at s) b.tree o.page b.whole.stands ((b.owned o.page).0 (owner_at o.page o.owned))) [
+      (second_so (slice_index_or s.owners o.page 0 == place.owner)
+      (slice_index_or (bytes_at s o.page) 0 0 == 68) o.owned) in
+      elim (page_seen (bytes_at s) b.tree o.page b.whole.stands
+      ((b.owned o.page).0 (owner_at o.page o.owned))) [
         | inl a ↦ a.2 e (subst (In e) (entries_of-page a.0 NONE (bytes_at s o.page) a.1) o.here)
         | inr a ↦ (let other : slice_index_or (bytes_at s o.page) 0 0 ≡ 73 = ap
             (λ (xs : List ℕ). get_or xs 0 0) a.2.page.is in absurd (omega (arith, kind, other)))
@@ -177,7 +187,7 @@ module _ (ground : Ground) (place : Place) (s : Sheets) (m : LeafMap) (some : 1 
 
   -- what stands in the tree is read
   in_read : (e : Entry) → In e (entries b.tree)
-      → In e (owned_entries place.owner s (length s.owners))
+      → In e (tree_entries_below place.owner s (length s.owners))
   in_read e i =
       let o = on_page (bytes_at s) b.tree e b.whole.stands i in
       let mine : IsOwned place.owner s o.0 = (b.owned o.0).1 o.1 in
@@ -195,19 +205,19 @@ module _ (ground : Ground) (place : Place) (s : Sheets) (m : LeafMap) (some : 1 
       (subst (In e) (sym (entries_of-page o.2.0 NONE (bytes_at s o.0) o.2.1)) o.2.2)
 
   found_at : (k : List ℕ) → fin.get (bplus_map ground place s) k ≡ fin.find key_cmp k
-      (map pair (owned_entries place.owner s (length s.owners)))
+      (map pair (tree_entries_below place.owner s (length s.owners)))
   found_at k =
       fin.get-from_entries nat_list_cmp_total
-      (map pair (owned_entries place.owner s (length s.owners))) k
+      (map pair (tree_entries_below place.owner s (length s.owners))) k
 
   read_to : (k v : List ℕ) → fin.get (bplus_map ground place s) k ≡ Some v → fin.get m k ≡ Some v
   read_to k v is =
       (b.map_is k v).1 (read_in (at k v)
-      (found_in (owned_entries place.owner s (length s.owners)) k v (sym (found_at k) ∙ is)))
+      (found_in (tree_entries_below place.owner s (length s.owners)) k v (sym (found_at k) ∙ is)))
 
   to_read : (k v : List ℕ) → fin.get m k ≡ Some v → fin.get (bplus_map ground place s) k ≡ Some v
   to_read k v is =
-      let f = found_some (owned_entries place.owner s (length s.owners)) k v
+      let f = found_some (tree_entries_below place.owner s (length s.owners)) k v
       (in_read (at k v) ((b.map_is k v).0 is)) in
       let found : fin.get (bplus_map ground place s) k ≡ Some f.0 = found_at k ∙ f.1 in
       found ∙ sym (read_to k f.0 found) ∙ is

@@ -74,12 +74,14 @@ pub way_with : (first : ℕ) (bs : List Branch) (key : List ℕ) (new : Branch)
     ≡ cond (is_below key new.separator) (child_for first bs key) new.child
 way_with first [] key new = refl
 way_with first (b ∷ bs) key new = elim (cases_Bool (is_below key b.separator)) [
-  | inl is ↦ ap (λ cs. child_for first cs key) (cond-true (is_below key b.separator) (new ∷ b ∷ bs) (b ∷ with_branch bs key new) is)
+  | inl is ↦ ap (λ cs. child_for first cs key)
+      (cond-true (is_below key b.separator) (new ∷ b ∷ bs) (b ∷ with_branch bs key new) is)
       ∙ ap (cond (is_below key new.separator) first)
       (cond-true (is_below key b.separator) new.child (child_for b.child bs key) is)
       ∙ sym (ap (λ c. cond (is_below key new.separator) c new.child)
       (cond-true (is_below key b.separator) first (child_for b.child bs key) is))
-  | inr is ↦ ap (λ cs. child_for first cs key) (cond-false (is_below key b.separator) (new ∷ b ∷ bs) (b ∷ with_branch bs key new) is)
+  | inr is ↦ ap (λ cs. child_for first cs key)
+      (cond-false (is_below key b.separator) (new ∷ b ∷ bs) (b ∷ with_branch bs key new) is)
       ∙ cond-false (is_below key b.separator) first (child_for b.child (with_branch bs key new) key)
       is ∙ way_with b.child bs key new
       ∙ sym (ap (λ c. cond (is_below key new.separator) c new.child)
@@ -124,7 +126,8 @@ pub with_is : (old new key separator : List ℕ) (i right : ℕ) → IsPlaceFor 
     ≡ with_branch (branches_of old) key (record { separator = separator; child = right }))
 with_is old new key separator i right at seps kids =
     let b : Branch = record { separator = separator; child = right } in
-    let t = tops (first_of new) (first_of old) _ _ (kids ∙ sym (children-insert (first_of old) (branches_of old) i b)) in (
+    let t = tops (first_of new) (first_of old) _ _
+    (kids ∙ sym (children-insert (first_of old) (branches_of old) i b)) in (
       t.0,
       same_branches (branches_of new) (insert (branches_of old) i b)
           (seps ∙ sym (map-insert (λ (c : Branch). c.separator) (branches_of old) i b)) t.1
@@ -158,7 +161,8 @@ without_is old new key i at some seps kids = go (branches_of old) i at some seps
   go [] i at some seps kids = absurd (omega (arith, some))
   go (b ∷ bs) zero at some seps kids =
       let is = first_behind b bs key at in
-      let t = tops (first_of new) b.child (map (λ (c : Branch). c.child) (branches_of new)) (map (λ (c : Branch). c.child) bs) kids in (
+      let t = tops (first_of new) b.child (map (λ (c : Branch). c.child) (branches_of new))
+      (map (λ (c : Branch). c.child) bs) kids in (
         t.0 ∙ sym (cond-true (is_below key b.separator) b.child (first_of old) is),
         same_branches (branches_of new) bs seps t.1
             ∙ sym (cond-true (is_below key b.separator) bs (without_from b bs key) is),
@@ -211,7 +215,8 @@ bound_is (b ∷ bs) key zero hi at = (
 bound_is (b ∷ bs) key (suc i) hi at =
     let h = bound_is bs key i hi (rest_at b bs key i at) in
     let e = sym
-    (cond-false (is_below key b.separator) (Some b.separator) (bound_for bs key hi) (first_before b bs key i at)) in
+    (cond-false (is_below key b.separator) (Some b.separator) (bound_for bs key hi)
+    (first_before b bs key i at)) in
     ((λ l. h.0 (omega (arith, l)) ∙ e), (λ l. h.1 (omega (arith, l)) ∙ e))
 
 -- there is none just where the child at the place is the last one
@@ -224,7 +229,8 @@ last_is bs key i n at number =
       (λ none. elim (cases_eq i n) [
         | inl e ↦ eq-eqb i n e
         | inr d ↦
-            (let some = b.0 (let within = at.within in let same = length-map bs (λ b. b.separator) in
+            (let some = b.0 (let within = at.within in let same = length-map bs (λ b. b.separator)
+            in
             omega (arith, d, number, within, same)) in
             let no : Some (get_or (separators_in bs) i []) ≡ None = some ∙ none in
             let clash : ⊥ = cc in absurd clash)
@@ -241,7 +247,8 @@ bound_in (b ∷ bs) key hi s e = elim (cases_Bool (is_below key b.separator)) [
       (cond-true (is_below key b.separator) (Some b.separator) (bound_for bs key hi) is)
       ∙ e in let g : b.separator ≡ s = cc in inr (inl (sym g)))
   | inr is ↦ elim (bound_in bs key hi s
-      (sym (cond-false (is_below key b.separator) (Some b.separator) (bound_for bs key hi) is) ∙ e)) [ inl f ↦ inl f | inr i ↦ inr (inr i) ]
+      (sym (cond-false (is_below key b.separator) (Some b.separator) (bound_for bs key hi) is) ∙ e))
+      [ inl f ↦ inl f | inr i ↦ inr (inr i) ]
 ]
 
 -- a separator has at most 400 bytes
@@ -252,5 +259,6 @@ separator_short page i inner below =
     let n = length-map (branches_of page) (λ b. b.separator) in
     let fit = (inner_page_of page inner).page.holds.fit i d (omega (arith, below, n)) in
     let s = ap length
-    (get_or-map (λ (b : Branch). b.separator) (branches_of page) i d [] (omega (arith, below, n))) in
+    (get_or-map (λ (b : Branch). b.separator) (branches_of page) i d [] (omega (arith, below, n)))
+    in
     omega (arith, fit.separator, s)

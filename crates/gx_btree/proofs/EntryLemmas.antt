@@ -20,7 +20,8 @@ pub place_in : {A : Type 0} (x : A) (xs : List A) → In x xs → IsPlaceOf x xs
 place_in x [] i = absurd i
 place_in x (y ∷ ys) (inl e) = record { place = 0; below = omega arith; is = λ d. sym e }
 place_in x (y ∷ ys) (inr i) =
-    let p = place_in x ys i in record { place = suc p.place; below = (let b = p.below in omega (arith, b)); is = p.is }
+    let p = place_in x ys i in
+    record { place = suc p.place; below = (let b = p.below in omega (arith, b)); is = p.is }
 
 pub in_place : {A : Type 0} (xs : List A) (i : ℕ) (d : A) → i < length xs → In (get_or xs i d) xs
 in_place [] i d below = absurd (omega (arith, below))

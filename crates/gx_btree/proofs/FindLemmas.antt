@@ -20,7 +20,7 @@ use Rattle.gx_btree.specs.Hole.{IsAtHand}
 use Rattle.gx_btree.specs.Order.{IsUnder}
 use Rattle.gx_btree.specs.Search.{IsFound}
 use Rattle.gx_btree.specs.Tree as trees
-use Rattle.gx_btree.specs.Tree.{In, Tree, Kids, leaf, node, last, more, entries, pages, kids_pages, separators, kids_separators, Stands, AllStand, ShowsInner, ShowsEntries, child_for, bound_for}
+use Rattle.gx_btree.specs.Tree.{In, BplusTree, BplusKids, leaf, node, last, more, entries, pages, kids_pages, separators, kids_separators, Stands, AllStand, ShowsInner, ShowsEntries, child_for, bound_for}
 use Rattle.gx_btree.proofs.BranchLemmas.{bound_in}
 use Rattle.gx_btree.proofs.CallLemmas.{ends_after, ends_shown}
 use Rattle.gx_btree.proofs.EntryLemmas.{shows_entries, shows_inner}
@@ -32,14 +32,14 @@ use Rattle.gx_btree.proofs.ShapeLemmas.{hand_page}
 use Rattle.gx_btree.proofs.StepLemmas.{at_root, root_hi, leaf_is, top_in, descend}
 
 -- the separators of a page of a tree are among those of the tree
-own_separators : (kids : Kids) (s : List ℕ) → In s (separators_in (trees.branches_of kids))
+own_separators : (kids : BplusKids) (s : List ℕ) → In s (separators_in (trees.branches_of kids))
     → In s (kids_separators kids)
 own_separators (last t) s i = absurd i
 own_separators (more t m kids) s i =
     elim i [ inl e ↦ inl e | inr j ↦ inr (in_right s (separators t) (kids_separators kids) (own_separators kids s j)) ]
 
 mutual
-  page_separators : (at : ℕ → List ℕ) (t : Tree) (q f : ℕ) (bs : List Branch) (s : List ℕ)
+  page_separators : (at : ℕ → List ℕ) (t : BplusTree) (q f : ℕ) (bs : List Branch) (s : List ℕ)
       → Stands at t
       → In q (pages t) → ShowsInner (at q) f bs → In s (separators_in bs) → In s (separators t)
   page_separators at (leaf p es) q f bs s stands i shows j = elim i [
@@ -54,20 +54,23 @@ mutual
     | inr k ↦ kids_page_separators at kids q f bs s stands.1 k shows j
   ]
 
-  kids_page_separators : (at : ℕ → List ℕ) (kids : Kids) (q f : ℕ) (bs : List Branch) (s : List ℕ)
+  kids_page_separators : (at : ℕ → List ℕ) (kids : BplusKids) (q f : ℕ) (bs : List Branch)
+      (s : List ℕ)
       → AllStand at kids → In q (kids_pages kids) → ShowsInner (at q) f bs → In s (separators_in bs)
       → In s (kids_separators kids)
   kids_page_separators at (last t) q f bs s stand i shows j =
       page_separators at t q f bs s stand i shows j
   kids_page_separators at (more t m kids) q f bs s stand i shows j =
       inr (elim (in_cases q (pages t) (kids_pages kids) i) [
-        | inl a ↦ in_left s (separators t) (kids_separators kids) (page_separators at t q f bs s stand.0 a shows j)
-        | inr b ↦ in_right s (separators t) (kids_separators kids) (kids_page_separators at kids q f bs s stand.1 b shows j)
+        | inl a ↦ in_left s (separators t) (kids_separators kids)
+            (page_separators at t q f bs s stand.0 a shows j)
+        | inr b ↦ in_right s (separators t) (kids_separators kids)
+            (kids_page_separators at kids q f bs s stand.1 b shows j)
       ])
 
 -- The search has come to a page that is yet to be read, with the nearest separator behind it.
 pub record IsWay (sheets : Sheets) (owner root at : ℕ) (key : List ℕ) (bound : Option (List ℕ))
-    (tree : Tree) (steps : ℕ) : Type 0 where
+    (tree : BplusTree) (steps : ℕ) : Type 0 where
   pub hand : IsAtHand (bytes_at sheets) (IsOwned owner sheets) root at key tree steps
   pub bound_is : bound ≡ hand.hi
   pub separator : (s : List ℕ) → bound ≡ Some s → In s (separators tree)
@@ -137,12 +140,14 @@ module _ {S : Type 0} (g : Ghosts S) (place : Place) (key : List ℕ) (start : S
         → g.faults b ≡ g.faults now → IsPast (g.ground now) at → Seems shapes.Inner page
         → (IsTrue g.tells → bytes_at (g.working now) at ≡ page)
         → (IsInnerPage page → (next ≡ child_for (first_of page) (branches_of page) key)
-        × (further ≡ bound_for (branches_of page) key bound)) → IsFinding g place key start b at next further (steps +
+        × (further ≡ bound_for (branches_of page) key bound))
+        → IsFinding g place key start b at next further (steps +
         1)
     finding_goes b page next further reads faults past seems told leads = record {
       reads = read_pages_joined g f.reads reads;
       faults = faults ∙ f.faults;
-      from_below = (let p = past.below in let e = ap (λ x. x.size) f.reads.keeps.ground in omega (arith, p, e));
+      from_below = (let p = past.below in let e = ap (λ x. x.size) f.reads.keeps.ground in
+          omega (arith, p, e));
       way = λ map holds.
           let w = f.way map holds in
           let sheets = g.working start in
@@ -157,7 +162,8 @@ module _ {S : Type 0} (g : Ghosts S) (place : Place) (key : List ℕ) (start : S
           (shows_inner page inner) in
           let top : In at (pages tree) =
           (holds.file.owned at).0 ((w.hand.owns at).1
-          (inl (subst (λ q. In q (pages w.hand.subtree)) w.hand.fits.page_is (top_in w.hand.subtree)))) in
+          (inl (subst (λ q. In q (pages w.hand.subtree)) w.hand.fits.page_is
+          (top_in w.hand.subtree)))) in
           subst (λ q. IsWay sheets place.owner place.root q key further tree (steps + 1)) (sym goes)
           (let d = descend (bytes_at sheets) (IsOwned place.owner sheets) place.root at key tree
           (first_of page)
@@ -167,7 +173,8 @@ module _ {S : Type 0} (g : Ghosts S) (place : Place) (key : List ℕ) (start : S
             bound_is = further_is ∙ ap (bound_for (branches_of page) key) w.bound_is ∙ sym d.2;
             separator = λ s e. elim (bound_in (branches_of page) key bound s (sym further_is ∙ e)) [
               | inl h ↦ w.separator s h
-              | inr i ↦ page_separators (bytes_at sheets) tree at (first_of page) (branches_of page) s holds.file.whole.stands top shows i
+              | inr i ↦ page_separators (bytes_at sheets) tree at (first_of page)
+                  (branches_of page) s holds.file.whole.stands top shows i
             ];
           });
     }

@@ -86,7 +86,8 @@ some_inside bytes part high first last n low under shown len at_first at_last is
       λ inside. and_from low under
           (is_low.1 (inside.1 first
           (subst (λ e. In e es) first_is (in_place es 0 first (omega (arith, len))))).0)
-          (is_under.1 (inside.1 last (subst (λ e. In e es) last_is (in_place es n last (omega (arith, len))))).1),
+          (is_under.1 (inside.1 last
+          (subst (λ e. In e es) last_is (in_place es n last (omega (arith, len))))).1),
     )
 
 pub first_inside : (bytes : List ℕ) (part : Part) (high : Option (List ℕ)) (first : Entry)
@@ -127,7 +128,8 @@ pub pushing_starts : (before : List Part) (above : ℕ) (low : List ℕ) (first 
     → ((b : Branch) → In b bs → length b.separator ≤ 400)
     → IsPushing before above low first bs parts left
 pushing_starts before above low first bs parts left are is short =
-    let f = λ (b : Branch). let w : Part = record { above = above; page = b.child; low = b.separator } in w in
+    let f = λ (b : Branch). let w : Part =
+    record { above = above; page = b.child; low = b.separator } in w in
     record {
       gives = ap (λ (ps : List Part). ps ++ map f left) are
           ∙ append_assoc before (record { above = above; page = first; low = low } ∷ [])
@@ -143,7 +145,8 @@ pub pushing_goes : (before : List Part) (above : ℕ) (low : List ℕ) (first : 
     → new ≡ parts ++ record { above = above; page = b.child; low = b.separator } ∷ []
     → IsPushing before above low first bs new rest
 pushing_goes before above low first bs parts new left rest b p is are =
-    let f = λ (b : Branch). let w : Part = record { above = above; page = b.child; low = b.separator } in w in
+    let f = λ (b : Branch). let w : Part =
+    record { above = above; page = b.child; low = b.separator } in w in
     record {
       gives = ap (λ (ps : List Part). ps ++ map f rest) are
           ∙ append_assoc parts (f b ∷ []) (map f rest)
@@ -155,5 +158,6 @@ pub pushing_ended : (before : List Part) (above : ℕ) (low : List ℕ) (first :
     (parts : List Part) (left : List Branch) → IsPushing before above low first bs parts left
     → left ≡ [] → parts ≡ before ++ child_parts above low first bs
 pushing_ended before above low first bs parts left p none =
-    let f = λ (b : Branch). let w : Part = record { above = above; page = b.child; low = b.separator } in w in
+    let f = λ (b : Branch). let w : Part =
+    record { above = above; page = b.child; low = b.separator } in w in
     sym (append-nil parts) ∙ ap (λ (cs : List Branch). parts ++ map f cs) (sym none) ∙ p.gives

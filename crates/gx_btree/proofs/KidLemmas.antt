@@ -5,7 +5,7 @@ use Rattle.gx_slots.specs.Entries.{Entry}
 use Rattle.gx_bnode.specs.Branches.{Branch}
 use Rattle.gx_bnode.specs.Page.{separators_in}
 use Rattle.gx_btree.specs.Order.{IsBelow, IsUpTo, is_below, IsUnder}
-use Rattle.gx_btree.specs.Tree.{In, Tree, Kids, leaf, node, last, more, page_of, first_of, branches_of, entries, kids_entries, pages, kids_pages, Stands, AllStand, AreOrdered, AreApart, ShowsEntries, ShowsInner, child_for, bound_for}
+use Rattle.gx_btree.specs.Tree.{In, BplusTree, BplusKids, leaf, node, last, more, page_of, first_of, branches_of, entries, kids_entries, pages, kids_pages, Stands, AllStand, AreOrdered, AreApart, ShowsEntries, ShowsInner, child_for, bound_for}
 use Rattle.gx_btree.specs.Hole.{IsFitting, Same, IsBefore, IsWithin, KidHole}
 use Rattle.gx_btree.proofs.MemberLemmas.{in_left, in_right, in_cases, joins_none, joins_append, joins_more, joins_append_three, joins_more_left, joins_end}
 use Rattle.gx_btree.proofs.OrderLemmas.{up_to_itself, below_is_up_to, below_below, up_to_below, below_up_to, up_to_up_to, below_of, up_to_of, is_below_of, not_below_of, below_or_not, not_under_over, under_within}
@@ -28,7 +28,7 @@ within_bound s x hi h k =
     }
 
 mutual
-  pub stands_same : (at new : ℕ → List ℕ) (t : Tree) → Same (pages t) at new → Stands at t
+  pub stands_same : (at new : ℕ → List ℕ) (t : BplusTree) → Same (pages t) at new → Stands at t
       → Stands new t
   stands_same at new (leaf p es) same h = subst (λ b. ShowsEntries b es) (sym (same p (inl refl))) h
   stands_same at new (node p kids) same h = (
@@ -37,7 +37,7 @@ mutual
     all_stand_same at new kids (λ q i. same q (inr i)) h.1,
   )
 
-  pub all_stand_same : (at new : ℕ → List ℕ) (kids : Kids) → Same (kids_pages kids) at new
+  pub all_stand_same : (at new : ℕ → List ℕ) (kids : BplusKids) → Same (kids_pages kids) at new
       → AllStand at kids → AllStand new kids
   all_stand_same at new (last t) same h = stands_same at new t same h
   all_stand_same at new (more t s kids) same h = (
@@ -46,7 +46,7 @@ mutual
   )
 
 -- separators stand above a bound below all entries
-above_bound : (kids : Kids) → AreOrdered kids → (s : List ℕ)
+above_bound : (kids : BplusKids) → AreOrdered kids → (s : List ℕ)
     → ((x : Entry) → In x (kids_entries kids) → IsUpTo s x.key) → (m : List ℕ)
     → In m (separators_in (branches_of kids)) → IsBelow s m
 above_bound (last t) ordered s above m i = absurd i
@@ -58,7 +58,7 @@ above_bound (more t n kids) ordered s above m i =
     elim i [ inl e ↦ subst (IsBelow s) (sym e) here | inr j ↦ below_below s n m here (above_bound kids ordered.4 n ordered.3 m j) ]
 
 -- the last child
-hole_last : (at : ℕ → List ℕ) (t : Tree) (key lo : List ℕ) (hi : Option (List ℕ))
+hole_last : (at : ℕ → List ℕ) (t : BplusTree) (key lo : List ℕ) (hi : Option (List ℕ))
     → AllStand at (last t)
     → AreOrdered (last t) → AreApart (last t)
     → ((x : Entry) → In x (entries t) → IsUpTo lo x.key × IsUnder x.key hi) → IsUpTo lo key
@@ -115,7 +115,7 @@ hole_last at t key lo hi stand ordered apart bounds from to = record {
 }
 
 -- the first child, which stands before a separator
-hole_first : (at : ℕ → List ℕ) (t : Tree) (s : List ℕ) (kids : Kids) (key lo : List ℕ)
+hole_first : (at : ℕ → List ℕ) (t : BplusTree) (s : List ℕ) (kids : BplusKids) (key lo : List ℕ)
     (hi : Option (List ℕ))
     → AllStand at (more t s kids) → AreOrdered (more t s kids) → AreApart (more t s kids)
     → ((x : Entry) → In x (kids_entries (more t s kids)) → IsUpTo lo x.key × IsUnder x.key hi)
@@ -149,7 +149,8 @@ hole_first at t s kids key lo hi stand ordered apart bounds from to is s_hi = re
   out = λ x h. inr (ordered.3 x h);
   beside = λ x least most m i. elim i [
     | inl e ↦ is_below_of x m (subst (IsBelow x) (sym e) most) ∙ sym (ap (is_below key) e ∙ is)
-    | inr j ↦ (let up = above_bound kids ordered.4 s ordered.3 m j in is_below_of x m (below_below x s m most up)
+    | inr j ↦ (let up = above_bound kids ordered.4 s ordered.3 m j in
+        is_below_of x m (below_below x s m most up)
         ∙ sym (is_below_of key m (below_below key s m (below_of key s is) up)))
   ];
   entries_are = joins_append (entries t) (kids_entries kids);
@@ -183,7 +184,8 @@ hole_first at t s kids key lo hi stand ordered apart bounds from to is s_hi = re
     );
     apart = (
       fit_l.apart,
-      (λ q i j. elim (in_cases q (pages r) (kids_pages kids) j) [ inl a ↦ apart_lr q i a | inr b ↦ fit_l.alone q i b ]),
+      (λ q i j. elim (in_cases q (pages r) (kids_pages kids) j)
+          [ inl a ↦ apart_lr q i a | inr b ↦ fit_l.alone q i b ]),
       (fit_r.apart, fit_r.alone, apart.2),
     );
     entries_are = joins_append_three (entries l) (entries r) (kids_entries kids);
@@ -222,7 +224,7 @@ hole_first at t s kids key lo hi stand ordered apart bounds from to is s_hi = re
 
 -- a tree that fits beside more pages fits beside fewer
 narrowed : (at : ℕ → List ℕ) (p : ℕ) (low : List ℕ) (high : Option (List ℕ)) (wide others : List ℕ)
-    (t : Tree)
+    (t : BplusTree)
     → IsFitting at p low high (wide ++ others) t → IsFitting at p low high others t
 narrowed at p low high wide others t fit = record {
   page_is = fit.page_is;
@@ -234,7 +236,7 @@ narrowed at p low high wide others t fit = record {
 }
 
 -- the first child stands before the others, also where other pages have changed
-first_before : (at new : ℕ → List ℕ) (t : Tree) (s : List ℕ) (kids : Kids)
+first_before : (at new : ℕ → List ℕ) (t : BplusTree) (s : List ℕ) (kids : BplusKids)
     → AllStand at (more t s kids)
     → AreOrdered (more t s kids) → AreApart (more t s kids) → Same (pages t) at new
     → IsBefore new t s kids
@@ -249,7 +251,7 @@ first_before at new t s kids stand ordered apart same = record {
 }
 
 -- a child behind a separator
-hole_behind : (at : ℕ → List ℕ) (t : Tree) (s : List ℕ) (kids : Kids) (key lo : List ℕ)
+hole_behind : (at : ℕ → List ℕ) (t : BplusTree) (s : List ℕ) (kids : BplusKids) (key lo : List ℕ)
     (hi : Option (List ℕ))
     → AllStand at (more t s kids) → AreOrdered (more t s kids) → AreApart (more t s kids)
     → ((x : Entry) → In x (kids_entries (more t s kids)) → IsUpTo lo x.key × IsUnder x.key hi)
@@ -270,7 +272,8 @@ hole_behind at t s kids key lo hi stand ordered apart bounds is lo_s h = record 
     apart = h.fits.apart;
     bounds = h.fits.bounds;
     alone =
-        λ q i j. elim (in_cases q (pages t) h.others j) [ inl a ↦ apart.1 q a ((h.pages_are q).1 (inl i)) | inr b ↦ h.fits.alone q i b ];
+        λ q i j. elim (in_cases q (pages t) h.others j)
+        [ inl a ↦ apart.1 q a ((h.pages_are q).1 (inl i)) | inr b ↦ h.fits.alone q i b ];
   };
   filled = h.filled;
   lower = up_to_up_to lo s h.low lo_s h.lower;
@@ -284,7 +287,9 @@ hole_behind at t s kids key lo hi stand ordered apart bounds is lo_s h = record 
     | inr b ↦ h.out x b
   ];
   beside = λ x least most m i. elim i [
-    | inl e ↦ not_below_of x m (subst (λ n. IsUpTo n x) (sym e) (up_to_up_to s h.low x h.lower least)) ∙ sym (ap (is_below key) e ∙ is)
+    | inl e ↦ not_below_of x m
+        (subst (λ n. IsUpTo n x) (sym e) (up_to_up_to s h.low x h.lower least))
+        ∙ sym (ap (is_below key) e ∙ is)
     | inr j ↦ h.beside x least most m j
   ];
   entries_are = joins_more (entries t) (kids_entries kids) (entries h.kid) h.rest h.entries_are;
@@ -420,11 +425,11 @@ hole_behind at t s kids key lo hi stand ordered apart bounds is lo_s h = record 
 }
 
 -- some key stands among children
-pub some_key : (kids : Kids) → AreOrdered kids → (x : Entry) × In x (kids_entries kids)
+pub some_key : (kids : BplusKids) → AreOrdered kids → (x : Entry) × In x (kids_entries kids)
 some_key (last t) o = o.1
 some_key (more t s kids) o = (o.1.0, in_left o.1.0 (entries t) (kids_entries kids) o.1.1)
 
-pub kid_hole : (at : ℕ → List ℕ) (kids : Kids) (key lo : List ℕ) (hi : Option (List ℕ))
+pub kid_hole : (at : ℕ → List ℕ) (kids : BplusKids) (key lo : List ℕ) (hi : Option (List ℕ))
     → AllStand at kids → AreOrdered kids → AreApart kids
     → ((x : Entry) → In x (kids_entries kids) → IsUpTo lo x.key × IsUnder x.key hi) → IsUpTo lo key
     → IsUnder key hi
@@ -439,8 +444,10 @@ kid_hole at (more t s kids) key lo hi stand ordered apart bounds from to =
     let c = bounds behind.0 (in_right behind.0 (entries t) (kids_entries kids) behind.1) in
     let d = ordered.3 behind.0 behind.1 in
     elim (cases_Bool (is_below key s)) [
-      | inl is ↦ hole_first at t s kids key lo hi stand ordered apart bounds from to is (within_bound s behind.0.key hi d c.1)
-      | inr is ↦ hole_behind at t s kids key lo hi stand ordered apart bounds is (below_is_up_to lo s (up_to_below lo front.0.key s a.0 b))
+      | inl is ↦ hole_first at t s kids key lo hi stand ordered apart bounds from to is
+          (within_bound s behind.0.key hi d c.1)
+      | inr is ↦ hole_behind at t s kids key lo hi stand ordered apart bounds is
+          (below_is_up_to lo s (up_to_below lo front.0.key s a.0 b))
           (kid_hole at kids key s hi stand.1 ordered.4 apart.2
           (λ x i. (ordered.3 x i, (bounds x (in_right x (entries t) (kids_entries kids) i)).1))
           (up_to_of key s is) to)

@@ -1,21 +1,7 @@
 -- Members of lists.
-use Rattle.std.proofs.Common.{List, [], ◌∷◌, ◌++◌, ◌⊎◌, inl, inr}
-use Rattle.gx_btree.specs.Tree.{In}
+use Rattle.std.proofs.Common.{List, [], ◌∷◌, ◌++◌, inl, inr}
 use Rattle.gx_btree.specs.Hole.{Joins}
-
-pub in_left : {A : Type 0} (x : A) (xs ys : List A) → In x xs → In x (xs ++ ys)
-in_left x [] ys h = absurd h
-in_left x (z ∷ xs) ys (inl e) = inl e
-in_left x (z ∷ xs) ys (inr h) = inr (in_left x xs ys h)
-
-pub in_right : {A : Type 0} (x : A) (xs ys : List A) → In x ys → In x (xs ++ ys)
-in_right x [] ys h = h
-in_right x (z ∷ xs) ys h = inr (in_right x xs ys h)
-
-pub in_cases : {A : Type 0} (x : A) (xs ys : List A) → In x (xs ++ ys) → In x xs ⊎ In x ys
-in_cases x [] ys h = inr h
-in_cases x (z ∷ xs) ys (inl e) = inl (inl e)
-in_cases x (z ∷ xs) ys (inr h) = elim (in_cases x xs ys h) [ inl a ↦ inl (inr a) | inr b ↦ inr b ]
+pub use Rattle.gx_laws.proofs.MemberLemmas.{in_left, in_right, in_cases}
 
 pub joins_none : {A : Type 0} (xs : List A) → Joins xs xs []
 joins_none xs x = (inl, λ h. elim h [ inl a ↦ a | inr b ↦ absurd b ])
@@ -34,7 +20,8 @@ joins_more zs xs ys rest j x = (
   ],
   λ h. elim h [
     | inl a ↦ in_right x zs xs ((j x).1 (inl a))
-    | inr b ↦ elim (in_cases x zs rest b) [ inl c ↦ in_left x zs xs c | inr d ↦ in_right x zs xs ((j x).1 (inr d)) ]
+    | inr b ↦ elim (in_cases x zs rest b)
+        [ inl c ↦ in_left x zs xs c | inr d ↦ in_right x zs xs ((j x).1 (inr d)) ]
   ],
 )
 
@@ -45,7 +32,8 @@ joins_append_three xs ys zs x = (
     | inr b ↦ elim (in_cases x ys zs b) [ inl c ↦ inl (in_right x xs ys c) | inr d ↦ inr d ]
   ],
   λ h. elim h [
-    | inl a ↦ elim (in_cases x xs ys a) [ inl c ↦ in_left x xs (ys ++ zs) c | inr d ↦ in_right x xs (ys ++ zs) (in_left x ys zs d) ]
+    | inl a ↦ elim (in_cases x xs ys a)
+        [ inl c ↦ in_left x xs (ys ++ zs) c | inr d ↦ in_right x xs (ys ++ zs) (in_left x ys zs d) ]
     | inr b ↦ in_right x xs (ys ++ zs) (in_right x ys zs b)
   ],
 )
@@ -58,7 +46,8 @@ joins_more_left zs xs ys j x = (
     | inr b ↦ elim ((j x).0 b) [ inl c ↦ inl (in_right x zs ys c) | inr n ↦ absurd n ]
   ],
   λ h. elim h [
-    | inl a ↦ elim (in_cases x zs ys a) [ inl c ↦ in_left x zs xs c | inr d ↦ in_right x zs xs ((j x).1 (inl d)) ]
+    | inl a ↦ elim (in_cases x zs ys a)
+        [ inl c ↦ in_left x zs xs c | inr d ↦ in_right x zs xs ((j x).1 (inl d)) ]
     | inr n ↦ absurd n
   ],
 )
@@ -79,7 +68,8 @@ joins_below p all kid others rest xs j k x = (
     | inl a ↦ (k x).1 (inl (inr ((j x).1 (inl a))))
     | inr b ↦ elim b [
       | inl c ↦ (k x).1 (inl (inl c))
-      | inr d ↦ elim (in_cases x others rest d) [ inl e ↦ (k x).1 (inl (inr ((j x).1 (inr e)))) | inr f ↦ (k x).1 (inr f) ]
+      | inr d ↦ elim (in_cases x others rest d)
+          [ inl e ↦ (k x).1 (inl (inr ((j x).1 (inr e)))) | inr f ↦ (k x).1 (inr f) ]
     ]
   ],
 )
@@ -95,6 +85,7 @@ joins_through all kid beside rest xs j k x = (
   ],
   λ h. elim h [
     | inl a ↦ (k x).1 (inl ((j x).1 (inl a)))
-    | inr b ↦ elim (in_cases x beside rest b) [ inl c ↦ (k x).1 (inl ((j x).1 (inr c))) | inr d ↦ (k x).1 (inr d) ]
+    | inr b ↦ elim (in_cases x beside rest b)
+        [ inl c ↦ (k x).1 (inl ((j x).1 (inr c))) | inr d ↦ (k x).1 (inr d) ]
   ],
 )

@@ -49,13 +49,18 @@ pub below_below : (a b c : List ℕ) → IsBelow a b → IsBelow b c → IsBelow
 below_below a b c h k = nat_list_cmp_total.trans a b c h k
 
 pub up_to_below : (a b c : List ℕ) → IsUpTo a b → IsBelow b c → IsBelow a c
-up_to_below a b c h k = elim (up_to_cases a b h) [ inl l ↦ below_below a b c l k | inr e ↦ subst (λ x. IsBelow x c) (sym e) k ]
+up_to_below a b c h k =
+    elim (up_to_cases a b h)
+    [ inl l ↦ below_below a b c l k | inr e ↦ subst (λ x. IsBelow x c) (sym e) k ]
 
 pub below_up_to : (a b c : List ℕ) → IsBelow a b → IsUpTo b c → IsBelow a c
-below_up_to a b c h k = elim (up_to_cases b c k) [ inl l ↦ below_below a b c h l | inr e ↦ subst (IsBelow a) e h ]
+below_up_to a b c h k =
+    elim (up_to_cases b c k) [ inl l ↦ below_below a b c h l | inr e ↦ subst (IsBelow a) e h ]
 
 pub up_to_up_to : (a b c : List ℕ) → IsUpTo a b → IsUpTo b c → IsUpTo a c
-up_to_up_to a b c h k = elim (up_to_cases b c k) [ inl l ↦ below_is_up_to a c (up_to_below a b c h l) | inr e ↦ subst (IsUpTo a) e h ]
+up_to_up_to a b c h k =
+    elim (up_to_cases b c k)
+    [ inl l ↦ below_is_up_to a c (up_to_below a b c h l) | inr e ↦ subst (IsUpTo a) e h ]
 
 pub differ : (a b : List ℕ) → IsBelow a b → a ≢ b
 differ a b h e = not_itself b (subst (λ x. IsBelow x b) e h)
@@ -70,7 +75,8 @@ below_of a b h = go (cmp a b) refl h where
 
 pub up_to_of : (a b : List ℕ) → is_below a b ≡ false → IsUpTo b a
 up_to_of a b h =
-    elim (below_or_not a b) [ inl l ↦ (let clash : true ≡ false = sym (ap is_lt l) ∙ h in let no : ⊥ = cc in absurd no) | inr k ↦ k ]
+    elim (below_or_not a b)
+    [ inl l ↦ (let clash : true ≡ false = sym (ap is_lt l) ∙ h in let no : ⊥ = cc in absurd no) | inr k ↦ k ]
 
 pub is_below_of : (a b : List ℕ) → IsBelow a b → is_below a b ≡ true
 is_below_of a b h = ap is_lt h

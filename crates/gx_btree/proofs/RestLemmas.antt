@@ -18,7 +18,7 @@ use Rattle.gx_btree.specs.Bplus.{IsBplus, IsOwned, Shows}
 use Rattle.gx_btree.specs.Checking.{root_part, child_parts, low_of, IsAtPart, AreAtParts, pages_of, AreLeft, HasRest, IsInside, parts_behind, high_behind}
 use Rattle.gx_btree.specs.Hole.{AreUnique}
 use Rattle.gx_btree.specs.Order.{IsUpTo, IsUnder}
-use Rattle.gx_btree.specs.Tree.{In, Tree, Kids, leaf, node, last, more, page_of, first_of, branches_of, entries, kids_entries, pages, kids_pages, Stands, AllStand, ShowsEntries, ShowsInner, Ordered, AreOrdered, IsFilled, Apart, AreApart}
+use Rattle.gx_btree.specs.Tree.{In, BplusTree, BplusKids, leaf, node, last, more, page_of, first_of, branches_of, entries, kids_entries, pages, kids_pages, Stands, AllStand, ShowsEntries, ShowsInner, Ordered, AreOrdered, IsFilled, Apart, AreApart}
 use Rattle.gx_btree.proofs.BoundLemmas.{few}
 use Rattle.gx_btree.proofs.EntryLemmas.{shows_entries, entries_up, shows_inner}
 use Rattle.gx_btree.proofs.KidLemmas.{some_key}
@@ -33,7 +33,8 @@ use Rattle.gx_btree.proofs.StepLemmas.{top_in}
 
 module _ (p : ℕ) where
   pub in_more : (xs ys : List ℕ) (q : ℕ) → In q (xs ++ ys) → In q (xs ++ p ∷ ys)
-  in_more xs ys q i = elim (in_cases q xs ys i) [ inl a ↦ in_left q xs (p ∷ ys) a | inr b ↦ in_right q xs (p ∷ ys) (inr b) ]
+  in_more xs ys q i = elim (in_cases q xs ys i)
+      [ inl a ↦ in_left q xs (p ∷ ys) a | inr b ↦ in_right q xs (p ∷ ys) (inr b) ]
 
   pub in_less : (xs ys : List ℕ) (q : ℕ) → In q (xs ++ p ∷ ys) → (q ≡ p) ⊎ In q (xs ++ ys)
   in_less xs ys q i = elim (in_cases q xs (p ∷ ys) i) [
@@ -88,21 +89,21 @@ unique_both (x ∷ xs) ys u v d = (
 )
 
 mutual
-  tree_unique : (t : Tree) → Apart t → AreUnique (pages t)
+  tree_unique : (t : BplusTree) → Apart t → AreUnique (pages t)
   tree_unique (leaf p es) a = ((λ i. i), tt)
   tree_unique (node p kids) a = (a.0, kids_unique kids a.1)
 
-  kids_unique : (kids : Kids) → AreApart kids → AreUnique (kids_pages kids)
+  kids_unique : (kids : BplusKids) → AreApart kids → AreUnique (kids_pages kids)
   kids_unique (last t) a = tree_unique t a
   kids_unique (more t s kids) a =
       unique_both (pages t) (kids_pages kids) (tree_unique t a.0) (kids_unique kids a.2) a.1
 
 mutual
-  tree_apart : (t : Tree) → AreUnique (pages t) → Apart t
+  tree_apart : (t : BplusTree) → AreUnique (pages t) → Apart t
   tree_apart (leaf p es) u = tt
   tree_apart (node p kids) u = (u.0, kids_apart kids u.1)
 
-  kids_apart : (kids : Kids) → AreUnique (kids_pages kids) → AreApart kids
+  kids_apart : (kids : BplusKids) → AreUnique (kids_pages kids) → AreApart kids
   kids_apart (last t) u = tree_apart t u
   kids_apart (more t s kids) u = (
     tree_apart t (unique_left (pages t) (kids_pages kids) u),
@@ -156,13 +157,14 @@ module _ (ground : Ground) (owner : ℕ) (sheets : Sheets) (seen : List Bool) (p
             [ inl e ↦ subst (IsPast ground) (sym e) past | inr j ↦ l.past q j ];
         all = λ q o. elim (cases_eq q p) [
           | inl e ↦ inr (subst (λ z. In z (xs ++ p ∷ ys)) (sym e) (in_here p xs ys))
-          | inr d ↦ elim (l.all q o) [ inl is ↦ inl (sym (marked_other q d) ∙ is) | inr i ↦ inr (in_more p xs ys q i) ]
+          | inr d ↦ elim (l.all q o)
+              [ inl is ↦ inl (sym (marked_other q d) ∙ is) | inr i ↦ inr (in_more p xs ys q i) ]
         ];
       }
 
 -- ---- trees at parts
 
-pub pages_append : (us vs : List Tree) → pages_of (us ++ vs) ≡ pages_of us ++ pages_of vs
+pub pages_append : (us vs : List BplusTree) → pages_of (us ++ vs) ≡ pages_of us ++ pages_of vs
 pages_append [] vs = refl
 pages_append (t ∷ us) vs =
     ap (λ ps. pages t ++ ps) (pages_append us vs)
@@ -175,16 +177,17 @@ low_append (p ∷ parts) others high = refl
 
 -- trees at some parts and at those behind them
 pub record AreBoth (p : ℕ → List ℕ) (parts others : List Part) (high : Option (List ℕ))
-    (ts : List Tree) : Type 0 where
-  pub before : List Tree
-  pub behind : List Tree
+    (ts : List BplusTree) : Type 0 where
+  pub before : List BplusTree
+  pub behind : List BplusTree
   pub are : ts ≡ before ++ behind
   pub stand_before : AreAtParts p parts (low_of others high) before
   pub stand_behind : AreAtParts p others high behind
 
-both_at : (p : ℕ → List ℕ) (parts others : List Part) (high : Option (List ℕ)) (ts : List Tree)
+both_at : (p : ℕ → List ℕ) (parts others : List Part) (high : Option (List ℕ)) (ts : List BplusTree)
     → AreAtParts p (parts ++ others) high ts → AreBoth p parts others high ts
-both_at p [] others high ts a = record { before = []; behind = ts; are = refl; stand_before = tt; stand_behind = a }
+both_at p [] others high ts a =
+    record { before = []; behind = ts; are = refl; stand_before = tt; stand_behind = a }
 both_at p (w ∷ parts) others high [] a = absurd a
 both_at p (w ∷ parts) others high (t ∷ ts) a =
     let h = both_at p parts others high ts a.1 in
@@ -197,7 +200,8 @@ both_at p (w ∷ parts) others high (t ∷ ts) a =
       stand_behind = h.stand_behind;
     }
 
-at_both : (p : ℕ → List ℕ) (parts others : List Part) (high : Option (List ℕ)) (us vs : List Tree)
+at_both : (p : ℕ → List ℕ) (parts others : List Part) (high : Option (List ℕ))
+    (us vs : List BplusTree)
     → AreAtParts p parts (low_of others high) us → AreAtParts p others high vs
     → AreAtParts p (parts ++ others) high (us ++ vs)
 at_both p [] others high [] vs a b = b
@@ -208,23 +212,23 @@ at_both p (w ∷ parts) others high (u ∷ us) vs a b = (
   at_both p parts others high us vs a.1 b,
 )
 
-one_at : (p : ℕ → List ℕ) (part : Part) (high : Option (List ℕ)) (ts : List Tree)
-    → AreAtParts p (part ∷ []) high ts → (t : Tree) × (ts ≡ t ∷ []) × IsAtPart p part high t
+one_at : (p : ℕ → List ℕ) (part : Part) (high : Option (List ℕ)) (ts : List BplusTree)
+    → AreAtParts p (part ∷ []) high ts → (t : BplusTree) × (ts ≡ t ∷ []) × IsAtPart p part high t
 one_at p part high [] a = absurd a
 one_at p part high (t ∷ []) a = (t, refl, a.0)
 one_at p part high (t ∷ u ∷ ts) a = absurd a.1
 
 -- ---- the children of a page as parts
 
-abbrev kid_list : Kids → List Tree
+abbrev kid_list : BplusKids → List BplusTree
 kid_list (last t) = t ∷ []
 kid_list (more t s kids) = t ∷ kid_list kids
 
-kid_pages : (kids : Kids) → pages_of (kid_list kids) ≡ kids_pages kids
+kid_pages : (kids : BplusKids) → pages_of (kid_list kids) ≡ kids_pages kids
 kid_pages (last t) = append-nil (pages t)
 kid_pages (more t s kids) = ap (λ ps. pages t ++ ps) (kid_pages kids)
 
-kids_at : (p : ℕ → List ℕ) (above : ℕ) (low : List ℕ) (high : Option (List ℕ)) (kids : Kids)
+kids_at : (p : ℕ → List ℕ) (above : ℕ) (low : List ℕ) (high : Option (List ℕ)) (kids : BplusKids)
     → AllStand p kids → AreOrdered kids
     → ((x : Entry) → In x (kids_entries kids) → IsUpTo low x.key × IsUnder x.key high)
     → AreAtParts p (child_parts above low (first_of kids) (branches_of kids)) high (kid_list kids)
@@ -247,8 +251,8 @@ kids_at p above low high (more t s kids) stand ordered bounds = (
 
 -- trees that are children of one page
 pub record AreKids (p : ℕ → List ℕ) (low : List ℕ) (high : Option (List ℕ)) (first : ℕ)
-    (bs : List Branch) (ts : List Tree) : Type 0 where
-  pub kids : Kids
+    (bs : List Branch) (ts : List BplusTree) : Type 0 where
+  pub kids : BplusKids
   pub first_is : first_of kids ≡ first
   pub branches_are : branches_of kids ≡ bs
   pub stand : AllStand p kids
@@ -257,14 +261,15 @@ pub record AreKids (p : ℕ → List ℕ) (low : List ℕ) (high : Option (List 
   pub pages_are : pages_of ts ≡ kids_pages kids
 
 at_kids : (p : ℕ → List ℕ) (above : ℕ) (low : List ℕ) (high : Option (List ℕ)) (first : ℕ)
-    (bs : List Branch) (ts : List Tree) → AreAtParts p (child_parts above low first bs) high ts
+    (bs : List Branch) (ts : List BplusTree) → AreAtParts p (child_parts above low first bs) high ts
     → (In above (pages_of ts) → ⊥) → AreKids p low high first bs ts
 at_kids p above low high first bs [] a out = absurd a
 at_kids p above low high first [] (t ∷ u ∷ ts) a out = absurd a.1
 at_kids p above low high first [] (t ∷ []) a out =
     let h = a.0 in
     let filled : IsFilled t = h.filled
-    (λ e. out (in_left above (pages t) [] (subst (λ q. In q (pages t)) (h.page_is ∙ sym e) (top_in t)))) in
+    (λ e. out (in_left above (pages t) []
+    (subst (λ q. In q (pages t)) (h.page_is ∙ sym e) (top_in t)))) in
     record {
       kids = last t;
       first_is = h.page_is;
@@ -277,7 +282,8 @@ at_kids p above low high first [] (t ∷ []) a out =
 at_kids p above low high first (b ∷ bs) (t ∷ ts) a out =
     let h = a.0 in
     let filled : IsFilled t = h.filled
-    (λ e. out (in_left above (pages t) (pages_of ts) (subst (λ q. In q (pages t)) (h.page_is ∙ sym e) (top_in t)))) in
+    (λ e. out (in_left above (pages t) (pages_of ts)
+    (subst (λ q. In q (pages t)) (h.page_is ∙ sym e) (top_in t)))) in
     let k = at_kids p above b.separator high b.child bs ts a.1
     (λ i. out (in_right above (pages t) (pages_of ts) i)) in
     let some = some_key k.kids k.ordered in
@@ -294,12 +300,14 @@ at_kids p above low high first (b ∷ bs) (t ∷ ts) a out =
         | inl j ↦ (
           (h.bounds x j).0,
           under_below x.key some.0.key high
-              (below_up_to x.key b.separator some.0.key (h.bounds x j).1 (k.bounds some.0 some.1).0) (k.bounds some.0 some.1).1,
+              (below_up_to x.key b.separator some.0.key (h.bounds x j).1 (k.bounds some.0 some.1).0)
+              (k.bounds some.0 some.1).1,
         )
         | inr j ↦ (
           below_is_up_to low x.key
               (below_up_to low b.separator x.key
-              (up_to_below low filled.0.key b.separator (h.bounds filled.0 filled.1).0 (h.bounds filled.0 filled.1).1) (k.bounds x j).0),
+              (up_to_below low filled.0.key b.separator (h.bounds filled.0 filled.1).0
+              (h.bounds filled.0 filled.1).1) (k.bounds x j).0),
           (k.bounds x j).1,
         )
       ];
@@ -308,7 +316,7 @@ at_kids p above low high first (b ∷ bs) (t ∷ ts) a out =
 
 -- ---- the next part is visited
 
-leaf_at : (p : ℕ → List ℕ) (t : Tree) (q : ℕ) (es : List Entry) → page_of t ≡ q
+leaf_at : (p : ℕ → List ℕ) (t : BplusTree) (q : ℕ) (es : List Entry) → page_of t ≡ q
     → ShowsEntries (p q) es → Stands p t → t ≡ leaf q es
 leaf_at p (leaf r old) q es is shows stands =
     ap₂ leaf is (one_list (p r) old es stands (subst (λ n. ShowsEntries (p n) es) (sym is) shows))
@@ -316,9 +324,9 @@ leaf_at p (node r kids) q es is shows stands =
     absurd (one_kind (p r) es (first_of kids) (branches_of kids)
     (subst (λ n. ShowsEntries (p n) es) (sym is) shows) stands.0)
 
-node_at : (p : ℕ → List ℕ) (t : Tree) (q first : ℕ) (bs : List Branch) → page_of t ≡ q
+node_at : (p : ℕ → List ℕ) (t : BplusTree) (q first : ℕ) (bs : List Branch) → page_of t ≡ q
     → ShowsInner (p q) first bs → Stands p t
-    → (kids : Kids) × (t ≡ node q kids) × (first_of kids ≡ first) × (branches_of kids ≡ bs)
+    → (kids : BplusKids) × (t ≡ node q kids) × (first_of kids ≡ first) × (branches_of kids ≡ bs)
 node_at p (leaf r es) q first bs is shows stands =
     absurd
     (one_kind (p r) es first bs stands (subst (λ n. ShowsInner (p n) first bs) (sym is) shows))
@@ -398,8 +406,10 @@ module _ (ground : Ground) (owner : ℕ) (sheets : Sheets) (parts : List Part) (
         left =
             subst (AreLeft ground owner sheets seen)
             (sym (pages_append rest.trees (leaf part.page es ∷ [])))
-            (left_more ground owner sheets seen part.page (pages_of rest.trees) [] below next.owned next.past next.unseen
-            (subst (AreLeft ground owner sheets marks) (sym (append-nil (pages_of rest.trees))) rest.left));
+            (left_more ground owner sheets seen part.page (pages_of rest.trees) [] below next.owned
+            next.past next.unseen
+            (subst (AreLeft ground owner sheets marks) (sym (append-nil (pages_of rest.trees)))
+            rest.left));
       }
 
   inner_next : (bytes : List ℕ) → p part.page ≡ bytes → Shows shapes.Inner bytes → Rest
@@ -418,8 +428,10 @@ module _ (ground : Ground) (owner : ℕ) (sheets : Sheets) (parts : List Part) (
       let own : entries o.0 ≡ kids_entries kids = ap entries n.1 in
       let stand : AreAtParts p (child_parts part.page part.low first bs) high (kid_list kids) =
       subst (λ f. AreAtParts p (child_parts part.page part.low f bs) high (kid_list kids)) n.2
-      (subst (λ cs. AreAtParts p (child_parts part.page part.low (first_of kids) cs) high (kid_list kids)) n.3
-      (kids_at p part.page part.low high kids stands.1 ordered (λ x i. o.2.bounds x (subst (In x) (sym own) i)))) in
+      (subst (λ cs. AreAtParts p (child_parts part.page part.low (first_of kids) cs) high
+      (kid_list kids)) n.3
+      (kids_at p part.page part.low high kids stands.1 ordered
+      (λ x i. o.2.bounds x (subst (In x) (sym own) i)))) in
       let pages_are : pages_of rest.trees ≡ pages_of b.before ++ part.page ∷ kids_pages kids =
       ap pages_of (b.are ∙ ap (λ ts. b.before ++ ts) (o.1 ∙ ap (λ t. t ∷ []) n.1))
       ∙ pages_append b.before (node part.page kids ∷ [])
@@ -435,7 +447,8 @@ module _ (ground : Ground) (owner : ℕ) (sheets : Sheets) (parts : List Part) (
           left =
               subst (AreLeft ground owner sheets marks) (ap (λ ps. pages_of b.before ++ ps)
               (sym (kid_pages kids)) ∙ sym (pages_append b.before (kid_list kids)))
-              (left_less ground owner sheets seen part.page (pages_of b.before) (kids_pages kids) below left);
+              (left_less ground owner sheets seen part.page (pages_of b.before)
+              (kids_pages kids) below left);
         },
       )
 
@@ -474,8 +487,10 @@ module _ (ground : Ground) (owner : ℕ) (sheets : Sheets) (parts : List Part) (
         left = subst (AreLeft ground owner sheets seen)
             (ap (λ ps. pages_of b.before ++ part.page ∷ ps) (sym (append-nil (kids_pages k.kids)))
             ∙ sym (pages_append b.before (tree ∷ [])))
-            (left_more ground owner sheets seen part.page (pages_of b.before) (kids_pages k.kids) below next.owned next.past next.unseen
-            (subst (AreLeft ground owner sheets marks) (pages_are ∙ ap (λ ps. pages_of b.before ++ ps) k.pages_are) rest.left));
+            (left_more ground owner sheets seen part.page (pages_of b.before)
+            (kids_pages k.kids) below next.owned next.past next.unseen
+            (subst (AreLeft ground owner sheets marks)
+            (pages_are ∙ ap (λ ps. pages_of b.before ++ ps) k.pages_are) rest.left));
       }
 
   pub to_behind : (shape : Shape) (bytes : List ℕ) → p part.page ≡ bytes → Shows shape bytes → Rest
@@ -494,7 +509,7 @@ module _ (ground : Ground) (owner : ℕ) (sheets : Sheets) (parts : List Part) (
 abbrev map_of : List Entry → LeafMap
 map_of es = fin.from_entries (map pair es)
 
-map_found : (t : Tree) → Ordered t → (k b : List ℕ)
+map_found : (t : BplusTree) → Ordered t → (k b : List ℕ)
     → (fin.get (map_of (entries t)) k ≡ Some b) ↔ In (at k b) (entries t)
 map_found t ordered k b =
     let get = fin.get-from_entries nat_list_cmp_total (map pair (entries t)) k in (
@@ -534,7 +549,8 @@ module _ (ground : Ground) (place : Place) (sheets : Sheets) (seen : List Bool)
   rest_whole rest =
       let o = one_at (bytes_at sheets) (root_part place.root) None rest.trees rest.stand in
       let t = o.0 in
-      let left = subst (AreLeft ground place.owner sheets seen) (ap pages_of o.1 ∙ append-nil (pages t)) rest.left in (
+      let left = subst (AreLeft ground place.owner sheets seen) (ap pages_of o.1
+      ∙ append-nil (pages t)) rest.left in (
         map_of (entries t),
         record {
           tree = t;
@@ -545,7 +561,7 @@ module _ (ground : Ground) (place : Place) (sheets : Sheets) (seen : List Bool)
         },
       )
 
-no_trees : (p : ℕ → List ℕ) (high : Option (List ℕ)) (ts : List Tree) → AreAtParts p [] high ts
+no_trees : (p : ℕ → List ℕ) (high : Option (List ℕ)) (ts : List BplusTree) → AreAtParts p [] high ts
     → ts ≡ []
 no_trees p high [] a = refl
 no_trees p high (t ∷ ts) a = absurd a
@@ -556,7 +572,8 @@ module _ (ground : Ground) (owner : ℕ) (sheets : Sheets) (high : Option (List 
         → slice_get seen q ≡ Some true
     rest_seen rest q o = elim (rest.left.all q o) [
       | inl is ↦ is
-      | inr i ↦ absurd (subst (λ (ts : List Tree). In q (pages_of ts)) (no_trees (bytes_at sheets) high rest.trees rest.stand) i)
+      | inr i ↦ absurd (subst (λ (ts : List BplusTree). In q (pages_of ts))
+          (no_trees (bytes_at sheets) high rest.trees rest.stand) i)
     ]
 
     pub seen_rest : ((q : ℕ) → IsOwned owner sheets q → slice_get seen q ≡ Some true)
@@ -575,7 +592,7 @@ first_left : (ground : Ground) (owner : ℕ) (sheets : Sheets) (part : Part) (pa
     → HasRest ground owner sheets (part ∷ parts) high seen
     → (q : ℕ) × (q < ground.size) × (slice_get seen q ≢ Some true)
 first_left ground owner sheets part parts high seen rest = go rest.trees rest.stand rest.left where
-  go : (ts : List Tree) → AreAtParts (bytes_at sheets) (part ∷ parts) high ts
+  go : (ts : List BplusTree) → AreAtParts (bytes_at sheets) (part ∷ parts) high ts
       → AreLeft ground owner sheets seen (pages_of ts)
       → (q : ℕ) × (q < ground.size) × (slice_get seen q ≢ Some true)
   go [] a l = absurd a
@@ -599,7 +616,8 @@ seen_more size seen steps p a unseen less within = record {
   many = (let m = a.many in omega (arith, m));
   marked = λ q i. elim i [
     | inl e ↦ ap (slice_get (slice_set seen p true)) e ∙ get_set_same seen p true within
-    | inr j ↦ get_set_other seen p q true (λ e. unseen (ap (slice_get seen) (sym e) ∙ a.marked q j)) ∙ a.marked q j
+    | inr j ↦ get_set_other seen p q true (λ e. unseen (ap (slice_get seen) (sym e) ∙ a.marked q j))
+        ∙ a.marked q j
   ];
   below = λ q i. elim i [ inl e ↦ omega (arith, e, less) | inr j ↦ a.below q j ];
 }

@@ -19,7 +19,7 @@ use Rattle.gx_slots.specs.Entries.{Entry}
 use Rattle.gx_btree.specs.Order.{IsBelow, IsUnder, is_below}
 use Rattle.gx_btree.specs.Search.{IsFound}
 use Rattle.gx_btree.specs.Selection.{given_entry, given_from}
-use Rattle.gx_btree.specs.Tree.{In, Tree, Kids, leaf, node, last, more, entries, kids_entries, Ascending, Ordered, AreOrdered}
+use Rattle.gx_btree.specs.Tree.{In, BplusTree, BplusKids, leaf, node, last, more, entries, kids_entries, Ascending, Ordered, AreOrdered}
 use Rattle.gx_btree.proofs.GiveLemmas.{is_given}
 use Rattle.gx_btree.proofs.MemberLemmas.{in_left, in_right, in_cases}
 use Rattle.gx_btree.proofs.OrderLemmas.{below_or_not, not_itself, below_below, below_up_to, is_below_of, below_of, differ, under_below}
@@ -76,7 +76,8 @@ same_list (x ∷ xs) (y ∷ ys) up over to from =
           [ inl e ↦ sym e | inr j ↦ absurd (not_itself x.key (below_below x.key y.key x.key (up.0 y j) (over.0 x i))) ]
     ] in
     let rest = same_list xs ys up.1 over.1
-    (λ z i. elim (to z (inr i)) [ inl e ↦ absurd (differ x.key z.key (up.0 z i) (ap (λ (w : Entry). w.key) (first ∙ sym e))) | inr j ↦ j ])
+    (λ z i. elim (to z (inr i))
+    [ inl e ↦ absurd (differ x.key z.key (up.0 z i) (ap (λ (w : Entry). w.key) (first ∙ sym e))) | inr j ↦ j ])
     (λ z i. elim (from z (inr i)) [
       | inl e ↦ absurd
           (differ y.key z.key (over.0 z i) (ap (λ (w : Entry). w.key) (sym first ∙ sym e)))
@@ -87,11 +88,11 @@ same_list (x ∷ xs) (y ∷ ys) up over to from =
 -- ---- the entries of a tree
 
 mutual
-  pub tree_up : (t : Tree) → Ordered t → Ascending (entries t)
+  pub tree_up : (t : BplusTree) → Ordered t → Ascending (entries t)
   tree_up (leaf p es) o = o
   tree_up (node p kids) o = kids_up kids o
 
-  kids_up : (kids : Kids) → AreOrdered kids → Ascending (kids_entries kids)
+  kids_up : (kids : BplusKids) → AreOrdered kids → Ascending (kids_entries kids)
   kids_up (last t) o = tree_up t o.0
   kids_up (more t s kids) o =
       append_up (entries t) (kids_entries kids) (tree_up t o.0) (kids_up kids o.4)
@@ -197,7 +198,7 @@ selected_pairs lo hi (e ∷ es) =
     (selected_pairs lo hi es) ∙ sym (given_cases lo hi e es (is_inside lo hi e.key))
 
 -- all that is inside
-pub given_all : (lo hi : List ℕ) (m : LeafMap) (t : Tree) → Ordered t
+pub given_all : (lo hi : List ℕ) (m : LeafMap) (t : BplusTree) → Ordered t
     → ((k b : List ℕ)
     → (get m k ≡ Some b → In (at k b) (entries t)) × (In (at k b) (entries t) → get m k ≡ Some b))
     → given_under lo hi None (entries t) ≡ selected lo hi m
@@ -221,7 +222,7 @@ map_append [] ys = refl
 map_append (x ∷ xs) ys = ap (λ (zs : List LeafEntry). given_entry x ∷ zs) (map_append xs ys)
 
 -- those of the page that was found come next
-pub given_next : (lo hi key : List ℕ) (bound : Option (List ℕ)) (t : Tree) (es : List Entry)
+pub given_next : (lo hi key : List ℕ) (bound : Option (List ℕ)) (t : BplusTree) (es : List Entry)
     → Ordered t
     → Ascending es → IsFound t key bound es
     → given_under lo hi bound (entries t)
@@ -233,7 +234,8 @@ given_next lo hi key bound t es o up found =
     let r = is_given key lo hi in
     let lists : filter p all ≡ filter q all ++ filter r es =
     same_list (filter p all) (filter q all ++ filter r es) (filter_up p all (tree_up t o))
-    (append_up (filter q all) (filter r es) (filter_up q all (tree_up t o)) (filter_up r es up) (λ x y i j.
+    (append_up (filter q all) (filter r es) (filter_up q all (tree_up t o)) (filter_up r es up)
+    (λ x y i j.
     let a = ((in_filter q all x).0 i).1 in
     let b = ((in_filter r es y).0 j).1 in
     below_up_to x.key key y.key

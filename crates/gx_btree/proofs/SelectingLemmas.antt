@@ -23,7 +23,7 @@ use Rattle.gx_btree.specs.Order.{IsUpTo, is_below}
 use Rattle.gx_btree.specs.Search.{IsFound}
 use Rattle.gx_btree.specs.Selection.{given_entry, given_from}
 use Rattle.gx_btree.specs.Tree as trees
-use Rattle.gx_btree.specs.Tree.{In, Tree, Kids, leaf, node, last, more, entries, pages, kids_pages, separators, kids_separators, Apart, AreApart, Ascending}
+use Rattle.gx_btree.specs.Tree.{In, BplusTree, BplusKids, leaf, node, last, more, entries, pages, kids_pages, separators, kids_separators, Apart, AreApart, Ascending}
 use Rattle.gx_btree.proofs.BoundLemmas.{few}
 use Rattle.gx_btree.proofs.CallLemmas.{ends_after, ends_shown}
 use Rattle.gx_btree.proofs.MemberLemmas.{in_cases}
@@ -94,11 +94,11 @@ given_none lo hi es =
 -- ---- how many separators a tree has
 
 mutual
-  few_separators : (t : Tree) → length (separators t) + 1 ≤ length (pages t)
+  few_separators : (t : BplusTree) → length (separators t) + 1 ≤ length (pages t)
   few_separators (leaf p es) = omega arith
   few_separators (node p kids) = let h = few_kids kids in omega (arith, h)
 
-  few_kids : (kids : Kids) → length (kids_separators kids) + 1 ≤ length (kids_pages kids)
+  few_kids : (kids : BplusKids) → length (kids_separators kids) + 1 ≤ length (kids_pages kids)
   few_kids (last t) = few_separators t
   few_kids (more t s kids) =
       let a = few_separators t in
@@ -114,11 +114,11 @@ append_unique (x ∷ xs) ys u v d =
     ((λ i. elim (in_cases x xs ys i) [ inl a ↦ u.0 a | inr b ↦ d x (inl refl) b ]), append_unique xs ys u.1 v (λ y i j. d y (inr i) j))
 
 mutual
-  unique_pages : (t : Tree) → Apart t → AreUnique (pages t)
+  unique_pages : (t : BplusTree) → Apart t → AreUnique (pages t)
   unique_pages (leaf p es) a = ((λ i. i), tt)
   unique_pages (node p kids) a = (a.0, unique_kids kids a.1)
 
-  unique_kids : (kids : Kids) → AreApart kids → AreUnique (kids_pages kids)
+  unique_kids : (kids : BplusKids) → AreApart kids → AreUnique (kids_pages kids)
   unique_kids (last t) a = unique_pages t a
   unique_kids (more t s kids) a =
       append_unique (pages t) (kids_pages kids) (unique_pages t a.0) (unique_kids kids a.2) a.1
@@ -152,12 +152,14 @@ few_of : (xs ys : List (List ℕ)) → AreDistinct xs → ((x : List ℕ) → In
 few_of [] ys u h = omega arith
 few_of (x ∷ xs) ys u h =
     let r = take_away x ys (h x (inl refl)) in
-    let k = few_of xs r.rest u.1 (λ y i. elim (r.others y (h y (inr i))) [ inl e ↦ absurd (u.0 (subst (λ z. In z xs) e i)) | inr j ↦ j ]) in
+    let k = few_of xs r.rest u.1
+    (λ y i. elim (r.others y (h y (inr i)))
+    [ inl e ↦ absurd (u.0 (subst (λ z. In z xs) e i)) | inr j ↦ j ]) in
     let s = r.shorter in
     omega (arith, k, s)
 
 -- the keys that a selection came to, so many, up to this one
-pub record HasSeen (tree : Tree) (key : List ℕ) (steps : ℕ) : Type 0 where
+pub record HasSeen (tree : BplusTree) (key : List ℕ) (steps : ℕ) : Type 0 where
   pub keys : List (List ℕ)
   pub count : length keys ≡ steps
   pub distinct : AreDistinct keys
@@ -213,7 +215,8 @@ module _ {S : Type 0} (g : Ghosts S) (place : Place) (lo hi : List ℕ) (start :
     given =
         λ m holds. sym (append-nil before)
         ∙ ap (λ (xs : List LeafEntry). before ++ xs)
-        (sym (ap (λ k. given_under lo hi (Some k) (entries holds.file.tree)) is ∙ given_none lo hi (entries holds.file.tree)));
+        (sym (ap (λ k. given_under lo hi (Some k) (entries holds.file.tree)) is
+        ∙ given_none lo hi (entries holds.file.tree)));
     seen = λ m holds. record
         { keys = []; count = refl; distinct = tt; among = λ k i. absurd i; upto = λ k i. absurd i };
   }
@@ -334,7 +337,8 @@ module _ {S : Type 0} (g : Ghosts S) (place : Place) (lo hi : List ℕ) (start :
         fault = λ is. let never : ⊥ = cc in absurd never;
         counted = λ _. s.faults;
         damaged =
-            λ k is w. (let e = seen_ends (g.ground start) place (g.working start) w.0 w.1.file key steps
+            λ k is w. (let e = seen_ends (g.ground start) place (g.working start) w.0 w.1.file key
+            steps
             (s.seen w.0 w.1) in omega (arith, e, over));
       };
       home = λ k is. let same : n ≡ k = cc in subst (IsHome (g.ground start)) same block;

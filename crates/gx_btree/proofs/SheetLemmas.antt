@@ -96,7 +96,8 @@ pub anew_other : (page to : ℕ) (ground : Ground) (old new : Sheets)
     → (owner q : ℕ) → q ≢ page
     → (IsOwned owner new q → IsOwned owner old q) × (IsOwned owner old q → IsOwned owner new q)
 anew_other page to ground old new a owner q d =
-    let e : slice_get new.owners q ≡ slice_get old.owners q = ap (λ (os : List ℕ). slice_get os q) a.owners
+    let e : slice_get new.owners q ≡ slice_get old.owners q =
+    ap (λ (os : List ℕ). slice_get os q) a.owners
     ∙ get_set_other old.owners page q to d in
     (λ h. sym e ∙ h, λ h. e ∙ h)
 
@@ -150,7 +151,8 @@ pub freed_owned : (page owner : ℕ) (ground : Ground) (old new : Sheets) → 1 
 freed_owned page owner ground old new least a was q =
     let here = anew_here page 0 ground old new a (get_below old.owners page owner was) in (
       λ h. elim (cases_eq q page) [
-        | inl e ↦ (let z = one_owner new page owner 0 (subst (IsOwned owner new) e h) here in absurd (omega (arith, z, least)))
+        | inl e ↦ (let z = one_owner new page owner 0 (subst (IsOwned owner new) e h) here in
+            absurd (omega (arith, z, least)))
         | inr e ↦ ((anew_other page 0 ground old new a owner q e).0 h, e)
       ],
       λ h. (anew_other page 0 ground old new a owner q h.1).1 h.0,
@@ -162,8 +164,10 @@ pub claimed_owned : (page owner : ℕ) (ground : Ground) (old new : Sheets)
     → (IsOwned owner new q → (q ≡ page) ⊎ IsOwned owner old q)
     × ((q ≡ page) ⊎ IsOwned owner old q → IsOwned owner new q)
 claimed_owned page owner ground old new c q =
-    let here = anew_here page owner ground old new c.owned (get_below old.owners page 0 c.was_free) in (
-      λ h. elim (cases_eq q page) [ inl e ↦ inl e | inr e ↦ inr ((anew_other page owner ground old new c.owned owner q e).0 h) ],
+    let here = anew_here page owner ground old new c.owned (get_below old.owners page 0 c.was_free)
+    in (
+      λ h. elim (cases_eq q page)
+          [ inl e ↦ inl e | inr e ↦ inr ((anew_other page owner ground old new c.owned owner q e).0 h) ],
       λ h. elim h [
         | inl e ↦ subst (IsOwned owner new) (sym e) here
         | inr i ↦ elim (cases_eq q page)
@@ -173,4 +177,5 @@ claimed_owned page owner ground old new c q =
 
 pub claimed_free : (page owner : ℕ) (ground : Ground) (old new : Sheets) → 1 ≤ owner
     → IsClaimed page owner ground old new → IsOwned owner old page → ⊥
-claimed_free page owner ground old new least c h = let z = one_owner old page owner 0 h c.was_free in omega (arith, z, least)
+claimed_free page owner ground old new least c h = let z = one_owner old page owner 0 h c.was_free
+    in omega (arith, z, least)

@@ -3,7 +3,7 @@ use Rattle.std.proofs.Common.{◌≡◌, inl, inr, ◌+◌, ◌++◌, ◌∷◌,
 use Rattle.gx_slots.specs.Entries.{Entry}
 use Rattle.gx_bnode.specs.Branches.{Branch}
 use Rattle.gx_btree.specs.Order.{IsUpTo, IsUnder}
-use Rattle.gx_btree.specs.Tree.{In, Tree, Kids, leaf, node, page_of, first_of, branches_of, entries, kids_entries, pages, kids_pages, Stands, AllStand, ShowsEntries, ShowsInner, Ordered, AreOrdered, IsFilled, Apart, AreApart, IsWhole, Owns, child_for, bound_for}
+use Rattle.gx_btree.specs.Tree.{In, BplusTree, BplusKids, leaf, node, page_of, first_of, branches_of, entries, kids_entries, pages, kids_pages, Stands, AllStand, ShowsEntries, ShowsInner, Ordered, AreOrdered, IsFilled, Apart, AreApart, IsWhole, Owns, child_for, bound_for}
 use Rattle.gx_btree.specs.Hole.{IsFitting, Same, Joins, KidHole, IsAtHand}
 use Rattle.gx_btree.proofs.MemberLemmas.{in_left, in_right, in_cases, joins_none, joins_through, joins_below}
 use Rattle.gx_btree.proofs.OrderLemmas.{nothing_up_to, below_up_to, up_to_up_to}
@@ -11,7 +11,7 @@ use Rattle.gx_btree.proofs.PageLemmas.{one_list, one_inner, one_kind}
 use Rattle.gx_btree.proofs.KidLemmas.{some_key, kid_hole}
 
 -- at first it stands at the root
-pub at_root : (at : ℕ → List ℕ) (owned : ℕ → Type 0) (root : ℕ) (key : List ℕ) (t : Tree)
+pub at_root : (at : ℕ → List ℕ) (owned : ℕ → Type 0) (root : ℕ) (key : List ℕ) (t : BplusTree)
     → IsWhole at root t
     → Owns owned t → IsAtHand at owned root root key t 0
 at_root at owned root key t w owns = record {
@@ -50,41 +50,41 @@ at_root at owned root key t w owns = record {
 }
 
 -- and nothing bounds it
-pub root_hi : (at : ℕ → List ℕ) (owned : ℕ → Type 0) (root : ℕ) (key : List ℕ) (t : Tree)
+pub root_hi : (at : ℕ → List ℕ) (owned : ℕ → Type 0) (root : ℕ) (key : List ℕ) (t : BplusTree)
     (w : IsWhole at root t)
     (owns : Owns owned t) → (at_root at owned root key t w owns).hi ≡ None
 unfolding at_root
 root_hi at owned root key t w owns = refl
 
 -- the children of a page
-pub record IsNode (first : ℕ) (branches : List Branch) (p : ℕ) (t : Tree) : Type 0 where
-  pub kids : Kids
+pub record IsNode (first : ℕ) (branches : List Branch) (p : ℕ) (t : BplusTree) : Type 0 where
+  pub kids : BplusKids
   pub is : t ≡ node p kids
   pub first_is : first_of kids ≡ first
   pub branches_are : branches_of kids ≡ branches
 
-pub node_at : (at : ℕ → List ℕ) (first : ℕ) (branches : List Branch) (t : Tree)
+pub node_at : (at : ℕ → List ℕ) (first : ℕ) (branches : List Branch) (t : BplusTree)
     → ShowsInner (at (page_of t)) first branches → Stands at t → IsNode first branches (page_of t) t
 node_at at first branches (leaf p es) e stands = absurd (one_kind (at p) es first branches stands e)
 node_at at first branches (node p kids) e stands =
     let same = one_inner (at p) (first_of kids) first (branches_of kids) branches stands.0 e in
     record { kids = kids; is = refl; first_is = same.0; branches_are = same.1 }
 
-pub leaf_is : (at : ℕ → List ℕ) (t : Tree) (es : List Entry) → ShowsEntries (at (page_of t)) es
+pub leaf_is : (at : ℕ → List ℕ) (t : BplusTree) (es : List Entry) → ShowsEntries (at (page_of t)) es
     → Stands at t → t ≡ leaf (page_of t) es
 leaf_is at (leaf p old) es e stands = ap (leaf p) (one_list (at p) old es stands e)
 leaf_is at (node p kids) es e stands =
     absurd (one_kind (at p) es (first_of kids) (branches_of kids) e stands.0)
 
-pub top_in : (t : Tree) → In (page_of t) (pages t)
+pub top_in : (t : BplusTree) → In (page_of t) (pages t)
 top_in (leaf p es) = inl refl
 top_in (node p kids) = inl refl
 
 -- The subtree at hand has children, of which one is on the way.
 pub record IsAtNode {steps : ℕ} (at : ℕ → List ℕ) (owned : ℕ → Type 0) (root p : ℕ) (key : List ℕ)
-    (old : Tree)
+    (old : BplusTree)
     (first : ℕ) (branches : List Branch) (h : IsAtHand at owned root p key old steps) : Type 0 where
-  pub kids : Kids
+  pub kids : BplusKids
   pub is : h.subtree ≡ node p kids
   pub first_is : first_of kids ≡ first
   pub branches_are : branches_of kids ≡ branches
@@ -106,7 +106,7 @@ pub record IsAtNode {steps : ℕ} (at : ℕ → List ℕ) (owned : ℕ → Type 
   pub in_others : (x : ℕ) → In x hole.others → In x (kids_pages kids)
 
 pub at_node : {steps : ℕ} (at : ℕ → List ℕ) (owned : ℕ → Type 0) (root p : ℕ) (key : List ℕ)
-    (old : Tree)
+    (old : BplusTree)
     (first : ℕ) (branches : List Branch) → ShowsInner (at p) first branches
     → (h : IsAtHand at owned root p key old steps)
     → IsAtNode at owned root p key old first branches h
@@ -149,7 +149,7 @@ at_node at owned root p key old first branches e h =
 
 -- one page down
 pub descend : {steps : ℕ} (at : ℕ → List ℕ) (owned : ℕ → Type 0) (root p : ℕ) (key : List ℕ)
-    (old : Tree)
+    (old : BplusTree)
     (first : ℕ) (branches : List Branch) → ShowsInner (at p) first branches
     → (g : IsAtHand at owned root p key old steps)
     → (h : IsAtHand at owned root (child_for first branches key) key old (steps + 1))
@@ -192,16 +192,19 @@ descend {steps = steps} at owned root p key old first branches e h =
               (sym (same p (inl refl)))
               (subst (λ f. ShowsInner (at p) f (branches_of w.kids)) (sym w.first_is)
               (subst (ShowsInner (at p) (first_of n.kids)) (sym w.branches_are) n.shows)) in
-              let inside : (x : Entry) → In x (kids_entries w.kids) → IsUpTo h.lo x.key × IsUnder x.key h.hi =
+              let inside : (x : Entry) → In x (kids_entries w.kids)
+              → IsUpTo h.lo x.key × IsUnder x.key h.hi =
               λ x i. elim ((w.entries_are x).0 i) [
-                | inl a ↦ (let b = fit.bounds x a in (up_to_up_to h.lo k.low x.key k.lower b.0, k.higher.under x.key b.1))
+                | inl a ↦ (let b = fit.bounds x a in
+                    (up_to_up_to h.lo k.low x.key k.lower b.0, k.higher.under x.key b.1))
                 | inr a ↦ n.bounds x ((k.entries_are x).1 (inr a))
               ] in
               let fresh : In p (kids_pages w.kids) → ⊥ = λ i. elim ((w.pages_are p).0 i) [
                 | inl a ↦ fit.alone p a (inl refl)
                 | inr b ↦ n.out (n.in_others p b)
               ] in
-              let apart_from : (x : ℕ) → In x (p ∷ kids_pages w.kids) → In x h.others → ⊥ = λ x i j. elim i [
+              let apart_from : (x : ℕ) → In x (p ∷ kids_pages w.kids) → In x h.others
+              → ⊥ = λ x i j. elim i [
                 | inl a ↦ h.fits.alone x (subst (In x) (sym n.pages_is) (inl a)) j
                 | inr b ↦ elim ((w.pages_are x).0 b) [
                   | inl c ↦ fit.alone x c (inr (in_right x k.others h.others j))
@@ -255,7 +258,8 @@ descend {steps = steps} at owned root p key old first branches e h =
           (λ o. elim ((h.owns x).0 o) [
             | inl a ↦ elim (subst (In x) n.pages_is a) [
               | inl c ↦ inr (inl c)
-              | inr d ↦ elim ((k.pages_are x).0 d) [ inl f ↦ inl f | inr g ↦ inr (inr (in_left x k.others h.others g)) ]
+              | inr d ↦ elim ((k.pages_are x).0 d)
+                  [ inl f ↦ inl f | inr g ↦ inr (inr (in_left x k.others h.others g)) ]
             ]
             | inr b ↦ inr (inr (in_right x k.others h.others b))
           ]),
@@ -263,7 +267,8 @@ descend {steps = steps} at owned root p key old first branches e h =
             | inl a ↦ n.kids_owned x (n.in_kids x a)
             | inr b ↦ elim b [
               | inl c ↦ subst owned (sym c) n.top_owned
-              | inr d ↦ elim (in_cases x k.others h.others d) [ inl f ↦ n.kids_owned x (n.in_others x f) | inr g ↦ (h.owns x).1 (inr g) ]
+              | inr d ↦ elim (in_cases x k.others h.others d)
+                  [ inl f ↦ n.kids_owned x (n.in_others x f) | inr g ↦ (h.owns x).1 (inr g) ]
             ]
           ]),
         );

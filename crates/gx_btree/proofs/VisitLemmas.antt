@@ -20,7 +20,7 @@ use Rattle.gx_btree.specs.declared.reading.Shape.TheVariants as shapes
 use Rattle.gx_btree.specs.Bplus.{IsBplus, IsTreePage, Shows}
 use Rattle.gx_btree.specs.Checking.{root_part, child_parts, HasRest, IsInside, IsPassed, IsVisited, AreBelow, HasNext, pages_of, AreAtParts}
 use Rattle.gx_seen.specs.Seen.{IsUnseen, AreAllSeen}
-use Rattle.gx_btree.specs.Tree.{In, Tree, pages}
+use Rattle.gx_btree.specs.Tree.{In, BplusTree, pages}
 use Rattle.gx_btree.proofs.CallLemmas.{ends_after, ends_shown}
 use Rattle.gx_btree.proofs.MemberLemmas.{in_left, in_right, in_cases}
 use Rattle.gx_btree.proofs.RestLemmas.{to_behind, from_behind, whole_rest, rest_whole, rest_seen, seen_rest, AreSeen, seen_more, seen_few}
@@ -38,7 +38,8 @@ next_page : (ground : Ground) (owner : ℕ) (sheets : Sheets) (parts : List Part
     → IsTreePage ground sheets part.page × IsUnseen sheets owner seen part.page
 next_page ground owner sheets parts part high seen rest =
     go parts rest.trees rest.stand (λ q i. i) where
-      go : (ws : List Part) (ts : List Tree) → AreAtParts (bytes_at sheets) (ws ++ part ∷ []) high ts
+      go : (ws : List Part) (ts : List BplusTree)
+          → AreAtParts (bytes_at sheets) (ws ++ part ∷ []) high ts
           → ((q : ℕ) → In q (pages_of ts) → In q (pages_of rest.trees))
           → IsTreePage ground sheets part.page × IsUnseen sheets owner seen part.page
       go [] [] a among = absurd a
@@ -67,7 +68,8 @@ children_above : (above : ℕ) (bs : List Branch) (part : Part)
     → In part (map (λ b. record { above = above; page = b.child; low = b.separator }) bs)
     → part.above ≡ above
 children_above above [] part i = absurd i
-children_above above (b ∷ bs) part i = elim i [ inl e ↦ ap (λ (w : Part). w.above) e | inr j ↦ children_above above bs part j ]
+children_above above (b ∷ bs) part i =
+    elim i [ inl e ↦ ap (λ (w : Part). w.above) e | inr j ↦ children_above above bs part j ]
 
 pub parts_below : (ground : Ground) (shape : Shape) (bytes : List ℕ) (part : Part)
     (old new : Visits) → IsPassed shape bytes part old new → part.page < ground.size
@@ -75,11 +77,14 @@ pub parts_below : (ground : Ground) (shape : Shape) (bytes : List ℕ) (part : P
 parts_below ground shapes.Entries bytes part old new passed less below w i =
     below w (subst (In w) passed.parts i)
 parts_below ground shapes.Inner bytes part old new passed less below w i =
-    elim (in_cases w old.parts.items (child_parts part.page part.low (first_of bytes) (branches_of bytes)) (subst (In w) passed.parts i)) [
+    elim (in_cases w old.parts.items
+    (child_parts part.page part.low (first_of bytes) (branches_of bytes))
+    (subst (In w) passed.parts i)) [
       | inl a ↦ below w a
       | inr b ↦ elim b [
         | inl e ↦ (let s = ap (λ (x : Part). x.above) e in omega (arith, s, less))
-        | inr c ↦ (let s = children_above part.page (branches_of bytes) w c in omega (arith, s, less))
+        | inr c ↦ (let s = children_above part.page (branches_of bytes) w c in
+            omega (arith, s, less))
       ]
     ]
 
@@ -87,7 +92,8 @@ module _ {S : Type 0} (g : Ghosts S) (owner : ℕ) (part : Part) (p : S) (old : 
   pub next_reads : HasNext g p owner part old
       → IsTrue g.tells × IsTreePage (g.ground p) (g.working p) part.page
       × IsUnseen (g.working p) owner old.seen.items part.page
-  next_reads n = let h = next_page (g.ground p) owner (g.working p) old.parts.items part old.high old.seen.items n.1 in (n.0, h.0, h.1)
+  next_reads n = let h = next_page (g.ground p) owner (g.working p) old.parts.items part old.high
+      old.seen.items n.1 in (n.0, h.0, h.1)
 
   module _ (shape : Shape) (bytes : List ℕ) (shown : Shows shape bytes)
       (read : IsTrue g.tells → bytes_at (g.working p) part.page ≡ bytes)
@@ -110,11 +116,15 @@ module _ {S : Type 0} (g : Ghosts S) (owner : ℕ) (part : Part) (p : S) (old : 
         let b = high ∙ passed.high in
         record {
           rest = (
-            (λ r. rest_same ground owner sheets _ new.parts.items _ new.high _ new.seen.items (sym a) (sym b) (sym seen)
-                (to_behind ground owner sheets old.parts.items part old.high old.seen.items below shape bytes (read told) shown r).1),
-            (λ r. from_behind ground owner sheets old.parts.items part old.high old.seen.items below shape bytes (read told) shown
+            (λ r. rest_same ground owner sheets _ new.parts.items _ new.high _ new.seen.items
+                (sym a) (sym b) (sym seen)
+                (to_behind ground owner sheets old.parts.items part old.high old.seen.items below
+                shape bytes (read told) shown r).1),
+            (λ r. from_behind ground owner sheets old.parts.items part old.high old.seen.items below
+                shape bytes (read told) shown
                 (record { owned = unseen.0; past = past; unseen = unseen.1; inside = inside })
-                (rest_same ground owner sheets new.parts.items _ new.high _ new.seen.items _ a b seen r)),
+                (rest_same ground owner sheets new.parts.items _ new.high _ new.seen.items _ a b
+                seen r)),
           );
           past = past;
           unseen = unseen.1;
@@ -158,11 +168,13 @@ module _ {S : Type 0} (g : Ghosts S) (place : Place) (start : S) where
         below = λ part i. elim (subst (In part) parts i)
             [ inl e ↦ (let s = ap (λ (w : Part). w.above) e in omega (arith, s, below)) | inr n ↦ absurd n ];
         rest = λ told. (
-          (λ whole. rest_same ground place.owner sheets (root_part place.root ∷ []) visits.parts.items None visits.high visits.seen.items
+          (λ whole. rest_same ground place.owner sheets (root_part place.root ∷ [])
+              visits.parts.items None visits.high visits.seen.items
               visits.seen.items (sym parts) (sym high) refl
               (whole_rest ground place sheets visits.seen.items none whole.0 whole.1.file)),
           (λ r. let w = rest_whole ground place sheets visits.seen.items none
-              (rest_same ground place.owner sheets visits.parts.items (root_part place.root ∷ []) visits.high None visits.seen.items
+              (rest_same ground place.owner sheets visits.parts.items (root_part place.root ∷ [])
+              visits.high None visits.seen.items
               visits.seen.items parts high refl r) in
               (w.0, record { told = told; file = w.1 })),
         );
@@ -173,13 +185,15 @@ module _ {S : Type 0} (g : Ghosts S) (place : Place) (start : S) where
   module _ {steps : ℕ} (now : S) (visits : Visits) (v : IsVisiting g place start now visits steps)
     where
       module _ (part : Part) (old : Visits)
-          (parts : visits.parts.items ≡ old.parts.items ++ part ∷ []) (high : old.high ≡ visits.high)
+          (parts : visits.parts.items ≡ old.parts.items ++ part ∷ [])
+          (high : old.high ≡ visits.high)
           (seen : old.seen.items ≡ visits.seen.items) where
         next_there : IsTrue g.tells → Whole
             → HasRest (g.ground start) place.owner (g.working start) (old.parts.items ++ part ∷ [])
             old.high old.seen.items
         next_there told whole =
-            rest_same (g.ground start) place.owner (g.working start) visits.parts.items _ visits.high
+            rest_same (g.ground start) place.owner (g.working start) visits.parts.items _
+            visits.high
             _ visits.seen.items _ parts (sym high) (sym seen) ((v.rest told).0 whole)
 
         pub visiting_ends : {T : Type 0} (b : S) (r : Result T Stop)
@@ -191,7 +205,8 @@ module _ {S : Type 0} (g : Ghosts S) (place : Place) (start : S) where
               w.1.told,
               subst (λ (x : Ground). HasRest x place.owner (g.working now)
                   (old.parts.items ++ part ∷ []) old.high old.seen.items) (sym v.reads.keeps.ground)
-                  (subst (λ (s : Sheets). HasRest (g.ground start) place.owner s (old.parts.items ++ part ∷ []) old.high old.seen.items)
+                  (subst (λ (s : Sheets). HasRest (g.ground start) place.owner s
+                  (old.parts.items ++ part ∷ []) old.high old.seen.items)
                   (sym v.reads.working) (next_there w.1.told w)),
             )) e
 
@@ -204,19 +219,22 @@ module _ {S : Type 0} (g : Ghosts S) (place : Place) (start : S) where
 
         pub old_below : AreBelow (g.ground now) old.parts.items
         old_below w i =
-            let b = v.below w (subst (In w) (sym parts) (in_left w old.parts.items (part ∷ []) i)) in
+            let b = v.below w (subst (In w) (sym parts) (in_left w old.parts.items (part ∷ []) i))
+            in
             let e = ap (λ (x : Ground). x.size) v.reads.keeps.ground in
             omega (arith, b, e)
 
         pub visiting_goes : (b : S) (new : Visits) → ReadsPages g now b → g.faults b ≡ g.faults now
             → (IsTrue g.tells → IsVisited (g.ground now) place.owner (g.working now) part old new)
             → AreBelow (g.ground now) new.parts.items
-            → length new.seen.items ≡ (g.ground now).size → IsVisiting g place start b new (steps + 1)
+            → length new.seen.items ≡ (g.ground now).size
+            → IsVisiting g place start b new (steps + 1)
         visiting_goes b new reads faults visited below marks =
             let ground = v.reads.keeps.ground in
             let there = λ (told : IsTrue g.tells). subst
             (λ (x : Ground). IsVisited x place.owner (g.working start) part old new) ground
-            (subst (λ (s : Sheets). IsVisited (g.ground now) place.owner s part old new) v.reads.working (visited told)) in
+            (subst (λ (s : Sheets). IsVisited (g.ground now) place.owner s part old new)
+            v.reads.working (visited told)) in
             let size = ap (λ (x : Ground). x.size) ground in
             record {
               reads = read_pages_joined g v.reads reads;
@@ -225,17 +243,21 @@ module _ {S : Type 0} (g : Ghosts S) (place : Place) (start : S) where
               below = λ w i. let k = below w i in omega (arith, k, size);
               rest = λ told. (
                 (λ whole. (there told).rest.0 (next_there told whole)),
-                (λ r. (v.rest told).1 (rest_same (g.ground start) place.owner (g.working start) _ visits.parts.items _ visits.high _
+                (λ r. (v.rest told).1 (rest_same (g.ground start) place.owner
+                    (g.working start) _ visits.parts.items _ visits.high _
                     visits.seen.items (sym parts) high seen ((there told).rest.1 r))),
               );
               seen = λ told.
                   let t = there told in
                   let less = t.past.below in
                   let many = v.marks in
-                  subst (λ (s : List Bool). AreSeen (g.ground start).size s (steps + 1)) (sym t.seen)
+                  subst (λ (s : List Bool). AreSeen (g.ground start).size s (steps + 1))
+                  (sym t.seen)
                   (seen_more (g.ground start).size old.seen.items steps part.page
-                  (subst (λ (s : List Bool). AreSeen (g.ground start).size s steps) (sym seen) (v.seen told)) t.unseen less
-                  (subst (λ (s : List Bool). part.page < length s) (sym seen) (omega (arith, less, many))));
+                  (subst (λ (s : List Bool). AreSeen (g.ground start).size s steps) (sym seen)
+                  (v.seen told)) t.unseen less
+                  (subst (λ (s : List Bool). part.page < length s) (sym seen)
+                  (omega (arith, less, many))));
             }
 
       pub visiting_all : visits.parts.items ≡ [] → IsTrue g.tells
@@ -244,10 +266,14 @@ module _ {S : Type 0} (g : Ghosts S) (place : Place) (start : S) where
           let ground = g.ground start in
           let sheets = g.working start in (
             (λ whole. rest_seen ground place.owner sheets visits.high visits.seen.items
-                (subst (λ (ws : List Part). HasRest ground place.owner sheets ws visits.high visits.seen.items) none
+                (subst (λ (ws : List Part). HasRest ground place.owner sheets ws visits.high
+                visits.seen.items) none
                 ((v.rest told).0 whole))),
-            (λ all. (v.rest told).1 (subst (λ (ws : List Part). HasRest ground place.owner sheets ws visits.high visits.seen.items)
-                (sym none) (seen_rest ground place.owner sheets visits.high visits.seen.items all))),
+            (λ all. (v.rest told).1
+                (subst (λ (ws : List Part). HasRest ground place.owner sheets ws visits.high
+                visits.seen.items)
+                (sym none) (seen_rest ground place.owner sheets visits.high visits.seen.items
+                all))),
           )
 
       rest_steps : (parts : List Part) → visits.parts.items ≡ parts → (parts ≢ []) → IsTrue g.tells
@@ -264,4 +290,5 @@ module _ {S : Type 0} (g : Ghosts S) (place : Place) (start : S) where
           → EndsFile {T = T} g Whole start now (Err (Damaged n))
       visiting_lost n over some block =
           ends_shown g Whole start now n v.faults block
-          (λ w. let s = rest_steps visits.parts.items refl some w.1.told w in omega (arith, s, over))
+          (λ w. let s = rest_steps visits.parts.items refl some w.1.told w in
+          omega (arith, s, over))

@@ -90,7 +90,8 @@ module _ (page body key : List ℕ) (hi : Option (List ℕ)) (place child : ℕ)
       → (child ≡ child_for (first_of page) (branches_of page) key)
       × (hi ≡ bound_for (branches_of page) key hi)
   way_ended over inner =
-      let none = drop_all place (branches_of page) (omega (arith, over, counted, count_is page inner)) in (
+      let none = drop_all place (branches_of page)
+      (omega (arith, over, counted, count_is page inner)) in (
         ap (λ xs. child_for child xs key) (sym none) ∙ (w inner).child_is,
         ap (λ xs. bound_for xs key hi) (sym none) ∙ (w inner).bound_is,
       )

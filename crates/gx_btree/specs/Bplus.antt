@@ -9,7 +9,7 @@ use Rattle.gx_slots.specs.Page.{IsAscendingPage, next_of}
 use Rattle.gx_bnode.specs.Page.{IsInnerPage}
 use Rattle.gx_btree.specs.declared.reading.Shape.{Shape}
 use Rattle.gx_btree.specs.declared.reading.Shape.TheVariants as shape
-use Rattle.gx_btree.specs.Tree.{In, Tree, entries, pages, IsWhole}
+use Rattle.gx_btree.specs.Tree.{In, BplusTree, entries, pages, IsWhole}
 
 -- a page is written
 abbrev pub IsWritten : ℕ → List ℕ → Sheets → Sheets → Type 0
@@ -27,7 +27,7 @@ ArePast ground owner sheets = (page : ℕ) → IsOwned owner sheets page → IsP
 -- entries on them.
 pub record IsBplus (ground : Ground) (place : Place) (sheets : Sheets) (map : LeafMap) : Type 0
   where
-    pub tree : Tree
+    pub tree : BplusTree
     pub whole : IsWhole (bytes_at sheets) place.root tree
     pub past : (page : ℕ) → In page (pages tree) → IsPast ground page
     pub owned : (page : ℕ) → IsOwned place.owner sheets page ↔ In page (pages tree)

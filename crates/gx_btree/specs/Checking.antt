@@ -11,7 +11,7 @@ use Rattle.gx_btree.specs.declared.checking.Visits.{Visits}
 use Rattle.gx_btree.specs.declared.reading.Shape.{Shape}
 use Rattle.gx_btree.specs.declared.reading.Shape.TheVariants as shape
 use Rattle.gx_btree.specs.Bplus.{IsOwned}
-use Rattle.gx_btree.specs.Tree.{IsSome, In, Tree, page_of, entries, pages, Stands, Ordered, IsFilled}
+use Rattle.gx_btree.specs.Tree.{IsSome, In, BplusTree, page_of, entries, pages, Stands, Ordered, IsFilled}
 use Rattle.gx_btree.specs.Hole.{AreUnique}
 use Rattle.gx_btree.specs.Order.{IsUpTo, IsUnder}
 
@@ -31,7 +31,8 @@ low_of [] high = high
 low_of (part ∷ parts) high = Some part.low
 
 -- A tree stands at a part, with keys below a bound. None but the whole tree may be empty.
-pub record IsAtPart (at : ℕ → List ℕ) (part : Part) (high : Option (List ℕ)) (t : Tree) : Type 0
+pub record IsAtPart (at : ℕ → List ℕ) (part : Part) (high : Option (List ℕ))
+    (t : BplusTree) : Type 0
   where
     pub page_is : page_of t ≡ part.page
     pub stands : Stands at t
@@ -40,7 +41,7 @@ pub record IsAtPart (at : ℕ → List ℕ) (part : Part) (high : Option (List �
     pub bounds : (x : Entry) → In x (entries t) → IsUpTo part.low x.key × IsUnder x.key high
 
 -- trees stand at the parts, the keys of each before those of the next one
-abbrev pub AreAtParts : (ℕ → List ℕ) → List Part → Option (List ℕ) → List Tree → Type 0
+abbrev pub AreAtParts : (ℕ → List ℕ) → List Part → Option (List ℕ) → List BplusTree → Type 0
 AreAtParts at [] high [] = ⊤
 AreAtParts at [] high (t ∷ ts) = ⊥
 AreAtParts at (part ∷ parts) high [] = ⊥
@@ -48,7 +49,7 @@ AreAtParts at (part ∷ parts) high (t ∷ ts) =
     IsAtPart at part (low_of parts high) t × AreAtParts at parts high ts
 
 -- the pages of some trees
-abbrev pub pages_of : List Tree → List ℕ
+abbrev pub pages_of : List BplusTree → List ℕ
 pages_of [] = []
 pages_of (t ∷ ts) = pages t ++ pages_of ts
 
@@ -64,7 +65,7 @@ pub record AreLeft (ground : Ground) (owner : ℕ) (sheets : Sheets) (seen : Lis
 -- trees stand at the parts, with all pages of the owner that weren't seen yet
 pub record HasRest (ground : Ground) (owner : ℕ) (sheets : Sheets) (parts : List Part)
     (high : Option (List ℕ)) (seen : List Bool) : Type 0 where
-  pub trees : List Tree
+  pub trees : List BplusTree
   pub stand : AreAtParts (bytes_at sheets) parts high trees
   pub left : AreLeft ground owner sheets seen (pages_of trees)
 

@@ -4,11 +4,11 @@ use Rattle.gx_slots.specs.Entries.{Entry}
 use Rattle.gx_bnode.specs.Branches.{Branch}
 use Rattle.gx_bnode.specs.Page.{separators_in}
 use Rattle.gx_btree.specs.Order.{IsBelow, IsUpTo, IsUnder, IsOver, is_below}
-use Rattle.gx_btree.specs.Tree.{In, Tree, Kids, last, more, page_of, first_of, branches_of, entries, kids_entries, pages, kids_pages, Stands, AllStand, Ordered, AreOrdered, IsFilled, Apart, AreApart, IsWhole, child_for, bound_for, with_branch, without_from, without_branch, first_without}
+use Rattle.gx_btree.specs.Tree.{In, BplusTree, BplusKids, last, more, page_of, first_of, branches_of, entries, kids_entries, pages, kids_pages, Stands, AllStand, Ordered, AreOrdered, IsFilled, Apart, AreApart, IsWhole, child_for, bound_for, with_branch, without_from, without_branch, first_without}
 
 -- a tree that may stand where the keys from lo up to below hi belong, beside these pages
 pub record IsFitting (at : ℕ → List ℕ) (p : ℕ) (lo : List ℕ) (hi : Option (List ℕ))
-    (others : List ℕ) (t : Tree) : Type 0 where
+    (others : List ℕ) (t : BplusTree) : Type 0 where
   pub page_is : page_of t ≡ p
   pub stands : Stands at t
   pub ordered : Ordered t
@@ -27,7 +27,7 @@ Joins {A} xs ys zs = (x : A) → (In x xs → In x ys ⊎ In x zs) × (In x ys �
 -- children with these entries and pages, under a page that holds this
 pub record Has (at : ℕ → List ℕ) (first : ℕ) (branches : List Branch) (es rest : List Entry)
     (ps others : List ℕ) : Type 0 where
-  pub kids : Kids
+  pub kids : BplusKids
   pub first_is : first_of kids ≡ first
   pub branches_are : branches_of kids ≡ branches
   pub stand : AllStand at kids
@@ -37,12 +37,12 @@ pub record Has (at : ℕ → List ℕ) (first : ℕ) (branches : List Branch) (e
   pub pages_are : Joins (kids_pages kids) ps others
 
 -- there are two children or more
-abbrev pub AreMany : Kids → Type 0
+abbrev pub AreMany : BplusKids → Type 0
 AreMany (last t) = ⊥
 AreMany (more t s kids) = ⊤
 
 -- a tree may stand before these children, with a separator between
-pub record IsBefore (at : ℕ → List ℕ) (t : Tree) (s : List ℕ) (kids : Kids) : Type 0 where
+pub record IsBefore (at : ℕ → List ℕ) (t : BplusTree) (s : List ℕ) (kids : BplusKids) : Type 0 where
   pub stands : Stands at t
   pub ordered : Ordered t
   pub filled : IsFilled t
@@ -58,9 +58,10 @@ pub record IsWithin (high hi : Option (List ℕ)) : Type 0 where
 
 -- the child on the way to a key, what stands beside it, and what may take its place: one tree, or
 -- two with a separator between
-pub record KidHole (at : ℕ → List ℕ) (kids : Kids) (key lo : List ℕ) (hi : Option (List ℕ)) : Type 0
+pub record KidHole (at : ℕ → List ℕ) (kids : BplusKids) (key lo : List ℕ)
+    (hi : Option (List ℕ)) : Type 0
   where
-    pub kid : Tree
+    pub kid : BplusTree
     pub low : List ℕ
     pub high : Option (List ℕ)
     pub rest : List Entry
@@ -79,10 +80,10 @@ pub record KidHole (at : ℕ → List ℕ) (kids : Kids) (key lo : List ℕ) (hi
         → In s (separators_in (branches_of kids)) → is_below x s ≡ is_below key s
     pub entries_are : Joins (kids_entries kids) (entries kid) rest
     pub pages_are : Joins (kids_pages kids) (pages kid) others
-    pub one : (new : ℕ → List ℕ) (t : Tree) → Same others at new
+    pub one : (new : ℕ → List ℕ) (t : BplusTree) → Same others at new
         → IsFitting new (page_of kid) low high others t → IsFilled t
         → Has new (first_of kids) (branches_of kids) (entries t) rest (pages t) others
-    pub two : (new : ℕ → List ℕ) (l r : Tree) (s : List ℕ) → Same others at new
+    pub two : (new : ℕ → List ℕ) (l r : BplusTree) (s : List ℕ) → Same others at new
         → IsFitting new (page_of kid) low high others l → IsFilled l
         → IsFitting new (page_of r) low high others r → IsFilled r
         → ((q : ℕ) → In q (pages l) → In q (pages r) → ⊥)
@@ -95,7 +96,7 @@ pub record KidHole (at : ℕ → List ℕ) (kids : Kids) (key lo : List ℕ) (hi
     pub gone : (new : ℕ → List ℕ) → Same others at new → AreMany kids
         → Has new (first_without (first_of kids) (branches_of kids) key)
         (without_branch (branches_of kids) key) rest [] others []
-    pub gone_behind : (new : ℕ → List ℕ) (t : Tree) (s : List ℕ) → Same others at new
+    pub gone_behind : (new : ℕ → List ℕ) (t : BplusTree) (s : List ℕ) → Same others at new
         → IsBefore new t s kids
         → Has new (page_of t)
         (without_from (record { separator = s; child = first_of kids }) (branches_of kids) key)
@@ -104,7 +105,7 @@ pub record KidHole (at : ℕ → List ℕ) (kids : Kids) (key lo : List ℕ) (hi
 -- a whole tree around a subtree with these entries and pages
 pub record Around (at : ℕ → List ℕ) (root : ℕ) (es rest : List Entry) (ps others : List ℕ) : Type 0
   where
-    pub tree : Tree
+    pub tree : BplusTree
     pub whole : IsWhole at root tree
     pub entries_are : Joins (entries tree) es rest
     pub pages_are : Joins (pages tree) ps others
@@ -114,7 +115,8 @@ pub record Around (at : ℕ → List ℕ) (root : ℕ) (es rest : List Entry) (p
 pub record Hole (at : ℕ → List ℕ) (root p : ℕ) (lo : List ℕ) (hi : Option (List ℕ))
     (rest : List Entry) (others : List ℕ) : Type 0 where
   pub out : (x : Entry) → In x rest → IsBelow x.key lo ⊎ IsOver x.key hi
-  pub fill : (new : ℕ → List ℕ) (t : Tree) → Same others at new → IsFitting new p lo hi others t
+  pub fill : (new : ℕ → List ℕ) (t : BplusTree) → Same others at new
+      → IsFitting new p lo hi others t
       → IsFilled t → Around new root (entries t) rest (pages t) others
 
 -- no item stands twice
@@ -124,13 +126,14 @@ AreUnique (x ∷ xs) = (In x xs → ⊥) × AreUnique xs
 
 -- The search for a key has come to page p after so many steps, in a tree with the entries of the
 -- old one.
-pub record IsAtHand (at : ℕ → List ℕ) (owned : ℕ → Type 0) (root p : ℕ) (key : List ℕ) (old : Tree)
+pub record IsAtHand (at : ℕ → List ℕ) (owned : ℕ → Type 0) (root p : ℕ) (key : List ℕ)
+    (old : BplusTree)
     (steps : ℕ) : Type 0 where
   pub lo : List ℕ
   pub hi : Option (List ℕ)
   pub rest : List Entry
   pub others : List ℕ
-  pub subtree : Tree
+  pub subtree : BplusTree
   pub hole : Hole at root p lo hi rest others
   pub fits : IsFitting at p lo hi others subtree
   pub from : IsUpTo lo key

@@ -13,17 +13,18 @@ has_entries owner sheets page =
     (slice_index_or sheets.owners page 0 == owner) &&
     (slice_index_or (bytes_at sheets page) 0 0 == 0x44)
 
-abbrev pub entries_if_owned : ℕ → Sheets → ℕ → List Entry
-entries_if_owned owner sheets page =
+abbrev pub tree_entries_on : ℕ → Sheets → ℕ → List Entry
+tree_entries_on owner sheets page =
     if has_entries owner sheets page then entries_of (bytes_at sheets page) else []
 
 -- the entries on those of the first pages that are entry pages of the owner
-abbrev pub owned_entries : ℕ → Sheets → ℕ → List Entry
-owned_entries owner sheets zero = []
-owned_entries owner sheets (suc n) = entries_if_owned owner sheets n ++ owned_entries owner sheets n
+abbrev pub tree_entries_below : ℕ → Sheets → ℕ → List Entry
+tree_entries_below owner sheets zero = []
+tree_entries_below owner sheets (suc n) =
+    tree_entries_on owner sheets n ++ tree_entries_below owner sheets n
 
 -- the entries on all entry pages of the owner
 abbrev pub bplus_map : Ground → Place → Sheets → LeafMap
 bplus_map base place sheets =
     from_entries
-    (map (λ e. (e.key, e.body)) (owned_entries place.owner sheets (length sheets.owners)))
+    (map (λ e. (e.key, e.body)) (tree_entries_below place.owner sheets (length sheets.owners)))

@@ -2,11 +2,12 @@
 use Rattle.std.specs.Prelude.{◌≡◌, ℕ, List, Option, Some}
 use Rattle.gx_slots.specs.Entries.{Entry}
 use Rattle.gx_btree.specs.Order.{IsUpTo, IsUnder}
-use Rattle.gx_btree.specs.Tree.{In, Tree, entries, separators}
+use Rattle.gx_btree.specs.Tree.{In, BplusTree, entries, separators}
 
 -- These are the entries of a tree from the page on the way to a key, and the nearest separator
 -- behind it.
-pub record IsFound (tree : Tree) (key : List ℕ) (bound : Option (List ℕ)) (es : List Entry) : Type 0
+pub record IsFound (tree : BplusTree) (key : List ℕ) (bound : Option (List ℕ))
+    (es : List Entry) : Type 0
   where
     pub among : (x : Entry) → In x es → In x (entries tree)
     pub under : (x : Entry) → In x es → IsUnder x.key bound

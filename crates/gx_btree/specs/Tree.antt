@@ -1,61 +1,57 @@
 -- A B+ tree as a plain value, and the pages that hold it.
-use Rattle.std.specs.Prelude.{◌≡◌, ◌⊎◌, ◌++◌, ℕ, List, [], ◌∷◌, Option, Some, if◌then◌else◌, ⊤}
+use Rattle.std.specs.Prelude.{◌≡◌, ◌++◌, ℕ, List, [], ◌∷◌, Option, Some, if◌then◌else◌, ⊤}
 use Rattle.gx_bytes.specs.declared.page.TheConstants.{NONE}
+pub use Rattle.gx_laws.specs.Members.{In}
 use Rattle.gx_slots.specs.Entries.{Entry}
 use Rattle.gx_slots.specs.Page as slots
 use Rattle.gx_bnode.specs.Branches.{Branch}
 use Rattle.gx_bnode.specs.Page as bnode
 use Rattle.gx_btree.specs.Order.{IsBelow, IsUpTo, is_below}
 
--- x is one of the items
-abbrev pub In : {A : Type 0} → A → List A → Type 0
-In x [] = ⊥
-In x (y ∷ ys) = (x ≡ y) ⊎ In x ys
-
 -- there is an entry
 abbrev pub IsSome : List Entry → Type 0
 IsSome es = (x : Entry) × In x es
 
 mutual
-  pub data Tree : Type 0 where
-    leaf : ℕ → List Entry → Tree
-    node : ℕ → Kids → Tree
+  pub data BplusTree : Type 0 where
+    leaf : ℕ → List Entry → BplusTree
+    node : ℕ → BplusKids → BplusTree
 
   -- one child at least, with separators between
-  pub data Kids : Type 0 where
-    last : Tree → Kids
-    more : Tree → List ℕ → Kids → Kids
+  pub data BplusKids : Type 0 where
+    last : BplusTree → BplusKids
+    more : BplusTree → List ℕ → BplusKids → BplusKids
 
 -- the page at the top
-abbrev pub page_of : Tree → ℕ
+abbrev pub page_of : BplusTree → ℕ
 page_of (leaf p es) = p
 page_of (node p kids) = p
 
-abbrev pub first_of : Kids → ℕ
+abbrev pub first_of : BplusKids → ℕ
 first_of (last t) = page_of t
 first_of (more t s kids) = page_of t
 
-abbrev pub branches_of : Kids → List Branch
+abbrev pub branches_of : BplusKids → List Branch
 branches_of (last t) = []
 branches_of (more t s kids) = record { separator = s; child = first_of kids } ∷ branches_of kids
 
 -- the entries, from left to right
 abbrev mutual
-  pub entries : Tree → List Entry
+  pub entries : BplusTree → List Entry
   entries (leaf p es) = es
   entries (node p kids) = kids_entries kids
 
-  pub kids_entries : Kids → List Entry
+  pub kids_entries : BplusKids → List Entry
   kids_entries (last t) = entries t
   kids_entries (more t s kids) = entries t ++ kids_entries kids
 
 -- the pages, each as often as it stands in the tree
 abbrev mutual
-  pub pages : Tree → List ℕ
+  pub pages : BplusTree → List ℕ
   pages (leaf p es) = p ∷ []
   pages (node p kids) = p ∷ kids_pages kids
 
-  pub kids_pages : Kids → List ℕ
+  pub kids_pages : BplusKids → List ℕ
   kids_pages (last t) = pages t
   kids_pages (more t s kids) = pages t ++ kids_pages kids
 
@@ -68,11 +64,11 @@ ShowsInner bytes first branches = bnode.IsPageOf first branches bytes
 
 -- the pages hold the tree
 abbrev mutual
-  pub Stands : (ℕ → List ℕ) → Tree → Type 0
+  pub Stands : (ℕ → List ℕ) → BplusTree → Type 0
   Stands at (leaf p es) = ShowsEntries (at p) es
   Stands at (node p kids) = ShowsInner (at p) (first_of kids) (branches_of kids) × AllStand at kids
 
-  pub AllStand : (ℕ → List ℕ) → Kids → Type 0
+  pub AllStand : (ℕ → List ℕ) → BplusKids → Type 0
   AllStand at (last t) = Stands at t
   AllStand at (more t s kids) = Stands at t × AllStand at kids
 
@@ -81,17 +77,17 @@ abbrev pub Ascending : List Entry → Type 0
 Ascending [] = ⊤
 Ascending (x ∷ xs) = ((y : Entry) → In y xs → IsBelow x.key y.key) × Ascending xs
 
-abbrev pub IsFilled : Tree → Type 0
+abbrev pub IsFilled : BplusTree → Type 0
 IsFilled t = (x : Entry) × In x (entries t)
 
 -- the keys of each entry page ascend, each child has one, and the separators stand between those of
 -- the children
 abbrev mutual
-  pub Ordered : Tree → Type 0
+  pub Ordered : BplusTree → Type 0
   Ordered (leaf p es) = Ascending es
   Ordered (node p kids) = AreOrdered kids
 
-  pub AreOrdered : Kids → Type 0
+  pub AreOrdered : BplusKids → Type 0
   AreOrdered (last t) = Ordered t × IsFilled t
   AreOrdered (more t s kids) =
       Ordered t × IsFilled t × ((x : Entry) → In x (entries t) → IsBelow x.key s)
@@ -99,24 +95,24 @@ abbrev mutual
 
 -- no page stands twice in the tree
 abbrev mutual
-  pub Apart : Tree → Type 0
+  pub Apart : BplusTree → Type 0
   Apart (leaf p es) = ⊤
   Apart (node p kids) = (In p (kids_pages kids) → ⊥) × AreApart kids
 
-  pub AreApart : Kids → Type 0
+  pub AreApart : BplusKids → Type 0
   AreApart (last t) = Apart t
   AreApart (more t s kids) =
       Apart t × ((q : ℕ) → In q (pages t) → In q (kids_pages kids) → ⊥) × AreApart kids
 
 -- the pages hold this tree, with its top at the root, in order and each page once
-pub record IsWhole (at : ℕ → List ℕ) (root : ℕ) (t : Tree) : Type 0 where
+pub record IsWhole (at : ℕ → List ℕ) (root : ℕ) (t : BplusTree) : Type 0 where
   pub root_is : page_of t ≡ root
   pub stands : Stands at t
   pub ordered : Ordered t
   pub apart : Apart t
 
 -- the pages that belong to the tree are exactly its own
-abbrev pub Owns : (ℕ → Type 0) → Tree → Type 0
+abbrev pub Owns : (ℕ → Type 0) → BplusTree → Type 0
 Owns owned t = (q : ℕ) → (owned q → In q (pages t)) × (In q (pages t) → owned q)
 
 -- the child on the way to a key
@@ -154,10 +150,10 @@ first_without first (b ∷ bs) key = if is_below key b.separator then b.child el
 
 -- the separators
 abbrev mutual
-  pub separators : Tree → List (List ℕ)
+  pub separators : BplusTree → List (List ℕ)
   separators (leaf p es) = []
   separators (node p kids) = kids_separators kids
 
-  pub kids_separators : Kids → List (List ℕ)
+  pub kids_separators : BplusKids → List (List ℕ)
   kids_separators (last t) = separators t
   kids_separators (more t s kids) = s ∷ (separators t ++ kids_separators kids)

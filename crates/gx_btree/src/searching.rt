@@ -1,5 +1,5 @@
 // The entry page on the way to a key.
-ghost use Rattle.std.specs.Prelude.{◌≡◌, length, IsTrue, OnOk, IfOk, IsErrOf, IsSomeAnd};
+ghost use Rattle.std.specs.Prelude.{◌≡◌, length, OnOk, IfOk, IsErrOf, IsSomeAnd};
 ghost use Rattle.gx_ports.specs.Files.{IsPlace, Holds, EndsFile, IsWhole};
 ghost use Rattle.gx_ports.specs.declared.kinds.LeafKind.TheVariants as kinds;
 ghost use Rattle.gx_bytes.specs.declared.page.TheConstants.{PAGE_LEN};

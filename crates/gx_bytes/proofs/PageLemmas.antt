@@ -26,7 +26,8 @@ eight_first bytes long =
     ∙ ap (λ (xs : List ℕ). get_or bytes 3 0 ∷ xs) (drop_more bytes 4 0 (omega arith)
     ∙ ap (λ (xs : List ℕ). get_or bytes 4 0 ∷ xs) (drop_more bytes 5 0 (omega arith)
     ∙ ap (λ (xs : List ℕ). get_or bytes 5 0 ∷ xs)
-    (drop_more bytes 6 0 (omega arith) ∙ ap (λ (xs : List ℕ). get_or bytes 6 0 ∷ xs) (drop_more bytes 7 0 (omega arith))))))))
+    (drop_more bytes 6 0 (omega arith)
+    ∙ ap (λ (xs : List ℕ). get_or bytes 6 0 ∷ xs) (drop_more bytes 7 0 (omega arith))))))))
 
 module _ {R : Type 0} {written : R → List ℕ} {first : List ℕ → R} {Fits : R → Type 0} {size : R → ℕ}
     (format : IsFormat written first Fits size) where
@@ -86,7 +87,8 @@ module _ {R : Type 0} {written : R → List ℕ} {first : List ℕ → R} {Fits 
       let top : kind ∷ 0 ∷ (counts ++ (numbers ++ body)) ≡ header kind (length rs) number ++ body =
       ap₂ (λ (a b : List ℕ). kind ∷ 0 ∷ (a ++ (b ++ body)))
       (sym count_bytes ∙ ap (to_be_bytes w16) (sym same)) (sym number_bytes) in
-      let page : IsRecordPage written Fits kind rs number bytes = record { size = whole; number_fits = omega (arith, small 4, small 5, small 6, small 7); body = body; is = parts ∙ top; holds = holds } in
+      let page : IsRecordPage written Fits kind rs number bytes =
+      record { size = whole; number_fits = omega (arith, small 4, small 5, small 6, small 7); body = body; is = parts ∙ top; holds = holds } in
       subst (λ (n : ℕ). IsRecordPage written Fits kind rs n bytes) (sym number_is) page
     where
       two_small : (a b : ℕ) → a < 256 → b < 256 → (i : ℕ) → get_or (a ∷ b ∷ []) i 0 < 256
@@ -270,7 +272,8 @@ module _ {R : Type 0} {written : R → List ℕ} {first : List ℕ → R} {Fits 
       let put_to : put ≡ (top ++ front) ++ (written r ++ (back ++ drop len rest)) =
       put_is ∙ ap (λ (b : List ℕ). overwritten b at (written r)) moved_to
       ∙ overwritten-same (top ++ front) gap (written r) (back ++ drop len rest) at here gap_len in
-      let joined : (top ++ front) ++ (written r ++ (back ++ drop len rest)) ≡ top ++ (flat_map written (insert rs i r) ++ drop len rest) =
+      let joined : (top ++ front) ++ (written r ++ (back ++ drop len rest)) ≡ top
+      ++ (flat_map written (insert rs i r) ++ drop len rest) =
       append_assoc top front (written r ++ (back ++ drop len rest))
       ∙ ap (λ (b : List ℕ). top ++ b) (ap (λ (b : List ℕ). front ++ b)
       (sym (append_assoc (written r) back (drop len rest)))
@@ -316,10 +319,12 @@ module _ {R : Type 0} {written : R → List ℕ} {first : List ℕ → R} {Fits 
       ∙ ap (λ (n : ℕ). copy_within ((top ++ front) ++ (written gone ++ (back ++ rest)))
       (at + length (written gone)) n at) end_at
       ∙ moved_down (top ++ front) (written gone) back rest at here in
-      let joined : (top ++ front) ++ (back ++ left) ≡ top ++ (flat_map written (remove rs i) ++ left) =
+      let joined : (top ++ front) ++ (back ++ left) ≡ top
+      ++ (flat_map written (remove rs i) ++ left) =
       append_assoc top front (back ++ left)
       ∙ ap (λ (b : List ℕ). top ++ b)
-      (sym (append_assoc front back left) ∙ ap (λ (b : List ℕ). b ++ left) (sym (flat_map-remove format rs i))) in
+      (sym (append_assoc front back left)
+      ∙ ap (λ (b : List ℕ). b ++ left) (sym (flat_map-remove format rs i))) in
       let fits = All-append Fits (take i rs) (drop (suc i) rs) (All-take Fits i rs page.holds.fit)
       (All-drop Fits (suc i) rs page.holds.fit) in
       let count : length rs - 1 ≡ length (remove rs i) = omega (arith, length-remove rs i below) in

@@ -81,11 +81,14 @@ overwritten-overwritten bytes at next part more here room =
     ap (λ (n : ℕ). drop (n + length more) (front ++ (part ++ back))) here
     ∙ sym (drop-drop (length more) (at + length part) (front ++ (part ++ back)))
     ∙ ap (drop (length more))
-    (sym (drop-drop (length part) at (front ++ (part ++ back))) ∙ ap (drop (length part)) (drop_at front (part ++ back) at front_len) ∙ drop_at part back (length part) refl) in
+    (sym (drop-drop (length part) at (front ++ (part ++ back)))
+    ∙ ap (drop (length part)) (drop_at front (part ++ back) at front_len)
+    ∙ drop_at part back (length part) refl) in
     let behind : drop (length more) back ≡ drop (at + length (part ++ more)) bytes =
     drop-drop (length more) (at + length part) bytes
     ∙ ap (λ (n : ℕ). drop n bytes)
-    (let n : at + length part + length more ≡ at + length (part ++ more) = omega (arith, length-append part more) in n) in
+    (let n : at + length part + length more ≡ at + length (part ++ more) =
+    omega (arith, length-append part more) in n) in
     ap₂ (λ (xs ys : List ℕ). xs ++ (more ++ ys)) taken (dropped ∙ behind)
     ∙ append_assoc front part (more ++ drop (at + length (part ++ more)) bytes)
     ∙ ap (λ (xs : List ℕ). front ++ xs)

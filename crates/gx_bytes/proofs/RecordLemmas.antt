@@ -100,7 +100,8 @@ module _ {R : Type 0} {written : R → List ℕ} {first : List ℕ → R} {Fits 
   holds_behind r found rs bytes behind holds fit is =
       let same = first_same r found rs bytes behind holds fit is in
       let tail = append_cancel_left (written r) behind (flat_map written rs ++ holds.rest)
-      (ap (λ (x : R). written x ++ behind) (sym same) ∙ sym is ∙ holds.is ∙ append_assoc (written r) (flat_map written rs) holds.rest) in
+      (ap (λ (x : R). written x ++ behind) (sym same) ∙ sym is ∙ holds.is
+      ∙ append_assoc (written r) (flat_map written rs) holds.rest) in
       record { fit = All-tail Fits r rs holds.fit; rest = holds.rest; is = tail }
 
   -- so one is split off
@@ -118,7 +119,8 @@ module _ {R : Type 0} {written : R → List ℕ} {first : List ℕ → R} {Fits 
     go : (rs : List R) → length rs ≡ n → HoldsRecords written Fits rs bytes
         → HoldsRecordCount written Fits (n - 1) behind
     go [] count holds = absurd (omega arith)
-    go (r ∷ rs) count holds = record { held = rs; count = omega arith; holds = holds_behind r found rs bytes behind holds fit is }
+    go (r ∷ rs) count holds =
+        record { held = rs; count = omega arith; holds = holds_behind r found rs bytes behind holds fit is }
 
   pub length-records : (n : ℕ) (bytes : List ℕ) → length (records written first n bytes) ≡ n
   length-records zero bytes = refl
@@ -157,11 +159,13 @@ module _ {R : Type 0} {written : R → List ℕ} {first : List ℕ → R} {Fits 
 
   pub holds_take : (i : ℕ) (rs : List R) (bytes : List ℕ) → HoldsRecords written Fits rs bytes
       → HoldsRecords written Fits (take i rs) bytes
-  holds_take i rs bytes holds = record { fit = All-take Fits i rs holds.fit; rest = flat_map written (drop i rs) ++ holds.rest; is = holds_parts i rs bytes holds }
+  holds_take i rs bytes holds =
+      record { fit = All-take Fits i rs holds.fit; rest = flat_map written (drop i rs) ++ holds.rest; is = holds_parts i rs bytes holds }
 
   pub count_take : (i : ℕ) (rs : List R) (bytes : List ℕ) → HoldsRecords written Fits rs bytes
       → i ≤ length rs → HoldsRecordCount written Fits i bytes
-  count_take i rs bytes holds within = record { held = take i rs; count = length-take-le i rs within; holds = holds_take i rs bytes holds }
+  count_take i rs bytes holds within =
+      record { held = take i rs; count = length-take-le i rs within; holds = holds_take i rs bytes holds }
 
   pub records-take : (i : ℕ) (rs : List R) (bytes : List ℕ) → HoldsRecords written Fits rs bytes
       → i ≤ length rs → records written first i bytes ≡ take i rs
@@ -253,7 +257,8 @@ module _ {R : Type 0} {written : R → List ℕ} {first : List ℕ → R} {Fits 
       let len =
       ap length is ∙ length-append (written found) behind
       ∙ ap (λ (x : R). length (written x) + length behind) same in
-      let before = ap (λ (xs : List R). length (flat_map written xs)) (take_more rs i found below) ∙ ap length (flat_map-append written (take i rs) (r ∷ []))
+      let before = ap (λ (xs : List R). length (flat_map written xs)) (take_more rs i found below)
+      ∙ ap length (flat_map-append written (take i rs) (r ∷ []))
       ∙ length-append (flat_map written (take i rs)) (flat_map written (r ∷ []))
       ∙ ap (λ (xs : List ℕ). length (flat_map written (take i rs)) + length xs)
       (append-nil (written r)) in

@@ -60,7 +60,8 @@ linked_push s t first (q ∷ qs) last fresh each page hung new_page none l =
       l.0,
       here.0,
       subst (λ n. AreLinked t n ((qs ++ last ∷ []) ++ fresh ∷ [])) (sym here.1)
-          (linked_push s t (next_at s q) qs last fresh (λ r c. each r (contains_later q r qs c)) page hung new_page none l.2),
+          (linked_push s t (next_at s q) qs last fresh (λ r c. each r (contains_later q r qs c))
+          page hung new_page none l.2),
     )
 
 -- a chain stays where its pages do
@@ -70,14 +71,16 @@ module _ (ground : Ground) (owner first : ℕ) (s t : Sheets) (pages : List ℕ)
   same_on k b on = record {
     page = on.page;
     among = on.among;
-    here = subst (λ (x : List ℕ). Contains (entries_of x) (record { key = k; body = b })) (sym (same on.page on.among)) on.here;
+    here = subst (λ (x : List ℕ). Contains (entries_of x) (record { key = k; body = b }))
+        (sym (same on.page on.among)) on.here;
   }
 
   pub same_on_back : (k b : List ℕ) → IsOn t pages k b → IsOn s pages k b
   same_on_back k b on = record {
     page = on.page;
     among = on.among;
-    here = subst (λ (x : List ℕ). Contains (entries_of x) (record { key = k; body = b })) (same on.page on.among) on.here;
+    here = subst (λ (x : List ℕ). Contains (entries_of x) (record { key = k; body = b }))
+        (same on.page on.among) on.here;
   }
 
   pub same_chain : ((q : ℕ) → Contains pages q → slice_get t.owners q ≡ Some owner)
@@ -93,7 +96,8 @@ module _ (ground : Ground) (owner first : ℕ) (s t : Sheets) (pages : List ℕ)
       apart = λ q r k b c in_q in_r at_q at_r. chain.fit.apart q r k b c in_q in_r
           (subst (λ (x : List ℕ). Contains (entries_of x) (record { key = k; body = b }))
           (same q in_q) at_q)
-          (subst (λ (x : List ℕ). Contains (entries_of x) (record { key = k; body = c })) (same r in_r) at_r);
+          (subst (λ (x : List ℕ). Contains (entries_of x) (record { key = k; body = c }))
+          (same r in_r) at_r);
     };
   }
 
@@ -125,7 +129,8 @@ module _ (ground : Ground) (owner : ℕ) (s t : Sheets) (first : ℕ) (pages : L
   pub rewritten_chain : (p ≢ first → es ≢ [])
       → ((k b : List ℕ) → Contains es (record { key = k; body = b })
       → ((c : List ℕ) × Contains (entries_at s p) (record { key = k; body = c }))
-      ⊎ ((q : ℕ) (c : List ℕ) → Contains pages q → Contains (entries_at s q) (record { key = k; body = c }) → ⊥))
+      ⊎ ((q : ℕ) (c : List ℕ) → Contains pages q
+      → Contains (entries_at s q) (record { key = k; body = c }) → ⊥))
       → IsChain ground owner t first pages
   rewritten_chain full keys = record {
     linked = relink s t first pages (λ q c. linked_anew q) chain.linked;
@@ -133,7 +138,8 @@ module _ (ground : Ground) (owner : ℕ) (s t : Sheets) (first : ℕ) (pages : L
       once = chain.fit.once;
       past = chain.fit.past;
       owned =
-          λ q c. subst (λ (o : List ℕ). slice_get o q ≡ Some owner) (sym w.owners) (chain.fit.owned q c);
+          λ q c. subst (λ (o : List ℕ). slice_get o q ≡ Some owner) (sym w.owners)
+          (chain.fit.owned q c);
       filled = λ q c d none. elim (cases_eq q p) [
         | inl e ↦ full (λ f. d (e ∙ f)) (sym w.entries_are ∙ ap (entries_at t) (sym e) ∙ none)
         | inr o ↦ chain.fit.filled q c d (sym (ap entries_of (same_at q o)) ∙ none)
@@ -177,7 +183,8 @@ module _ (ground : Ground) (owner : ℕ) (s t : Sheets) (first : ℕ) (pages : L
       | inr d ↦ (let here = to_old on.page _ d on.here in
           inr (
             λ same. absent on.page b d on.among
-                (subst (λ (x : List ℕ). Contains (entries_at s on.page) (record { key = x; body = b })) same here),
+                (subst (λ (x : List ℕ). Contains (entries_at s on.page)
+                (record { key = x; body = b })) same here),
             record { page = on.page; among = on.among; here = here },
           ))
     ],
@@ -185,7 +192,8 @@ module _ (ground : Ground) (owner : ℕ) (s t : Sheets) (first : ℕ) (pages : L
       | inl here ↦ record {
         page = p;
         among = among;
-        here = subst (λ (x : List Entry). Contains x (record { key = k; body = b })) (sym w.entries_are) (from k b (inl here));
+        here = subst (λ (x : List Entry). Contains x (record { key = k; body = b }))
+            (sym w.entries_are) (from k b (inl here));
       }
       | inr old ↦ elim (cases_eq old.1.page p) [
         | inl e ↦ record {

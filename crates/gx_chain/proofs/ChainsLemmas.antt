@@ -49,8 +49,10 @@ pub below_from : (pages : ℕ → List ℕ) (n i q : ℕ) → i < n → Contains
     → Contains (pages_below pages n) q
 below_from pages zero i q less c = absurd (omega (arith, less))
 below_from pages (suc n) i q less c = elim (cases_eq i n) [
-  | inl e ↦ Contains-append_right (pages_below pages n) (pages n) q (subst (λ m. Contains (pages m) q) e c)
-  | inr d ↦ Contains-append_left (pages_below pages n) (pages n) q (below_from pages n i q (omega (arith, less, d)) c)
+  | inl e ↦ Contains-append_right (pages_below pages n) (pages n) q
+      (subst (λ m. Contains (pages m) q) e c)
+  | inr d ↦ Contains-append_left (pages_below pages n) (pages n) q
+      (below_from pages n i q (omega (arith, less, d)) c)
 ]
 
 pub on_below : (s : Sheets) (pages : ℕ → List ℕ) (n : ℕ) (k b : List ℕ)
@@ -64,7 +66,8 @@ on_below s pages n k b = (
 
 -- what the chains have, the pages in the list have
 pub map_below : (s : Sheets) (pages : ℕ → List ℕ) (count : ℕ) (map : LeafMap)
-    → ((k b : List ℕ) → (fin.get map k ≡ Some b) ↔ IsOnChain s pages count k b) → (k b : List ℕ) → (fin.get map k ≡ Some b)
+    → ((k b : List ℕ) → (fin.get map k ≡ Some b) ↔ IsOnChain s pages count k b) → (k b : List ℕ)
+    → (fin.get map k ≡ Some b)
     ↔ IsOn s (pages_below pages count) k b
 map_below s pages count map there k b =
     let both = on_below s pages count k b in (
@@ -78,7 +81,8 @@ pairs_joined : (xs ys : List ℕ) → AllPairs (λ a b. a ≢ b) xs → AllPairs
     → ((q : ℕ) → Contains xs q → Contains ys q → ⊥) → AllPairs (λ a b. a ≢ b) (xs ++ ys)
 pairs_joined [] ys one two off = two
 pairs_joined (x ∷ xs) ys one two off = pairs_cons x (xs ++ ys)
-    (λ c. elim (Contains-append_cases xs ys x c) [ inl here ↦ pairs_head x xs one here | inr there ↦ off x (0, omega arith, refl) there ])
+    (λ c. elim (Contains-append_cases xs ys x c)
+    [ inl here ↦ pairs_head x xs one here | inr there ↦ off x (0, omega arith, refl) there ])
     (pairs_joined xs ys (pairs_tail x xs one) two
     (λ q in_x in_y. off q (contains_later x q xs in_x) in_y))
 

@@ -46,7 +46,8 @@ has_inserted (x ∷ xs) v k =
     → has_key (match_ordering r (v ∷ x ∷ xs) (x ∷ xs) (x ∷ insert_key vec_cmp xs v)) k
     ≡ (eq_by_cmp key_cmp k v.items || has_key (x ∷ xs) k)) [
       | Less ↦ λ _. refl
-      | Equal ↦ λ e. doubled (eq_by_cmp key_cmp k v.items) (eq_by_cmp key_cmp k x.items) (has_key xs k)
+      | Equal ↦ λ e. doubled (eq_by_cmp key_cmp k v.items) (eq_by_cmp key_cmp k x.items)
+          (has_key xs k)
           (ap (eq_by_cmp key_cmp k) (only_equal v.items x.items e))
       | Greater ↦ λ _. ap (λ b. eq_by_cmp key_cmp k x.items || b) (has_inserted xs v k)
           ∙ moved (eq_by_cmp key_cmp k x.items) (eq_by_cmp key_cmp k v.items) (has_key xs k)
@@ -55,7 +56,8 @@ has_inserted (x ∷ xs) v k =
 -- ---- the keys of entries are added
 
 head_apart : (y e : Entry) (xs : List Entry) → AreDistinct (y ∷ xs) → Contains xs e → y.key ≢ e.key
-head_apart y e xs d c = let below = c.1 in λ same. d 0 (suc c.0) e (omega arith) (omega arith) (same ∙ ap (λ (x : Entry). x.key) (sym c.2))
+head_apart y e xs d c = let below = c.1 in
+    λ same. d 0 (suc c.0) e (omega arith) (omega arith) (same ∙ ap (λ (x : Entry). x.key) (sym c.2))
 
 distinct_tail : (y : Entry) (xs : List Entry) → AreDistinct (y ∷ xs) → AreDistinct xs
 distinct_tail y xs d i j z less below = d (suc i) (suc j) z (omega arith) (omega arith)
@@ -64,7 +66,8 @@ distinct_before : (done : List Entry) (e x : Entry) (rest : List Entry)
     → AreDistinct (done ++ e ∷ rest) → Contains done x → x.key ≢ e.key
 distinct_before [] e x rest d c = absurd (contains_none x c)
 distinct_before (y ∷ ys) e x rest d c = elim (contains_cases y x ys c) [
-  | inl same ↦ λ eq. head_apart y e (ys ++ e ∷ rest) d (contains_middle ys e rest) (ap (λ (z : Entry). z.key) same ∙ eq)
+  | inl same ↦ λ eq. head_apart y e (ys ++ e ∷ rest) d (contains_middle ys e rest)
+      (ap (λ (z : Entry). z.key) same ∙ eq)
   | inr later ↦ distinct_before ys e x rest (distinct_tail y (ys ++ e ∷ rest) d) later
 ]
 
@@ -77,10 +80,11 @@ added_none old = record {
 module _ (done : List Entry) (e : Entry) (old mid : List (Vec ℕ)) (h : HasAddedKeys done old mid)
     (v : Vec ℕ) (is : v.items ≡ e.key) where
   key_cases : (key : List ℕ) → IsKeyOf (done ++ e ∷ []) key → IsKeyOf done key ⊎ (key ≡ e.key)
-  key_cases key among = elim (Contains-push_cases done e (record { key = key; body = among.0 }) among.1) [
-    | inl before ↦ inl (among.0, before)
-    | inr same ↦ inr (sym (ap (λ (x : Entry). x.key) same))
-  ]
+  key_cases key among = elim (Contains-push_cases done e (record { key = key; body = among.0 })
+      among.1) [
+        | inl before ↦ inl (among.0, before)
+        | inr same ↦ inr (sym (ap (λ (x : Entry). x.key) same))
+      ]
 
   added_more : (new : List (Vec ℕ)) → has_key mid v.items ≡ false → new ≡ insert_key vec_cmp mid v
       → HasAddedKeys (done ++ e ∷ []) old new
@@ -91,27 +95,33 @@ module _ (done : List Entry) (e : Entry) (old mid : List (Vec ℕ)) (h : HasAdde
       record {
         fresh = λ key among was. elim (key_cases key among) [
           | inl before ↦ h.fresh key before was
-          | inr same ↦ false≢true (sym absent ∙ (ap (has_key mid) (is ∙ sym same) ∙ (h.those key).1 (inr was)))
+          | inr same ↦ false≢true (sym absent
+              ∙ (ap (has_key mid) (is ∙ sym same) ∙ (h.those key).1 (inr was)))
         ];
         those = λ key. (
-          λ now. elim (or_cases (eq_by_cmp key_cmp key v.items) (has_key mid key) (sym (has key) ∙ now)) [
-            | inl same ↦ inl (
-              e.body,
-              subst (λ (k : List ℕ). Contains (done ++ e ∷ []) (record { key = k; body = e.body }))
-                  (sym (same_key key v.items same ∙ is)) (Contains-push done e),
-            )
-            | inr was ↦ elim ((h.those key).0 was) [
-              | inl before ↦ inl (before.0, Contains-append_left done (e ∷ []) (record { key = key; body = before.0 }) before.1)
-              | inr first ↦ inr first
-            ]
-          ],
+          λ now. elim (or_cases (eq_by_cmp key_cmp key v.items) (has_key mid key) (sym (has key)
+              ∙ now)) [
+                | inl same ↦ inl (
+                  e.body,
+                  subst (λ (k : List ℕ). Contains (done ++ e ∷ [])
+                      (record { key = k; body = e.body }))
+                      (sym (same_key key v.items same ∙ is)) (Contains-push done e),
+                )
+                | inr was ↦ elim ((h.those key).0 was) [
+                  | inl before ↦ inl (before.0, Contains-append_left done (e ∷ []) (record { key = key; body = before.0 }) before.1)
+                  | inr first ↦ inr first
+                ]
+              ],
           λ c. has key ∙ elim c [
             | inl among ↦ elim (key_cases key among) [
-              | inl before ↦ or_right (eq_by_cmp key_cmp key v.items) (has_key mid key) ((h.those key).1 (inl before))
+              | inl before ↦ or_right (eq_by_cmp key_cmp key v.items) (has_key mid key)
+                  ((h.those key).1 (inl before))
               | inr same ↦ or_left (eq_by_cmp key_cmp key v.items) (has_key mid key)
-                  (subst (λ (k : List ℕ). eq_by_cmp key_cmp k v.items ≡ true) (is ∙ sym same) (tied v.items))
+                  (subst (λ (k : List ℕ). eq_by_cmp key_cmp k v.items ≡ true) (is ∙ sym same)
+                  (tied v.items))
             ]
-            | inr first ↦ or_right (eq_by_cmp key_cmp key v.items) (has_key mid key) ((h.those key).1 (inr first))
+            | inr first ↦ or_right (eq_by_cmp key_cmp key v.items) (has_key mid key)
+                ((h.those key).1 (inr first))
           ],
         );
       }
@@ -120,10 +130,12 @@ module _ (done : List Entry) (e : Entry) (old mid : List (Vec ℕ)) (h : HasAdde
       → has_key mid v.items ≡ true → SharesKey entries old
   shares entries rest all distinct has =
       let among : IsKeyOf entries e.key =
-      (e.body, subst (λ (es : List Entry). Contains es e) (sym all) (contains_middle done e rest)) in
+      (e.body, subst (λ (es : List Entry). Contains es e) (sym all) (contains_middle done e rest))
+      in
       elim ((h.those e.key).0 (ap (has_key mid) (sym is) ∙ has)) [
         | inl before ↦
-            absurd (distinct_before done e (record { key = e.key; body = before.0 }) rest (subst AreDistinct all distinct) before.1 refl)
+            absurd (distinct_before done e (record { key = e.key; body = before.0 }) rest
+            (subst AreDistinct all distinct) before.1 refl)
         | inr first ↦ record { key = e.key; among = among; shared = first }
       ]
 

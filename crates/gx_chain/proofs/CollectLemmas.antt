@@ -47,7 +47,8 @@ module _ (lo hi : List ℕ) where
   to_page [] k b c = absurd (contains_none (listed k b) c)
   to_page (e ∷ es) k b c = elim (is_inside lo hi e.key) as (λ t. is_inside lo hi e.key ≡ t
       → Contains (map leaf_entry (cond t (e ∷ filter (λ (x : Entry). is_inside lo hi x.key) es)
-      (filter (λ (x : Entry). is_inside lo hi x.key) es))) (listed k b) → (is_inside lo hi k ≡ true) × Contains (e ∷ es) (page_entry k b)) [
+      (filter (λ (x : Entry). is_inside lo hi x.key) es))) (listed k b)
+      → (is_inside lo hi k ≡ true) × Contains (e ∷ es) (page_entry k b)) [
         | true ↦ λ is at. elim (contains_cases (leaf_entry e) (listed k b) (inside_of lo hi es) at) [
           | inl same ↦
               (let this : e ≡ page_entry k b = λ i. record {
@@ -58,16 +59,19 @@ module _ (lo hi : List ℕ) where
                 subst (λ (x : Entry). Contains (x ∷ es) (page_entry k b))
                     (sym this) (contains_here (page_entry k b) es),
               ))
-          | inr later ↦ (let r = to_page es k b later in (r.0, contains_later e (page_entry k b) es r.1))
+          | inr later ↦ (let r = to_page es k b later in
+              (r.0, contains_later e (page_entry k b) es r.1))
         ]
-        | false ↦ λ _ at. (let r = to_page es k b at in (r.0, contains_later e (page_entry k b) es r.1))
+        | false ↦ λ _ at. (let r = to_page es k b at in
+            (r.0, contains_later e (page_entry k b) es r.1))
       ] refl c
 
   from_page : (es : List Entry) (k b : List ℕ) → is_inside lo hi k ≡ true
       → Contains es (page_entry k b) → Contains (inside_of lo hi es) (listed k b)
   from_page [] k b is c = absurd (contains_none (page_entry k b) c)
   from_page (e ∷ es) k b is c = elim (contains_cases e (page_entry k b) es c) [
-    | inl same ↦ (let inside : is_inside lo hi e.key ≡ true = ap (λ (x : Entry). is_inside lo hi x.key) same ∙ is in
+    | inl same ↦ (let inside : is_inside lo hi e.key ≡ true =
+        ap (λ (x : Entry). is_inside lo hi x.key) same ∙ is in
         subst (λ t. Contains (map leaf_entry (cond t
         (e ∷ filter (λ (x : Entry). is_inside lo hi x.key) es)
         (filter (λ (x : Entry). is_inside lo hi x.key) es))) (listed k b)) (sym inside)
@@ -76,7 +80,8 @@ module _ (lo hi : List ℕ) where
     | inr later ↦ (let rest = from_page es k b is later in
         elim (is_inside lo hi e.key) as
         (λ t. Contains
-        (map leaf_entry (cond t (e ∷ filter (λ (x : Entry). is_inside lo hi x.key) es) (filter (λ (x : Entry). is_inside lo hi x.key) es)))
+        (map leaf_entry (cond t (e ∷ filter (λ (x : Entry). is_inside lo hi x.key) es)
+        (filter (λ (x : Entry). is_inside lo hi x.key) es)))
         (listed k b)) [
           | true ↦ contains_later (leaf_entry e) (listed k b) (inside_of lo hi es) rest
           | false ↦ rest
@@ -88,22 +93,27 @@ module _ (lo hi : List ℕ) where
     to_pages : (pages : List ℕ) (k b : List ℕ) → Contains (inside_on s lo hi pages) (listed k b)
         → (is_inside lo hi k ≡ true) × IsOn s pages k b
     to_pages [] k b c = absurd (contains_none (listed k b) c)
-    to_pages (p ∷ ps) k b c = elim (Contains-append_cases (inside_of lo hi (entries_at s p)) (inside_on s lo hi ps) (listed k b) c) [
-      | inl here ↦ (let r = to_page (entries_at s p) k b here in (r.0, record { page = p; among = contains_here p ps; here = r.1 }))
-      | inr later ↦
-          (let r = to_pages ps k b later in
-          (r.0, record { page = r.1.page; among = contains_later p r.1.page ps r.1.among; here = r.1.here }))
-    ]
+    to_pages (p ∷ ps) k b c =
+        elim (Contains-append_cases (inside_of lo hi (entries_at s p)) (inside_on s lo hi ps)
+        (listed k b) c) [
+          | inl here ↦ (let r = to_page (entries_at s p) k b here in
+              (r.0, record { page = p; among = contains_here p ps; here = r.1 }))
+          | inr later ↦
+              (let r = to_pages ps k b later in
+              (r.0, record { page = r.1.page; among = contains_later p r.1.page ps r.1.among; here = r.1.here }))
+        ]
 
     from_pages : (pages : List ℕ) (k b : List ℕ) (q : ℕ) → is_inside lo hi k ≡ true
         → Contains pages q → Contains (entries_at s q) (page_entry k b)
         → Contains (inside_on s lo hi pages) (listed k b)
     from_pages [] k b q is among at = absurd (contains_none q among)
     from_pages (p ∷ ps) k b q is among at = elim (contains_cases p q ps among) [
-      | inl same ↦ Contains-append_left (inside_of lo hi (entries_at s p)) (inside_on s lo hi ps) (listed k b)
+      | inl same ↦ Contains-append_left (inside_of lo hi (entries_at s p)) (inside_on s lo hi ps)
+          (listed k b)
           (from_page (entries_at s p) k b is
           (subst (λ n. Contains (entries_at s n) (page_entry k b)) (sym same) at))
-      | inr later ↦ Contains-append_right (inside_of lo hi (entries_at s p)) (inside_on s lo hi ps) (listed k b)
+      | inr later ↦ Contains-append_right (inside_of lo hi (entries_at s p)) (inside_on s lo hi ps)
+          (listed k b)
           (from_pages ps k b q is later at)
     ]
 
@@ -120,7 +130,8 @@ keys_apart (e ∷ es) once = (
   recursion_from_All (λ k. eq_by_cmp key_cmp e.key k ≡ false) (map key_of (map leaf_entry es))
       (All-map (λ k. eq_by_cmp key_cmp e.key k ≡ false) key_of (map leaf_entry es)
       (All-map (λ (x : LeafEntry). eq_by_cmp key_cmp e.key x.key ≡ false) leaf_entry es
-      (λ i d below. other_key e.key (get_or es i d).key (once 0 (suc i) d (omega arith) (omega (arith, below)))))),
+      (λ i d below. other_key e.key (get_or es i d).key
+      (once 0 (suc i) d (omega arith) (omega (arith, below)))))),
   keys_apart es
       (λ i j d less below. once (suc i) (suc j) d (omega (arith, less)) (omega (arith, below))),
 )
@@ -134,7 +145,8 @@ apart_joined (k ∷ ks) qs a b off = (
       (All-append (λ q. eq_by_cmp key_cmp k q ≡ false) ks qs
       (All-from_recursion (λ q. eq_by_cmp key_cmp k q ≡ false) ks a.0)
       (λ i d below. other_key k (get_or qs i d)
-      (λ same. off k (contains_here k ks) (subst (Contains qs) (sym same) (Contains-get_or qs i d below))))),
+      (λ same. off k (contains_here k ks)
+      (subst (Contains qs) (sym same) (Contains-get_or qs i d below))))),
   apart_joined ks qs a.1 b (λ q in_ks in_qs. off q (contains_later k q ks in_ks) in_qs),
 )
 
@@ -200,7 +212,8 @@ ascends es up apart = sorted_from_all_adjacent nat_list_cmp_total (map key_of es
     before r t
     (nat_list_cmp_total.antisymm (get_or (map key_of es) (i + 1) []) (get_or (map key_of es) i []))
     rising
-    (apart_from_distinct (eq_by_cmp key_cmp) (map key_of es) i (i + 1) [] apart (omega arith) below))
+    (apart_from_distinct (eq_by_cmp key_cmp) (map key_of es) i (i + 1) [] apart
+    (omega arith) below))
 
 pub chain_apart : (ground : Ground) (owner first : ℕ) (s : Sheets) (pages : List ℕ)
     → IsChain ground owner s first pages → ArePagesApart s pages
@@ -221,8 +234,10 @@ collected s pages lo hi found entries h is moved up =
     let apart = pages_apart lo hi s pages h.once (λ p c. page_distinct s p (h.each p c)) h.apart in
     record {
       ascending = ascends entries up
-          (IsDistinct-IsPermutation (eq_by_cmp key_cmp) (eq_by_cmp_equiv nat_list_cmp_total).symm (map key_of (inside_on s lo hi pages))
-          (map key_of entries) (IsPermutation-map key_of (inside_on s lo hi pages) entries those) apart);
+          (IsDistinct-IsPermutation (eq_by_cmp key_cmp) (eq_by_cmp_equiv nat_list_cmp_total).symm
+          (map key_of (inside_on s lo hi pages))
+          (map key_of entries) (IsPermutation-map key_of (inside_on s lo hi pages) entries those)
+          apart);
       those = λ k b. (
         λ c. to_pages lo hi s pages k b
             (Contains-permutation entries (inside_on s lo hi pages) (listed k b)

@@ -48,18 +48,22 @@ count_listed owner (o ∷ os) from pages all =
       | inl e ↦ (let at = all zero (ap Some (eqb-true o owner e)) in
           let t = take_away (from + zero) pages at in
           let h = count_listed owner os (from + 1) t.0
-          (λ q is. t.2 (from + 1 + q) (λ f. omega (arith, f)) (subst (Contains pages) (omega arith) (all (suc q) is))) in
+          (λ q is. t.2 (from + 1 + q) (λ f. omega (arith, f))
+          (subst (Contains pages) (omega arith) (all (suc q) is))) in
           let l = t.1 in
           let one = ap {B = ℕ} (λ (b : Bool). cond b 1 0) e in
           omega (arith, h, l, parts, one))
-      | inr e ↦ (let h = count_listed owner os (from + 1) pages (λ q is. subst (Contains pages) (omega arith) (all (suc q) is)) in
+      | inr e ↦ (let h = count_listed owner os (from + 1) pages
+          (λ q is. subst (Contains pages) (omega arith) (all (suc q) is)) in
           let none = ap {B = ℕ} (λ (b : Bool). cond b 1 0) e in
           omega (arith, h, parts, none))
     ]
 
 some_entry : (m : LeafMap) (k b : List ℕ) → fin.get m k ≡ Some b → 1 ≤ fin.len m
 some_entry m k b is = elim (cases_eq (fin.len m) 0) [
-  | inl e ↦ absurd (none-some b (sym (ap (λ (x : LeafMap). fin.get x k) (fin.empty_of_len m e) ∙ fin.get-empty key_cmp k) ∙ is))
+  | inl e ↦ absurd (none-some b
+      (sym (ap (λ (x : LeafMap). fin.get x k) (fin.empty_of_len m e) ∙ fin.get-empty key_cmp k)
+      ∙ is))
   | inr d ↦ omega (arith, d)
 ]
 
@@ -80,7 +84,8 @@ keys_few sheets (p ∷ ps) m once has apart =
     (λ q c. (let v = has q (contains_later p q ps c) in
     let other : v.0 ≢ w.0 = λ e. pairs_head p ps once
     (subst (Contains ps) (apart q p w.0 v.1 w.1 (contains_later p q ps c) (contains_here p ps)
-    (subst (λ (x : List ℕ). Contains (entries_at sheets q) (record { key = x; body = v.1 })) e v.2) w.2) c) in (
+    (subst (λ (x : List ℕ). Contains (entries_at sheets q) (record { key = x; body = v.1 })) e v.2)
+    w.2) c) in (
       v.0,
       v.1,
       v.2,
@@ -89,7 +94,8 @@ keys_few sheets (p ∷ ps) m once has apart =
         | inr e ↦ ap (λ (b : Bool). cond b None (fin.get m v.0)) e ∙ v.3
       ],
     )))
-    (λ q r k b c in_q in_r. apart q r k b c (contains_later p q ps in_q) (contains_later p r ps in_r)) in
+    (λ q r k b c in_q in_r. apart q r k b c (contains_later p q ps in_q)
+    (contains_later p r ps in_r)) in
     let some = some_entry m w.0 w.1 w.3 in
     let shorter : fin.len less ≡ fin.len m - 1 =
     fin.len-remove nat_list_cmp_total m w.0
@@ -109,7 +115,9 @@ chain_few ground owner sheets first [] m chain map_is = omega arith
 chain_few ground owner sheets first (p ∷ ps) m chain map_is =
     let h = keys_few sheets ps m (pairs_tail p ps chain.fit.once)
     (λ q c. (let f = first_of (entries_at sheets q)
-    (chain.fit.filled q (contains_later p q ps c) (λ e. pairs_head p ps chain.fit.once (subst (Contains ps) (e ∙ chain.linked.0) c))) in
+    (chain.fit.filled q (contains_later p q ps c)
+    (λ e. pairs_head p ps chain.fit.once (subst (Contains ps) (e ∙ chain.linked.0) c))) in
     (f.0, f.1, f.2, map_is f.0 f.1 (record { page = q; among = contains_later p q ps c; here = f.2 }))))
-    (λ q r k b c in_q in_r. chain.fit.apart q r k b c (contains_later p q ps in_q) (contains_later p r ps in_r)) in
+    (λ q r k b c in_q in_r. chain.fit.apart q r k b c (contains_later p q ps in_q)
+    (contains_later p r ps in_r)) in
     omega (arith, h)

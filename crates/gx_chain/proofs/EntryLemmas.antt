@@ -21,7 +21,8 @@ module _ (es : List Entry) (i : ℕ) (key : List ℕ) (distinct : AreDistinct es
             (λ same. distinct k i e lt in_i (ap (λ (x : Entry). x.key) read ∙ same ∙ sym (there e)), (k, omega (arith, lt, in_i), read)))
         | inr ge ↦ (let read = sym (get_or-remove_above es i e k ge in_i) ∙ is in
             let inside : k + 1 < length es = omega (arith, short, below) in (
-              λ same. distinct i (k + 1) e (omega (arith, ge)) inside (there e ∙ sym same ∙ sym (ap (λ (x : Entry). x.key) read)),
+              λ same. distinct i (k + 1) e (omega (arith, ge)) inside (there e ∙ sym same
+                  ∙ sym (ap (λ (x : Entry). x.key) read)),
               (k + 1, inside, read),
             ))
       ]
@@ -40,7 +41,8 @@ module _ (es : List Entry) (i : ℕ) (key : List ℕ) (distinct : AreDistinct es
   kept_at e k below is other =
       let short = length-remove es i in_i in
       elim (cases_order k i) [
-        | inl same ↦ absurd (other (sym (ap (λ (x : Entry). x.key) is) ∙ ap (λ (n : ℕ). (get_or es n e).key) same ∙ there e))
+        | inl same ↦ absurd (other (sym (ap (λ (x : Entry). x.key) is)
+            ∙ ap (λ (n : ℕ). (get_or es n e).key) same ∙ there e))
         | inr apart ↦ elim apart [
           | inl lt ↦ (k, omega (arith, short, lt, in_i), get_or-remove_below es i e k lt in_i ∙ is)
           | inr gt ↦ (let back : k - 1 + 1 ≡ k = omega (arith, gt) in (
@@ -83,5 +85,6 @@ pub entry_there : (es : List Entry) (i : ℕ) (key : List ℕ) → i < length es
 entry_there es i key in_i there =
     let d : Entry = record { key = key; body = [] } in
     let e = get_or es i d in
-    let same : record { key = key; body = e.body } ≡ e = λ j. record { key = sym (there d) j; body = e.body } in
+    let same : record { key = key; body = e.body } ≡ e =
+    λ j. record { key = sym (there d) j; body = e.body } in
     (e.body, (i, in_i, get_or_default es i (record { key = key; body = e.body }) d in_i ∙ sym same))

@@ -19,10 +19,12 @@ module _ {X : Type 0} (key body : X → List ℕ) where
   found_from [] k b is = absurd (none-some b is)
   found_from (e ∷ es) k b is =
       elim (eq_by_cmp key_cmp k (key e)) as
-      (λ t. eq_by_cmp key_cmp k (key e) ≡ t → cond t (Some (body e)) (fin.find key_cmp k (pairs es)) ≡ Some b
+      (λ t. eq_by_cmp key_cmp k (key e) ≡ t
+      → cond t (Some (body e)) (fin.find key_cmp k (pairs es)) ≡ Some b
       → (x : X) × Contains (e ∷ es) x × (key x ≡ k) × (body x ≡ b)) [
         | true ↦ λ same at. (e, contains_here e es, sym (same_key k (key e) same), same_Some (body e) b at)
-        | false ↦ λ _ at. (let f = found_from es k b at in (f.0, contains_later e f.0 es f.1, f.2, f.3))
+        | false ↦ λ _ at. (let f = found_from es k b at in
+            (f.0, contains_later e f.0 es f.1, f.2, f.3))
       ] refl is
 
   -- where there is an entry, one is found

@@ -69,7 +69,8 @@ pub pairs_last : (front : List ℕ) (x : ℕ) → AllPairs (λ a b. a ≢ b) (fr
     → Contains front x → ⊥
 pairs_last [] x once c = contains_none x c
 pairs_last (y ∷ ys) x once c = elim (contains_cases y x ys c) [
-  | inl e ↦ pairs_head y (ys ++ x ∷ []) once (subst (Contains (ys ++ x ∷ [])) (sym e) (contains_middle ys x []))
+  | inl e ↦ pairs_head y (ys ++ x ∷ []) once
+      (subst (Contains (ys ++ x ∷ [])) (sym e) (contains_middle ys x []))
   | inr later ↦ pairs_last ys x (pairs_tail y (ys ++ x ∷ []) once) later
 ]
 
@@ -118,7 +119,8 @@ pub without_off : (front : List ℕ) (x : ℕ) (rest : List ℕ)
     → AllPairs (λ a b. a ≢ b) (front ++ x ∷ rest) → Contains (front ++ rest) x → ⊥
 without_off [] x rest once c = pairs_head x rest once c
 without_off (y ∷ ys) x rest once c = elim (contains_cases y x (ys ++ rest) c) [
-  | inl e ↦ pairs_head y (ys ++ x ∷ rest) once (subst (Contains (ys ++ x ∷ rest)) (sym e) (contains_middle ys x rest))
+  | inl e ↦ pairs_head y (ys ++ x ∷ rest) once
+      (subst (Contains (ys ++ x ∷ rest)) (sym e) (contains_middle ys x rest))
   | inr later ↦ without_off ys x rest (pairs_tail y (ys ++ x ∷ rest) once) later
 ]
 
@@ -156,6 +158,7 @@ few zero [] u below = omega arith
 few zero (x ∷ xs) u below = let h = below x (contains_here x xs) in omega (arith, h)
 few (suc n) xs u below =
     let w = take_out n xs u in
-    let h = few n w.rest w.once (λ x i. (let m = w.members x i in below_last x n (below x m.0) m.1)) in
+    let h = few n w.rest w.once (λ x i. (let m = w.members x i in below_last x n (below x m.0) m.1))
+    in
     let s = w.shorter in
     omega (arith, h, s)

@@ -39,7 +39,8 @@ contains_either : {X : Type 0} (xs ys : List X) (x : X) → Contains (xs ++ ys) 
 contains_either [] ys x c = inr c
 contains_either (y ∷ xs) ys x c = elim (contains_cases y x (xs ++ ys) c) [
   | inl e ↦ inl (subst (λ z. Contains (z ∷ xs) x) (sym e) (contains_here x xs))
-  | inr later ↦ elim (contains_either xs ys x later) [ inl here ↦ inl (contains_later y x xs here) | inr there ↦ inr there ]
+  | inr later ↦ elim (contains_either xs ys x later)
+      [ inl here ↦ inl (contains_later y x xs here) | inr there ↦ inr there ]
 ]
 
 -- ---- pages by owner
@@ -53,14 +54,16 @@ pub record IsOwnedEntry (owner : ℕ) (sheets : Sheets) (e : Entry) : Type 0 whe
 owned_from : (owner : ℕ) (sheets : Sheets) (n : ℕ) (e : Entry)
     → Contains (owned_entries owner sheets n) e → IsOwnedEntry owner sheets e
 owned_from owner sheets zero e c = absurd (contains_none e c)
-owned_from owner sheets (suc n) e c = elim (contains_either (entries_if_owned owner sheets n) (owned_entries owner sheets n) e c) [
-  | inl here ↦ elim (has_owner owner sheets n) as (λ b. has_owner owner sheets n ≡ b → Contains (cond b (entries_at sheets n) []) e
-      → IsOwnedEntry owner sheets e) [
-        | true ↦ λ is at. record { page = n; owned = is; here = at }
-        | false ↦ λ _ at. absurd (contains_none e at)
-      ] refl here
-  | inr later ↦ owned_from owner sheets n e later
-]
+owned_from owner sheets (suc n) e c =
+    elim (contains_either (entries_if_owned owner sheets n) (owned_entries owner sheets n) e c) [
+      | inl here ↦ elim (has_owner owner sheets n) as (λ b. has_owner owner sheets n ≡ b
+          → Contains (cond b (entries_at sheets n) []) e
+          → IsOwnedEntry owner sheets e) [
+            | true ↦ λ is at. record { page = n; owned = is; here = at }
+            | false ↦ λ _ at. absurd (contains_none e at)
+          ] refl here
+      | inr later ↦ owned_from owner sheets n e later
+    ]
 
 owned_to : (owner : ℕ) (sheets : Sheets) (n p : ℕ) (e : Entry) → p < n
     → has_owner owner sheets p ≡ true → Contains (entries_at sheets p) e
@@ -100,7 +103,8 @@ same_body : (es : List Entry) (k b c : List ℕ) → AreDistinct es
     → b ≡ c
 same_body es k b c distinct x y =
     let first : Entry = record { key = k; body = b } in
-    let at_y : get_or es y.0 first ≡ record { key = k; body = c } = get_or_default es y.0 first (record { key = k; body = c }) y.1 ∙ y.2 in
+    let at_y : get_or es y.0 first ≡ record { key = k; body = c } =
+    get_or_default es y.0 first (record { key = k; body = c }) y.1 ∙ y.2 in
     let key_x = ap (λ (e : Entry). e.key) x.2 in
     let key_y = ap (λ (e : Entry). e.key) at_y in
     elim (cases_order x.0 y.0) [
@@ -151,7 +155,8 @@ module _ (owner : ℕ) (s : Sheets) (pages : List ℕ) (some : 1 ≤ owner) (h :
   on_read k b on =
       let owned = are_owned on.page on.among in
       let found = found_some (owned_entries owner s (length s.owners)) k b
-      (owned_to owner s (length s.owners) on.page (record { key = k; body = b }) (slice_get_within s.owners on.page owner owned)
+      (owned_to owner s (length s.owners) on.page (record { key = k; body = b })
+      (slice_get_within s.owners on.page owner owned)
       (has_at on.page owned) on.here) in
       (found.0, read_at k ∙ found.1)
 
@@ -166,7 +171,8 @@ module _ (owner : ℕ) (s : Sheets) (pages : List ℕ) (some : 1 ≤ owner) (h :
   pub owned_map_is : (k b : List ℕ) → (fin.get (owned_map owner s) k ≡ Some b) ↔ IsOn s pages k b
   owned_map_is k b = (
     read_on k b,
-    λ on. (let found = on_read k b on in found.1 ∙ ap Some (sym (one_body k b found.0 on (read_on k found.0 found.1)))),
+    λ on. (let found = on_read k b on in
+        found.1 ∙ ap Some (sym (one_body k b found.0 on (read_on k found.0 found.1)))),
   )
 
   module _ (here : LeafMap) (map_is : (k b : List ℕ) → (fin.get here k ≡ Some b) ↔ IsOn s pages k b)

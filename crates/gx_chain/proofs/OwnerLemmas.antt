@@ -60,7 +60,8 @@ module _ (ground : Ground) (owner : ℕ) (s t : Sheets) (before now : List ℕ) 
     | inr off ↦ elim (contains_or_not before q) [
       | inl old ↦ elim (b.left q old) [
         | inl here ↦ inl here
-        | inr free ↦ (let zero : owner ≡ 0 = same_Some owner 0 (sym o ∙ free) in absurd (omega (arith, zero, some)))
+        | inr free ↦ (let zero : owner ≡ 0 = same_Some owner 0 (sym o ∙ free) in
+            absurd (omega (arith, zero, some)))
       ]
       | inr out ↦ inr (out, sym (b.owners q out off) ∙ o)
     ]

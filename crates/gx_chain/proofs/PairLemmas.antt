@@ -13,14 +13,17 @@ use Rattle.gx_ports.proofs.KeyLemmas.{same_key, tied}
 module _ (map : LeafMap) (key : List ℕ) (IsThere : List ℕ → List ℕ → Type 0)
     (there : (k b : List ℕ) → (fin.get map k ≡ Some b) ↔ IsThere k b) where
   other_key : (k : List ℕ) → eq_by_cmp key_cmp k key ≡ false → k ≢ key
-  other_key k e same = true≢false (sym (tied key) ∙ ap (λ x. eq_by_cmp key_cmp x key) (sym same) ∙ e)
+  other_key k e same = true≢false (sym (tied key) ∙ ap (λ x. eq_by_cmp key_cmp x key) (sym same)
+      ∙ e)
 
-  put_to : (body k b : List ℕ) (q : Bool) → eq_by_cmp key_cmp k key ≡ q → cond q (Some body) (fin.get map k) ≡ Some b
+  put_to : (body k b : List ℕ) (q : Bool) → eq_by_cmp key_cmp k key ≡ q
+      → cond q (Some body) (fin.get map k) ≡ Some b
       → ((k ≡ key) × (b ≡ body)) ⊎ ((k ≢ key) × IsThere k b)
   put_to body k b true e is = inl (same_key k key e, sym (same_Some body b is))
   put_to body k b false e is = inr (other_key k e, (there k b).0 is)
 
-  put_from : (body k b : List ℕ) (q : Bool) → eq_by_cmp key_cmp k key ≡ q → ((k ≡ key) × (b ≡ body)) ⊎ ((k ≢ key) × IsThere k b)
+  put_from : (body k b : List ℕ) (q : Bool) → eq_by_cmp key_cmp k key ≡ q
+      → ((k ≡ key) × (b ≡ body)) ⊎ ((k ≢ key) × IsThere k b)
       → cond q (Some body) (fin.get map k) ≡ Some b
   put_from body k b true e (inl put) = ap Some (sym put.1)
   put_from body k b true e (inr old) = absurd (old.0 (same_key k key e))
@@ -35,15 +38,18 @@ module _ (map : LeafMap) (key : List ℕ) (IsThere : List ℕ → List ℕ → T
         λ here. got ∙ put_from body k b (eq_by_cmp key_cmp k key) refl here,
       )
 
-  removed_to : (k b : List ℕ) (q : Bool) → eq_by_cmp key_cmp k key ≡ q → cond q None (fin.get map k) ≡ Some b → (k ≢ key) × IsThere k b
+  removed_to : (k b : List ℕ) (q : Bool) → eq_by_cmp key_cmp k key ≡ q
+      → cond q None (fin.get map k) ≡ Some b → (k ≢ key) × IsThere k b
   removed_to k b true e is = absurd (none-some b is)
   removed_to k b false e is = (other_key k e, (there k b).0 is)
 
-  removed_from : (k b : List ℕ) (q : Bool) → eq_by_cmp key_cmp k key ≡ q → (k ≢ key) × IsThere k b → cond q None (fin.get map k) ≡ Some b
+  removed_from : (k b : List ℕ) (q : Bool) → eq_by_cmp key_cmp k key ≡ q → (k ≢ key) × IsThere k b
+      → cond q None (fin.get map k) ≡ Some b
   removed_from k b true e old = absurd (old.0 (same_key k key e))
   removed_from k b false e old = (there k b).1 old.1
 
-  pub found_removed : (k b : List ℕ) → (fin.get (fin.remove map key) k ≡ Some b) ↔ ((k ≢ key) × IsThere k b)
+  pub found_removed : (k b : List ℕ) → (fin.get (fin.remove map key) k ≡ Some b)
+      ↔ ((k ≢ key) × IsThere k b)
   found_removed k b =
       let got = fin.get-remove nat_list_cmp_total map key k in (
         λ is. removed_to k b (eq_by_cmp key_cmp k key) refl (sym got ∙ is),

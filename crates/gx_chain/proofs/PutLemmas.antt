@@ -43,7 +43,8 @@ module _ (ground : Ground) (owner first : ℕ) (key : List ℕ) (s t : Sheets) (
     entries = λ k b. (
       λ on. (let here = subst (λ x. IsOn x pages k b) same on in (
         λ e. no_entry (entries_at s here.page) key b (lack here.page here.among)
-            (subst (λ (n : List ℕ). Contains (entries_at s here.page) (record { key = n; body = b })) e here.here),
+            (subst (λ (n : List ℕ). Contains (entries_at s here.page)
+            (record { key = n; body = b })) e here.here),
         here,
       )),
       λ on. subst (λ x. IsOn x pages k b) (sym same) on.1,
@@ -61,12 +62,14 @@ module _ (ground : Ground) (owner first : ℕ) (key : List ℕ) (s t : Sheets) (
       let es = entries_at s p in
       let distinct = page_distinct s p (linked_page s first pages p chain.linked among) in
       let held = entry_there es taken.place key taken.within taken.there in
-      let on = rewritten_on ground owner s t first pages p (remove es taken.place) chain among w (λ _ _. ⊥) key
+      let on = rewritten_on ground owner s t first pages p (remove es taken.place) chain among w
+      (λ _ _. ⊥) key
       (λ k b c. inr (less_to es taken.place key distinct taken.within taken.there
       (record { key = k; body = b }) c))
       (λ k b c. elim c [
         | inl never ↦ absurd never
-        | inr old ↦ less_from es taken.place key distinct taken.within taken.there (record { key = k; body = b }) old
+        | inr old ↦ less_from es taken.place key distinct taken.within taken.there
+            (record { key = k; body = b }) old
       ])
       (λ q b d in_q c. d (chain.fit.apart q p key b held.0 in_q among c held.1)) in
       record {
@@ -77,7 +80,8 @@ module _ (ground : Ground) (owner first : ℕ) (key : List ℕ) (s t : Sheets) (
         entries = λ k b. (λ o. elim ((on k b).0 o) [ inl never ↦ absurd never | inr r ↦ r ], λ o. (on k b).1 (inr o));
         owners = w.owners;
         same = λ q lack. bytes_same s t q
-            (w.others q (λ e. no_entry (entries_at s p) key held.0 (subst (λ n. All (λ (x : Entry). x.key ≢ key) (entries_at s n)) e lack)
+            (w.others q (λ e. no_entry (entries_at s p) key held.0
+            (subst (λ n. All (λ (x : Entry). x.key ≢ key) (entries_at s n)) e lack)
             held.1));
         beside = λ q off. w.others q (λ e. off (subst (Contains pages) (sym e) among));
       }
@@ -119,7 +123,8 @@ put_here ground owner first key body s t pages p es chain among ex w =
     λ k b c. elim (more_to (remove old ex.place) ex.place e (record { key = k; body = b })
     (subst (λ (x : List Entry). Contains x (record { key = k; body = b })) ex.is c)) [
       | inl same ↦ inl (sym (ap (λ (x : Entry). x.key) same), sym (ap (λ (x : Entry). x.body) same))
-      | inr less ↦ inr (less_to old ex.place key distinct ex.within ex.there (record { key = k; body = b }) less)
+      | inr less ↦ inr (less_to old ex.place key distinct ex.within ex.there
+          (record { key = k; body = b }) less)
     ] in
     record {
       pages = pages;
@@ -133,10 +138,12 @@ put_here ground owner first key body s t pages p es chain among ex w =
       entries =
           rewritten_on ground owner s t first pages p es chain among w
           (λ k b. (k ≡ key) × (b ≡ body)) key to
-          (λ k b c. subst (λ (x : List Entry). Contains x (record { key = k; body = b })) (sym ex.is)
+          (λ k b c. subst (λ (x : List Entry). Contains x (record { key = k; body = b }))
+          (sym ex.is)
           (more_from (remove old ex.place) ex.place e (record { key = k; body = b }) (elim c [
             | inl same ↦ inl (λ j. record { key = sym same.0 j; body = sym same.1 j })
-            | inr less ↦ inr (less_from old ex.place key distinct ex.within ex.there (record { key = k; body = b }) less)
+            | inr less ↦ inr (less_from old ex.place key distinct ex.within ex.there
+                (record { key = k; body = b }) less)
           ])))
           (λ q b d in_q c. d (chain.fit.apart q p key b held.0 in_q among c held.1));
       beside = record {
@@ -165,13 +172,15 @@ module _ (ground : Ground) (owner first : ℕ) (key body : List ℕ) (s u t : Sh
       let old = entries_at u p in
       let e : Entry = record { key = key; body = body } in
       let es = insert old (length old) e in
-      let to : (k b : List ℕ) → Contains es (record { key = k; body = b }) → ((k ≡ key) × (b ≡ body))
+      let to : (k b : List ℕ) → Contains es (record { key = k; body = b })
+      → ((k ≡ key) × (b ≡ body))
       ⊎ ((k ≢ key) × Contains old (record { key = k; body = b })) =
       λ k b c. elim (more_to old (length old) e (record { key = k; body = b }) c) [
         | inl same ↦ inl (sym (ap (λ (x : Entry). x.key) same), sym (ap (λ (x : Entry). x.body) same))
         | inr there ↦ inr (other_key p k b among there, there)
       ] in
-      let on = rewritten_on ground owner u t first pages p es d.chain among w (λ k b. (k ≡ key) × (b ≡ body)) key to
+      let on = rewritten_on ground owner u t first pages p es d.chain among w (λ k b. (k ≡ key)
+      × (b ≡ body)) key to
       (λ k b c. more_from old (length old) e (record { key = k; body = b }) (elim c [
         | inl same ↦ inl (λ j. record { key = sym same.0 j; body = sym same.1 j })
         | inr there ↦ inr there.1
@@ -185,11 +194,13 @@ module _ (ground : Ground) (owner first : ℕ) (key body : List ℕ) (s u t : Sh
             (λ k b c. elim (to k b c) [
               | inl same ↦
                   inr (λ q b' in_q c'. gone q b' in_q
-                  (subst (λ (n : List ℕ). Contains (entries_at u q) (record { key = n; body = b' })) same.0 c'))
+                  (subst (λ (n : List ℕ). Contains (entries_at u q) (record { key = n; body = b' }))
+                  same.0 c'))
               | inr there ↦ inl (b, there.1)
             ]);
         entries = λ k b. (
-          λ o. elim ((on k b).0 o) [ inl put ↦ inl put | inr r ↦ inr (r.0, ((d.entries k b).0 r.1).1) ],
+          λ o. elim ((on k b).0 o)
+              [ inl put ↦ inl put | inr r ↦ inr (r.0, ((d.entries k b).0 r.1).1) ],
           λ o. (on k b).1 (elim o [ inl put ↦ inl put | inr r ↦ inr (r.0, (d.entries k b).1 r) ]),
         );
         beside = record {
@@ -231,7 +242,9 @@ module _ (ground : Ground) (owner first : ℕ) (s u : Sheets) (pages : List ℕ)
     (chain : IsChain ground owner s first pages) (some : 1 ≤ owner)
     (claimed : IsClaimed fresh owner ground s u) where
   pub fresh_off : Contains pages fresh → ⊥
-  fresh_off c = let same : owner ≡ 0 = same_Some owner 0 (sym (chain.fit.owned fresh c) ∙ claimed.was_free) in omega (arith, same, some)
+  fresh_off c = let same : owner ≡ 0 =
+      same_Some owner 0 (sym (chain.fit.owned fresh c) ∙ claimed.was_free) in
+      omega (arith, same, some)
 
   pub claimed_same : (q : ℕ) → Contains pages q → bytes_at u q ≡ bytes_at s q
   claimed_same q c = bytes_same s u q (claimed.owned.bytes q (chain.fit.past q c).past)
@@ -267,7 +280,8 @@ module _ (ground : Ground) (owner first : ℕ) (s u : Sheets) (pages : List ℕ)
     at_page : (q : ℕ) → Contains pages q → entries_at t q ≡ entries_at v q
     at_page q c = elim (cases_eq q last) [
       | inl e ↦ ap (entries_at t) e ∙ a.hung.entries_are ∙ ap (entries_at v) (sym e)
-      | inr d ↦ ap entries_of (bytes_same v t q (bytes_stay q d (λ e. fresh_off (subst (Contains pages) e c))))
+      | inr d ↦ ap entries_of
+          (bytes_same v t q (bytes_stay q d (λ e. fresh_off (subst (Contains pages) e c))))
     ]
 
     at_fresh : entries_at t fresh ≡ record { key = key; body = body } ∷ []
@@ -288,7 +302,8 @@ module _ (ground : Ground) (owner first : ℕ) (s u : Sheets) (pages : List ℕ)
         → Contains (entries_at t q) (record { key = k; body = b }) → (k ≡ key) × (b ≡ body)
     on_fresh q k b same here =
         elim (contains_cases (record { key = key; body = body }) (record { key = k; body = b }) []
-        (subst (λ (x : List Entry). Contains x (record { key = k; body = b })) (ap (entries_at t) (sym same) ∙ at_fresh) here)) [
+        (subst (λ (x : List Entry). Contains x (record { key = k; body = b }))
+        (ap (entries_at t) (sym same) ∙ at_fresh) here)) [
           | inl e ↦ (sym (ap (λ (x : Entry). x.key) e), sym (ap (λ (x : Entry). x.body) e))
           | inr none ↦ absurd (contains_none (record { key = k; body = b }) none)
         ]
@@ -308,7 +323,9 @@ module _ (ground : Ground) (owner first : ℕ) (s u : Sheets) (pages : List ℕ)
           let off : q ≢ last = λ e. pairs_last front last
           (subst (AllPairs (λ a b. a ≢ b)) ended chain.fit.once) (subst (Contains front) e c) in
           let new : q ≢ fresh = λ e. fresh_off
-          (subst (Contains pages) e (subst (λ (x : List ℕ). Contains x q) (sym ended) (Contains-append_left front (last ∷ []) q c))) in
+          (subst (Contains pages) e
+          (subst (λ (x : List ℕ). Contains x q) (sym ended)
+          (Contains-append_left front (last ∷ []) q c))) in
           let same = bytes_same v t q (bytes_stay q off new) in
           (subst IsEntryPage (sym same) page, ap next_of same)))
           a.hung.is_page a.hung.next_is fresh_page.0 fresh_page.1
@@ -328,11 +345,13 @@ module _ (ground : Ground) (owner first : ℕ) (s u : Sheets) (pages : List ℕ)
             ];
         filled = λ q c f none. elim (Contains-push_cases pages fresh q c) [
           | inl old ↦ d.chain.fit.filled q old f (sym (at_page q old) ∙ none)
-          | inr e ↦ not_empty (record { key = key; body = body } ∷ []) (omega arith) (sym at_fresh ∙ ap (entries_at t) e ∙ none)
+          | inr e ↦ not_empty (record { key = key; body = body } ∷ []) (omega arith) (sym at_fresh
+              ∙ ap (entries_at t) e ∙ none)
         ];
         apart = λ q r k b c in_q in_r at_q at_r. elim (Contains-push_cases pages fresh q in_q) [
           | inl old_q ↦ elim (Contains-push_cases pages fresh r in_r) [
-            | inl old_r ↦ d.chain.fit.apart q r k b c old_q old_r (to_old q _ old_q at_q) (to_old r _ old_r at_r)
+            | inl old_r ↦ d.chain.fit.apart q r k b c old_q old_r (to_old q _ old_q at_q)
+                (to_old r _ old_r at_r)
             | inr e ↦ absurd (absent q k b old_q (on_fresh r k c e at_r).0 at_q)
           ]
           | inr e ↦ elim (Contains-push_cases pages fresh r in_r) [
@@ -349,7 +368,8 @@ module _ (ground : Ground) (owner first : ℕ) (s u : Sheets) (pages : List ℕ)
       chain = appended_chain;
       entries = λ k b. (
         λ on. elim (Contains-push_cases pages fresh on.page on.among) [
-          | inl old ↦ (let was = (d.entries k b).0 (record { page = on.page; among = old; here = to_old on.page _ old on.here }) in
+          | inl old ↦ (let was = (d.entries k b).0
+              (record { page = on.page; among = old; here = to_old on.page _ old on.here }) in
               inr (was.0, same_on_back ground owner first s u pages claimed_same k b was.1))
           | inr e ↦ inl (on_fresh on.page k b e on.here)
         ],
@@ -357,14 +377,17 @@ module _ (ground : Ground) (owner first : ℕ) (s u : Sheets) (pages : List ℕ)
           | inl put ↦ record {
             page = fresh;
             among = Contains-push pages fresh;
-            here = subst (λ (x : List Entry). Contains x (record { key = k; body = b })) (sym at_fresh)
+            here = subst (λ (x : List Entry). Contains x (record { key = k; body = b }))
+                (sym at_fresh)
                 (0, omega arith, λ j. record { key = sym put.0 j; body = sym put.1 j });
           }
-          | inr r ↦ (let was = (d.entries k b).1 (r.0, same_on ground owner first s u pages claimed_same k b r.1) in
+          | inr r ↦ (let was = (d.entries k b).1
+              (r.0, same_on ground owner first s u pages claimed_same k b r.1) in
               record {
                 page = was.page;
                 among = Contains-append_left pages (fresh ∷ []) was.page was.among;
-                here = subst (λ (x : List Entry). Contains x (record { key = k; body = b })) (sym (at_page was.page was.among)) was.here;
+                here = subst (λ (x : List Entry). Contains x (record { key = k; body = b }))
+                    (sym (at_page was.page was.among)) was.here;
               })
         ],
       );

@@ -52,7 +52,8 @@ linked_past s t first (r ∷ rs) q p rest each page next later l =
       l.0,
       here.0,
       subst (λ n. AreLinked t n ((rs ++ q ∷ []) ++ rest)) (sym here.1)
-          (linked_past s t (next_at s r) rs q p rest (λ x c. each x (contains_later r x rs c)) page next later l.2),
+          (linked_past s t (next_at s r) rs q p rest (λ x c. each x (contains_later r x rs c)) page
+          next later l.2),
     )
 
 module _ (ground : Ground) (owner first : ℕ) (key : List ℕ) (s t : Sheets)
@@ -95,7 +96,8 @@ module _ (ground : Ground) (owner first : ℕ) (key : List ℕ) (s t : Sheets)
 
   at_page : (r : ℕ) → Contains ((others ++ q ∷ []) ++ rest) r → entries_at t r ≡ entries_at s r
   at_page r c = elim (cases_eq r q) [
-    | inl e ↦ ap (entries_at t) e ∙ ap entries_of hung_page ∙ u.hung.entries_are ∙ ap (entries_at s) (sym e)
+    | inl e ↦ ap (entries_at t) e ∙ ap entries_of hung_page ∙ u.hung.entries_are
+        ∙ ap (entries_at s) (sym e)
     | inr d ↦ ap entries_of (same_page r c d)
   ]
 
@@ -107,7 +109,8 @@ module _ (ground : Ground) (owner first : ℕ) (key : List ℕ) (s t : Sheets)
   only_key k b d c =
       contains_none (record { key = k; body = b })
       (subst (λ (x : List Entry). Contains x (record { key = k; body = b })) alone
-      (less_from (entries_at s p) place key (page_distinct s p (linked_page s first pages p chain.linked p_in)) within there
+      (less_from (entries_at s p) place key
+      (page_distinct s p (linked_page s first pages p chain.linked p_in)) within there
       (record { key = k; body = b }) (d, c)))
 
   owners_are : (r : ℕ) → slice_get t.owners r ≡ slice_get (set s.owners p 0) r
@@ -118,9 +121,11 @@ module _ (ground : Ground) (owner first : ℕ) (key : List ℕ) (s t : Sheets)
   apart_q : (r : ℕ) → (Contains others r ⊎ Contains rest r) → r ≢ q
   apart_q r c e = elim c [
     | inl i ↦ pairs_last others q
-        (pairs_front (others ++ q ∷ []) (p ∷ rest) (subst (λ (x : List ℕ). AllPairs (λ a b. a ≢ b) x) is chain.fit.once))
+        (pairs_front (others ++ q ∷ []) (p ∷ rest)
+        (subst (λ (x : List ℕ). AllPairs (λ a b. a ≢ b) x) is chain.fit.once))
         (subst (Contains others) e i)
-    | inr i ↦ pairs_across others q (p ∷ rest) (subst (λ (x : List ℕ). AllPairs (λ a b. a ≢ b) x) is chain.fit.once)
+    | inr i ↦ pairs_across others q (p ∷ rest)
+        (subst (λ (x : List ℕ). AllPairs (λ a b. a ≢ b) x) is chain.fit.once)
         (contains_later p q rest (subst (Contains rest) e i))
   ]
 
@@ -139,11 +144,13 @@ module _ (ground : Ground) (owner first : ℕ) (key : List ℕ) (s t : Sheets)
           (subst (λ (x : List ℕ). AllPairs (λ a b. a ≢ b) x) is chain.fit.once);
       past = λ r c. chain.fit.past r (old_in r c);
       owned =
-          λ r c. owners_are r ∙ slice_get_set s.owners p r 0 (p_off r c) ∙ chain.fit.owned r (old_in r c);
+          λ r c. owners_are r ∙ slice_get_set s.owners p r 0 (p_off r c)
+          ∙ chain.fit.owned r (old_in r c);
       filled = λ r c d none. chain.fit.filled r (old_in r c) d (sym (at_page r c) ∙ none);
       apart = λ r r' k b b' c c' e e'. chain.fit.apart r r' k b b' (old_in r c) (old_in r' c')
           (subst (λ (x : List Entry). Contains x (record { key = k; body = b })) (at_page r c) e)
-          (subst (λ (x : List Entry). Contains x (record { key = k; body = b' })) (at_page r' c') e');
+          (subst (λ (x : List Entry). Contains x (record { key = k; body = b' }))
+          (at_page r' c') e');
     };
   }
 
@@ -152,14 +159,18 @@ module _ (ground : Ground) (owner first : ℕ) (key : List ℕ) (s t : Sheets)
     pages = (others ++ q ∷ []) ++ rest;
     chain = left_chain;
     entries = λ k b. (
-      λ on. (let here = subst (λ (x : List Entry). Contains x (record { key = k; body = b })) (at_page on.page on.among) on.here in (
-        λ e. p_off on.page on.among
-            (chain.fit.apart on.page p key b held.0 (old_in on.page on.among) p_in
-            (subst (λ (x : List ℕ). Contains (entries_at s on.page) (record { key = x; body = b })) e here) held.1),
-        record { page = on.page; among = old_in on.page on.among; here = here },
-      )),
+      λ on. (let here = subst (λ (x : List Entry). Contains x (record { key = k; body = b }))
+          (at_page on.page on.among) on.here in (
+            λ e. p_off on.page on.among
+                (chain.fit.apart on.page p key b held.0 (old_in on.page on.among) p_in
+                (subst (λ (x : List ℕ). Contains (entries_at s on.page)
+                (record { key = x; body = b }))
+                e here) held.1),
+            record { page = on.page; among = old_in on.page on.among; here = here },
+          )),
       λ o. elim (cases_eq o.1.page p) [
-        | inl e ↦ absurd (only_key k b o.0 (subst (λ n. Contains (entries_at s n) (record { key = k; body = b })) e o.1.here))
+        | inl e ↦ absurd (only_key k b o.0
+            (subst (λ n. Contains (entries_at s n) (record { key = k; body = b })) e o.1.here))
         | inr d ↦ (let among = still_in o.1.page d o.1.among in
             record {
               page = o.1.page;
@@ -176,7 +187,8 @@ module _ (ground : Ground) (owner first : ℕ) (key : List ℕ) (s t : Sheets)
           (λ e. off (subst (Contains pages) (sym e) (old_in q q_in)));
       came = λ r c. inl (old_in r c);
       left = λ r c. elim (cases_eq r p) [
-        | inl e ↦ inr (ap (slice_get t.owners) e ∙ owners_are p ∙ slice_get_set_same s.owners p 0 owner (chain.fit.owned p p_in))
+        | inl e ↦ inr (ap (slice_get t.owners) e ∙ owners_are p
+            ∙ slice_get_set_same s.owners p 0 owner (chain.fit.owned p p_in))
         | inr d ↦ inl (still_in r d c)
       ];
     };

@@ -75,7 +75,8 @@ module _ (ground : Ground) (owner : ℕ) (sheets : Sheets) (first : ℕ) (before
       apart = λ q r k b c in_q in_r at_q at_r. elim (Contains-push_cases front number q in_q) [
         | inl before ↦ elim (Contains-push_cases front number r in_r) [
           | inl before_too ↦ v.fit.apart q r k b c before before_too at_q at_r
-          | inr same ↦ absurd (added.fresh k (c, subst (λ n. Contains (entries_at sheets n) (record { key = k; body = c })) (sym same) at_r)
+          | inr same ↦ absurd (added.fresh k
+              (c, subst (λ n. Contains (entries_at sheets n) (record { key = k; body = c })) (sym same) at_r)
               ((v.keys k).1 (b, record { page = q; among = before; here = at_q })))
         ]
         | inr same ↦ elim (Contains-push_cases front number r in_r) [
@@ -90,17 +91,20 @@ module _ (ground : Ground) (owner : ℕ) (sheets : Sheets) (first : ℕ) (before
       λ is. elim (cases_eq q number) [
         | inl e ↦ inr (subst (Contains (front ++ number ∷ [])) (sym e) (Contains-push front number))
         | inr d ↦ elim
-            ((v.seen q).0 (sym (slice_get_set old.seen.items number q true d) ∙ ap (λ (x : List Bool). slice_get x q) (sym marked) ∙ is)) [
+            ((v.seen q).0 (sym (slice_get_set old.seen.items number q true d)
+            ∙ ap (λ (x : List Bool). slice_get x q) (sym marked) ∙ is)) [
               | inl earlier ↦ inl earlier
               | inr here ↦ inr (Contains-append_left front (number ∷ []) q here)
             ]
       ],
       λ c. elim c [
         | inl earlier ↦ still_marked marked q
-            (λ e. unseen.1 (subst (λ n. slice_get old.seen.items n ≡ Some true) e ((v.seen q).1 (inl earlier))))
+            (λ e. unseen.1 (subst (λ n. slice_get old.seen.items n ≡ Some true) e
+            ((v.seen q).1 (inl earlier))))
             ((v.seen q).1 (inl earlier))
         | inr among ↦ elim (Contains-push_cases front number q among) [
-          | inl here ↦ still_marked marked q (λ e. off_front (subst (Contains front) e here)) ((v.seen q).1 (inr here))
+          | inl here ↦ still_marked marked q (λ e. off_front (subst (Contains front) e here))
+              ((v.seen q).1 (inr here))
           | inr same ↦ subst (λ n. slice_get new.seen.items n ≡ Some true) same
               (ap (λ (x : List Bool). slice_get x number) marked
               ∙ slice_get_set_same old.seen.items number true (get_or old.seen.items number false)
@@ -116,7 +120,8 @@ module _ (ground : Ground) (owner : ℕ) (sheets : Sheets) (first : ℕ) (before
             (on.0, record { page = on.1.page; among = Contains-append_left front (number ∷ []) on.1.page on.1.among; here = on.1.here }))
       ],
       λ on. elim (Contains-push_cases front number on.1.page on.1.among) [
-        | inl before ↦ (added.those key).1 (inr ((v.keys key).1 (on.0, record { page = on.1.page; among = before; here = on.1.here })))
+        | inl before ↦ (added.those key).1
+            (inr ((v.keys key).1 (on.0, record { page = on.1.page; among = before; here = on.1.here })))
         | inr same ↦
             (added.those key).1
             (inl (on.0, subst (λ n. Contains (entries_at sheets n) (record { key = key; body = on.0 })) (sym same) on.1.here))
@@ -139,7 +144,8 @@ module _ {S : Type 0} (g : Ghosts S) (p : S) (owner first : ℕ) (visits : Visit
   pub next_unseen : IsUnseen (g.working p) owner visits.seen.items page
   next_unseen = (
     n.chain.fit.owned page next_in,
-    λ is. elim ((n.visited.seen page).0 is) [ inl earlier ↦ n.unseen page next_in earlier | inr here ↦ next_off here ],
+    λ is. elim ((n.visited.seen page).0 is)
+        [ inl earlier ↦ n.unseen page next_in earlier | inr here ↦ next_off here ],
   )
 
   pub next_page : IsEntryPage (bytes_at (g.working p) page)

@@ -67,7 +67,8 @@ module _ {S : Type 0} (g : Ghosts S) (first : ℕ) (start now : S) (done number 
       fault = λ is. absurd (cc);
       counted = λ is. walk.faults;
       damaged = λ other is has.
-          (let less = hand_ends (g.ground start) has.1 (g.working start) first has.2 done number has.3
+          (let less = hand_ends (g.ground start) has.1 (g.working start) first has.2 done number
+          has.3
           (walk.hand has.0 has.1 has.2 has.3) in
           omega (arith, less, over));
     };

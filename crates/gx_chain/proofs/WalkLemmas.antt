@@ -93,7 +93,8 @@ none_behind : (ground : Ground) (sheets : Sheets) (rest : List ℕ) (next : ℕ)
     → ground.size ≤ NONE → ((q : ℕ) → Contains rest q → IsPast ground q)
     → AreLinked sheets next rest → rest ≡ []
 none_behind ground sheets [] next none few_pages past l = refl
-none_behind ground sheets (q ∷ qs) next none few_pages past l = let below = (past q (contains_here q qs)).below in let same = l.0 in
+none_behind ground sheets (q ∷ qs) next none few_pages past l = let below =
+    (past q (contains_here q qs)).below in let same = l.0 in
     absurd (omega (arith, below, same, none, few_pages))
 
 -- the last page is at hand
@@ -102,7 +103,8 @@ pub hand_last : (ground : Ground) (owner : ℕ) (sheets : Sheets) (first : ℕ) 
     → (h : IsAtHand sheets all done number) → next_at sheets number ≡ NONE
     → all ≡ h.front ++ number ∷ []
 hand_last ground owner sheets first all done number chain few_pages h none =
-    let ended : h.rest ≡ [] = none_behind ground sheets h.rest (next_at sheets number) none few_pages
+    let ended : h.rest ≡ [] =
+    none_behind ground sheets h.rest (next_at sheets number) none few_pages
     (λ q c. chain.fit.past q (subst (λ (x : List ℕ). Contains x q) (sym h.is)
     (Contains-append_right h.front (number ∷ h.rest) q (contains_later number q h.rest c))))
     h.linked.2 in
@@ -136,7 +138,8 @@ hand_leads ground owner sheets first all done number chain h =
 -- a number below the count of pages leads to a page
 pub is_some_page : (ground : Ground) (page : ℕ) → ground.size ≤ NONE → IsPast ground page
     → page ≢ NONE
-is_some_page ground page few_pages past same = let below = past.below in omega (arith, below, few_pages, same)
+is_some_page ground page few_pages past same = let below = past.below in
+    omega (arith, below, few_pages, same)
 
 -- ---- what is noted on the way
 

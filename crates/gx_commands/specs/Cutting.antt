@@ -6,7 +6,7 @@ use Rattle.gx_commands.specs.declared.words.LineWord.{LineWord}
 use Rattle.gx_commands.specs.declared.words.LineWord.TheVariants as slices
 use Rattle.gx_commands.specs.declared.command.LineWhy.{LineWhy}
 use Rattle.gx_commands.specs.declared.command.LineWhy.TheVariants as why
-use Rattle.gx_commands.specs.Words.{Word, Bare, Quoted, is_blank, after_blanks}
+use Rattle.gx_commands.specs.Words.{Word, Bare, Quoted, is_line_blank, past_blanks}
 
 -- a word without where its bytes lie
 abbrev pub word_of : LineWord → Word
@@ -15,7 +15,7 @@ word_of (slices.Quoted text) = Quoted text.now
 
 abbrev pub ends_word : List ℕ → Bool
 ends_word [] = true
-ends_word (b ∷ bs) = is_blank b
+ends_word (b ∷ bs) = is_line_blank b
 
 -- a quoted text is a word only where the word ends with it
 abbrev pub quoted_word : Option (List ℕ × List ℕ) → Option (Word × List ℕ)
@@ -28,11 +28,11 @@ split_word [] = None
 split_word (b ∷ bs) =
     if b == 34 then quoted_word (split_quoted bs)
     else Some
-    (Bare (take (prefix_len (λ c. not (is_blank c)) (b ∷ bs)) (b ∷ bs)), drop (prefix_len (λ c. not (is_blank c)) (b ∷ bs)) (b ∷ bs))
+    (Bare (take (prefix_len (λ c. not (is_line_blank c)) (b ∷ bs)) (b ∷ bs)), drop (prefix_len (λ c. not (is_line_blank c)) (b ∷ bs)) (b ∷ bs))
 
 -- the first word of a line, and what follows it
 unfoldable pub first_word : List ℕ → Option (Word × List ℕ)
-first_word line = split_word (after_blanks line)
+first_word line = split_word (past_blanks line)
 
 -- the first word, and those that are found in what follows it
 abbrev pub words_from : (List ℕ → List Word) → Option (Word × List ℕ) → List Word

@@ -17,16 +17,16 @@ pub record Parts : Type 0 where
   pub ended : List (List ℕ)
   pub rest : List ℕ
 
-abbrev pub with_byte : ℕ → List (List ℕ) → List ℕ → Parts
-with_byte b [] rest = record { ended = []; rest = b ∷ rest }
-with_byte b (line ∷ lines) rest = record { ended = (b ∷ line) ∷ lines; rest = rest }
+abbrev pub with_first_byte : ℕ → List (List ℕ) → List ℕ → Parts
+with_first_byte b [] rest = record { ended = []; rest = b ∷ rest }
+with_first_byte b (line ∷ lines) rest = record { ended = (b ∷ line) ∷ lines; rest = rest }
 
 abbrev pub parts_of : List ℕ → Parts
 parts_of [] = record { ended = []; rest = [] }
 parts_of (b ∷ bs) =
     let parts = parts_of bs in
     if b == 10 then record { ended = [] ∷ parts.ended; rest = parts.rest }
-    else with_byte b parts.ended parts.rest
+    else with_first_byte b parts.ended parts.rest
 
 -- the text of parts, and that they are the parts of a script: LF stands nowhere in them
 abbrev pub text_of : Parts → List ℕ

@@ -2,7 +2,7 @@
 ghost use Rattle.std.specs.Prelude.{◌≡◌, ◌≤◌, ◌↔◌, length, not, option_map, List, IsTrue};
 ghost use Rattle.std.specs.List.{list_all, prefix_len};
 ghost use Rattle.gx_tokens.specs.Reading.{map_ok};
-ghost use Rattle.gx_commands.specs.Words.{Word, AreWords, is_blank, is_character, after_blanks, is_comment};
+ghost use Rattle.gx_commands.specs.Words.{Word, AreWords, is_line_blank, is_character, past_blanks, is_comment};
 ghost use Rattle.gx_commands.specs.Cutting.{word_of, ends_word, quoted_word, split_word, first_word, words_in, taken, is_end};
 ghost use Rattle.gx_tokens.specs.Lexemes.{split_quoted};
 
@@ -19,7 +19,7 @@ pub enum LineWord<'a> {
 }
 
 fn is_blank(byte: u8) -> bool
-    ensures { result ≡ is_blank byte }
+    ensures { result ≡ is_line_blank byte }
 {
     matches!(byte, b' ' | b'\t')
 }
@@ -44,7 +44,7 @@ pub fn are_characters(line: &[u8]) -> bool
 
 // What follows the blanks at the front.
 fn after_blanks(line: &[u8]) -> &[u8]
-    ensures { result.now ≡ after_blanks line.now }
+    ensures { result.now ≡ past_blanks line.now }
 {
     let mut rest = line;
     while let [first, after @ ..] = rest {
@@ -68,15 +68,10 @@ pub fn is_comment(line: &[u8]) -> bool
 
 // How many bytes stand before the first blank.
 fn word_len(text: &[u8]) -> usize
-    ensures value { result ≡ prefix_len (λ c. not (is_blank c)) text.now }
+    ensures value { result ≡ prefix_len (λ c. not (is_line_blank c)) text.now }
     ensures within { result ≤ length text.now }
 {
-    for (at, byte) in text.iter().enumerate() {
-        if is_blank(*byte) {
-            return at;
-        }
-    }
-    text.len()
+    text.iter().take_while(|byte| !is_blank(**byte)).count()
 }
 
 fn ends_word(rest: &[u8]) -> bool

@@ -29,7 +29,7 @@ use Rattle.gx_stack.proofs.Without.{from_without, to_without}
 use Rattle.gx_gather.proofs.Lists.{from_each, in_each, none_some, in_filter, filter_in}
 use Rattle.gx_gather.proofs.Entries.{find_in, in_find}
 use Rattle.gx_model.specs.States.{File, IsRowOf}
-use Rattle.gx_scan.specs.Files.{rec_of, records_of, IsStorable, IsTreeFor, IsInternal as IsStored}
+use Rattle.gx_scan.specs.Files.{rec_of, file_records, IsStorable, IsTreeFor, IsInternal as IsStored}
 use Rattle.gx_scan.proofs.FileLemmas.{there_in, in_there}
 use Rattle.gx_types.specs.declared.any.AnyMapping.{AnyMapping}
 use Rattle.gx_types.specs.Any.{any_rule, any_laws}
@@ -291,8 +291,8 @@ all_told None false (e ∷ es) to from found are told =
 module _ (file : FileDef) (t : Tree AnyMapping) (n k : ℕ) (maps : List LeafMap) (f : File)
     (key : Value) (storable : IsStorable file) (tree : IsTreeFor file t k)
     (is : IsStored file t maps f) (own : HasOwn t n) (fit : Fits (key_kind file) key) where
-  file_union : IsUnion any_rule t (records_of f) maps
-  file_union = union_from_internal any_rule t (records_of f) maps is.held
+  file_union : IsUnion any_rule t (file_records f) maps
+  file_union = union_from_internal any_rule t (file_records f) maps is.held
 
   fits_of : (q : Value) (values : List Value) → fin.get f q ≡ Some values → Fits (key_kind file) q
   fits_of q values found =
@@ -314,7 +314,7 @@ module _ (file : FileDef) (t : Tree AnyMapping) (n k : ℕ) (maps : List LeafMap
       let h = there_in f key values found in
       let own_entry = own.entry r in
       let e : LeafEntry = record { leaf = n; key = key_of r.key; body = own_entry.0 } in
-      let held = file_union.holds e (in_each (entries_of any_rule t) r e (records_of f) h
+      let held = file_union.holds e (in_each (entries_of any_rule t) r e (file_records f) h
       own_entry.1) in
       let at_key : fin.get m (bytes_of key) ≡ Some e.body = ap (fin.get m)
       (sym (append-nil (bytes_of key))) ∙ held in
@@ -334,7 +334,7 @@ module _ (file : FileDef) (t : Tree AnyMapping) (n k : ℕ) (maps : List LeafMap
       let found : fin.get m e.0 ≡ Some e.1 = fin.get-entries m e.0
       ∙ in_find nat_list_cmp_total e (fin.entries m) (fin.entries_sorted m) kept.0 in
       let x : LeafEntry = record { leaf = n; key = e.0; body = e.1 } in
-      let r = from_each (entries_of any_rule t) x (records_of f)
+      let r = from_each (entries_of any_rule t) x (file_records f)
       (file_union.only x own.among found) in
       let q = in_there f r.0 r.1 in
       let key_is : e.0 ≡ bytes_of q.key = own.key r.0 x r.2 ∙ ap (λ (z : Rec). key_of z.key) q.is

@@ -23,8 +23,8 @@ use Rattle.gx_types.specs.Nodes.{tree_at}
 use Rattle.gx_pairs.specs.declared.refused.Refused.{Refused}
 use Rattle.gx_pairs.specs.declared.refused.Refused.TheVariants as refused
 use Rattle.gx_model.specs.States.{File, State, file_in, link_in, IsLinkOf}
-use Rattle.gx_model.specs.Commands.{Refusal, key_exists, no_record, linked, changed, updated, state_after, next_state, refusal_of, first_refusal, is_linked, with_file}
-use Rattle.gx_scan.specs.Files.{rec_of, records_of, IsInternal}
+use Rattle.gx_model.specs.Commands.{Refusal, key_exists, no_record, linked, with_changes, updated, state_after, next_state, refusal_of, first_refusal, is_linked, with_file}
+use Rattle.gx_scan.specs.Files.{rec_of, file_records, IsInternal}
 use Rattle.gx_states.specs.Internal.{AreInternal, AreFor, entries_from, state_entries}
 use Rattle.gx_states.proofs.CountLemmas.{one_total, one_file, crowded_more}
 use Rattle.gx_states.proofs.LinkLemmas.{file_is, link_elsewhere}
@@ -68,7 +68,7 @@ edited_are schema built leaves old new s i f of are lt edit ends = record {
           (sym (file_there s i j f ne))
           (record {
             fit = was.fit;
-            held = internal_elsewhere any_rule (tree_at built.files j) (records_of (file_in s j))
+            held = internal_elsewhere any_rule (tree_at built.files j) (file_records (file_in s j))
                 old new (of.nodes.valid j h)
                 (λ n there. edit.others n (λ too. ne (of.nodes.apart j i n h lt there too)))
                 was.held;
@@ -151,7 +151,7 @@ module _ (schema : Schema) (built : Built) (leaves : ℕ) (old new : List LeafMa
       (edited_at schema built i file t old new (file_in s i) after _ why def tree edit) refl
       (λ j h. link_stays s (link_at schema j) (link_in s j) i after there
       (inserted_stay s (link_at schema j) (link_in s j) i key
-      (changed (unwrap_or (fin.get (file_in s i) key) []) changes) (are.valid.links j h))
+      (with_changes (unwrap_or (fin.get (file_in s i) key) []) changes) (are.valid.links j h))
       (are.valid.links j h))
 
   pub delete_edited : (key : Value) → is_linked schema.links s.links i key ≡ false
@@ -196,16 +196,18 @@ linked_edit schema built old new s i key are same is =
 -- the entries of a record of a file are among those of the state
 short_with : (limit : Option Limits) (schema : Schema) (built : Built) (leaves before : ℕ)
     (s : State) (i : ℕ) (f : File) (r : Rec) → AreFor schema built leaves
-    → length s.files ≡ length schema.files → i < length schema.files → In r (records_of f)
+    → length s.files ≡ length schema.files → i < length schema.files → In r (file_records f)
     → IsCrowdedBy limit (before + length (entries_of any_rule (tree_at built.files i) r))
     → IsCrowdedBy limit (before + state_entries built (with_file s i f))
 short_with limit schema built leaves before s i f r of many lt there = crowded_more limit _ _
     (let at : get_or (set s.files i f) i fin.empty ≡ f = get_or-set_same s.files i f fin.empty
     (omega (arith, many)) in
-    let one = one_total (tree_at built.files i) (records_of f) r there in
-    let all : entry_total any_rule (tree_at built.files i) (records_of f) ≤ entries_from built.files
+    let one = one_total (tree_at built.files i) (file_records f) r there in
+    let all : entry_total any_rule (tree_at built.files i) (file_records f) ≤ entries_from
+    built.files
     (with_file s i f).files =
-    subst (λ (x : File). entry_total any_rule (tree_at built.files i) (records_of x) ≤ entries_from
+    subst (λ (x : File). entry_total any_rule (tree_at built.files i)
+    (file_records x) ≤ entries_from
     built.files (with_file s i f).files) at
     (one_file built.files (set s.files i f) i (omega (arith, of.nodes.many))
     (omega (arith, many, length-set s.files i f))) in
@@ -262,19 +264,22 @@ module _ (limit : Option Limits) (schema : Schema) (built : Built) (leaves befor
   pub short_update : (key : Value) (changes : List Change) (values : List Value)
       → fin.get (file_in s i) key ≡ Some values
       → IsCrowdedBy limit (before + length
-      (entries_of any_rule t (rec_of (key, changed values changes))))
+      (entries_of any_rule t (rec_of (key, with_changes values changes))))
       → IsCrowdedBy limit (before + state_entries built
       (next_state schema s (command.Update i key changes)))
   short_update key changes values found c =
-      let f = fin.insert (file_in s i) key (changed values changes) in
+      let f = fin.insert (file_in s i) key (with_changes values changes) in
       let free = update_accepted schema s i key changes values found in
       let after : updated (file_in s i) key changes ≡ f = ap
-      (λ (o : Option (List Value)). fin.insert (file_in s i) key (changed (unwrap_or o []) changes))
+      (λ (o : Option (List Value)). fin.insert (file_in s i) key
+      (with_changes (unwrap_or o []) changes))
       found in
       short_after limit built before (with_file s i f)
       (next_state schema s (command.Update i key changes))
       (next_is schema s (command.Update i key changes) free ∙ ap (with_file s i) after)
-      (short_with limit schema built leaves before s i f (rec_of (key, changed values changes)) of
-      are.valid.files_many lt (inserted_new (file_in s i) key (changed values changes))
+      (short_with limit schema built leaves before s i f (rec_of (key, with_changes values changes))
+      of
+      are.valid.files_many lt (inserted_new (file_in s i) key (with_changes values changes))
       (subst (λ (x : Tree AnyMapping). IsCrowdedBy limit
-      (before + length (entries_of any_rule x (rec_of (key, changed values changes))))) tree c))
+      (before + length (entries_of any_rule x (rec_of (key, with_changes values changes))))) tree
+      c))

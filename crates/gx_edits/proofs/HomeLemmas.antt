@@ -26,10 +26,10 @@ use Rattle.gx_stack.proofs.Unique.{entry_leaf, entries_apart}
 use Rattle.gx_types.specs.declared.any.AnyMapping.{AnyMapping}
 use Rattle.gx_types.specs.Any.{any_rule, any_laws}
 use Rattle.gx_typing.specs.Dues.{file_form}
-use Rattle.gx_model.specs.States.{File, Row, IsRowOf, IsFileOf}
-use Rattle.gx_model.specs.Commands.{Refusal, changed, updated, first_refusal, key_exists, no_record}
+use Rattle.gx_model.specs.States.{File, Row, IsRowOf, HasRowsOf}
+use Rattle.gx_model.specs.Commands.{Refusal, with_changes, updated, first_refusal, key_exists, no_record}
 use Rattle.gx_pairs.specs.declared.refused.Refused.{Refused}
-use Rattle.gx_scan.specs.Files.{rec_of, records_of, IsInternal, IsStorable, IsTreeFor}
+use Rattle.gx_scan.specs.Files.{rec_of, file_records, IsInternal, IsStorable, IsTreeFor}
 use Rattle.gx_scan.specs.Searched.{HasInside}
 use Rattle.gx_scan.proofs.FileLemmas.{one_key, inside_key, row_fits, in_there, there_in}
 use Rattle.gx_states.proofs.LinkLemmas.{there_fits}
@@ -63,7 +63,7 @@ home_of_span file key span t u storable fit lo hi form has =
 -- the values of a record fit after changes of the file
 changed_fit : (file : FileDef) (cs : List Change) (vs : List Value)
     → AllByRecursion (IsChangeOf file) cs → AreFit (data_fields file) vs
-    → AreFit (data_fields file) (changed vs cs)
+    → AreFit (data_fields file) (with_changes vs cs)
 changed_fit file [] vs those fit = fit
 changed_fit file (c ∷ cs) vs those fit =
     changed_fit file cs (slice_set vs (c.field - 1) c.value) those.1
@@ -79,7 +79,7 @@ IsEntryOf t k vs e = In e (entries_of any_rule t (rec_of (k, vs)))
 
 -- one of a record of the file
 abbrev pub IsEntryIn : Tree AnyMapping → File → LeafEntry → Type 0
-IsEntryIn t f e = In e (flat_map (entries_of any_rule t) (records_of f))
+IsEntryIn t f e = In e (flat_map (entries_of any_rule t) (file_records f))
 
 -- such a record, as a look-up finds it
 record IsOwner (t : Tree AnyMapping) (f : File) (e : LeafEntry) : Type 0 where
@@ -90,7 +90,7 @@ record IsOwner (t : Tree AnyMapping) (f : File) (e : LeafEntry) : Type 0 where
 
 owner : (t : Tree AnyMapping) (f : File) (e : LeafEntry) → IsEntryIn t f e → IsOwner t f e
 owner t f e h =
-    let r = from_each (entries_of any_rule t) e (records_of f) h in
+    let r = from_each (entries_of any_rule t) e (file_records f) h in
     let a = in_there f r.0 r.1 in
     record {
       key = a.key;
@@ -102,7 +102,7 @@ owner t f e h =
 entry_in : (t : Tree AnyMapping) (f : File) (e : LeafEntry) (k : Value) (vs : List Value)
     → fin.get f k ≡ Some vs → IsEntryOf t k vs e → IsEntryIn t f e
 entry_in t f e k vs found its =
-    in_each (entries_of any_rule t) (rec_of (k, vs)) e (records_of f) (there_in f k vs found) its
+    in_each (entries_of any_rule t) (rec_of (k, vs)) e (file_records f) (there_in f k vs found) its
 
 module _ (file : FileDef) (key : Value) (t u : Tree AnyMapping) (home : IsHome file key t u)
     (many : ℕ) (tree : IsTreeFor file t many) (storable : IsStorable file) where
@@ -134,7 +134,7 @@ module _ (file : FileDef) (key : Value) (t u : Tree AnyMapping) (home : IsHome f
       (f_but : IsButAt key f g) (p_but : IsButAt key p q)
       (others : (n : ℕ) → (In n (leaves_of u) → ⊥) → map_at new n ≡ map_at old n) where
     -- the records after the change fit the file
-    after_fits : IsFileOf file g
+    after_fits : HasRowsOf file g
     after_fits = all_of (IsRowOf file) (fin.entries g) (λ r h.
         let found = in_find value_cmp_total r (fin.entries g) (fin.entries_sorted g) h in
         let got : fin.get g r.0 ≡ Some r.1 = fin.get-entries g r.0 ∙ found in
@@ -146,9 +146,9 @@ module _ (file : FileDef) (key : Value) (t u : Tree AnyMapping) (home : IsHome f
 
     held_entry : (e : LeafEntry) → IsEntryIn t g e → at new e.leaf e.key ≡ Some e.body
     held_entry e h =
-        let above = union_from_internal any_rule t (records_of f) old is.held in
-        let before = union_from_internal any_rule u (records_of p) old part.held in
-        let after = union_from_internal any_rule u (records_of q) new done.held in
+        let above = union_from_internal any_rule t (file_records f) old is.held in
+        let before = union_from_internal any_rule u (file_records p) old part.held in
+        let after = union_from_internal any_rule u (file_records q) new done.held in
         let a = owner t g e h in
         elim (value_cases a.key key) [
           | inl same ↦ (
@@ -178,9 +178,9 @@ module _ (file : FileDef) (key : Value) (t u : Tree AnyMapping) (home : IsHome f
     only_entry : (e : LeafEntry) → In e.leaf (leaves_of t) → at new e.leaf e.key ≡ Some e.body
         → IsEntryIn t g e
     only_entry e in_leaf found =
-        let above = union_from_internal any_rule t (records_of f) old is.held in
-        let before = union_from_internal any_rule u (records_of p) old part.held in
-        let after = union_from_internal any_rule u (records_of q) new done.held in
+        let above = union_from_internal any_rule t (file_records f) old is.held in
+        let before = union_from_internal any_rule u (file_records p) old part.held in
+        let after = union_from_internal any_rule u (file_records q) new done.held in
         elim (in_or_not e.leaf (leaves_of u)) [
           | inl inside ↦ (
               let b = owner u q e (after.only e inside found) in
@@ -217,7 +217,7 @@ module _ (file : FileDef) (key : Value) (t u : Tree AnyMapping) (home : IsHome f
     edited_above = record {
       stands = record {
         fit = after_fits;
-        held = internal_from_union any_rule t (records_of g) new tree.valid
+        held = internal_from_union any_rule t (file_records g) new tree.valid
             (record { holds = held_entry; only = only_entry });
       };
       others = λ n out. others n (λ h. out (home.leaves n h));
@@ -299,7 +299,7 @@ module _ (file : FileDef) (key : Value) (t u : Tree AnyMapping) (home : IsHome f
     update_above cs edited =
         let now : fin.get (updated h.part key cs) key ≡ fin.get (updated f key cs) key =
         inserted_at h.part _
-        ∙ ap (λ (o : Option (List Value)). Some (changed (unwrap_or o []) cs)) h.same
+        ∙ ap (λ (o : Option (List Value)). Some (with_changes (unwrap_or o []) cs)) h.same
         ∙ sym (inserted_at f _) in
         edited_at_home old new f (updated f key cs) h.part (updated h.part key cs) _ why
         is h.held h.same now (insert_but f _) (insert_but h.part _)
@@ -326,11 +326,11 @@ module _ (file : FileDef) (key : Value) (t u : Tree AnyMapping) (home : IsHome f
     pub update_short : (cs : List Change) → AllByRecursion (IsChangeOf file) cs
         → (vs : List Value) × (fin.get h.part key ≡ Some vs)
         × IsCrowdedBy limit
-        (entry_count maps + length (entries_of any_rule u (rec_of (key, changed vs cs))))
+        (entry_count maps + length (entries_of any_rule u (rec_of (key, with_changes vs cs))))
         → (vs : List Value) × (fin.get f key ≡ Some vs)
         × IsCrowdedBy limit
-        (entry_count maps + length (entries_of any_rule t (rec_of (key, changed vs cs))))
+        (entry_count maps + length (entries_of any_rule t (rec_of (key, with_changes vs cs))))
     update_short cs those short =
         let row = there_fits file h.part key short.0 h.held.fit short.1 in
         let fit = changed_fit file cs short.0 those row.1 in
-        (short.0, sym h.same ∙ short.1, short_above (changed short.0 cs) fit short.2)
+        (short.0, sym h.same ∙ short.1, short_above (with_changes short.0 cs) fit short.2)

@@ -18,8 +18,8 @@ use Rattle.gx_stack.specs.Internal.{changed as changed_records, IsInternal as Is
 use Rattle.gx_types.specs.declared.any.AnyMapping.{AnyMapping}
 use Rattle.gx_types.specs.Any.{any_rule}
 use Rattle.gx_model.specs.States.{File, Row}
-use Rattle.gx_model.specs.Commands.{Refusal, changed, updated, first_refusal}
-use Rattle.gx_scan.specs.Files.{rec_of, records_of, IsInternal}
+use Rattle.gx_model.specs.Commands.{Refusal, with_changes, updated, first_refusal}
+use Rattle.gx_scan.specs.Files.{rec_of, file_records, IsInternal}
 use Rattle.gx_edits.specs.Records.{IsEdited, IsEditedWhere}
 use Rattle.gx_edits.proofs.ChangeLemmas.{held_inserted, held_updated, held_removed, insert_fits, remove_fits}
 
@@ -52,14 +52,14 @@ pub insert_edit : (file : FileDef) (t : Tree AnyMapping) (old new : List LeafMap
     (k : Value) (vs : List Value) (r : Rec) → IsValid any_rule t → Fits (key_kind file) k
     → AreFit (data_fields file) vs → IsInternal file t old f → fin.get f k ≡ None
     → r ≡ rec_of (k, vs)
-    → IsHeld any_rule t (changed_records (records_of f) None (Some r)) new
+    → IsHeld any_rule t (changed_records (file_records f) None (Some r)) new
     → ((n : ℕ) → ¬ In n (leaves_of t) → map_at new n ≡ map_at old n)
     → IsEdited file t old new (fin.insert f k vs)
 insert_edit file t old new f k vs r valid of are is none same held others = record {
   stands = record {
     fit = insert_fits file f k vs of are is.fit;
     held = held_inserted t new valid f k vs none
-        (subst (λ (x : Rec). IsHeld any_rule t (changed_records (records_of f) None (Some x)) new)
+        (subst (λ (x : Rec). IsHeld any_rule t (changed_records (file_records f) None (Some x)) new)
         same held);
   };
   others = others;
@@ -69,7 +69,7 @@ pub update_edit : (file : FileDef) (t : Tree AnyMapping) (old new : List LeafMap
     (k : Value) (before vs : List Value) (o r : Rec) → IsValid any_rule t → Fits (key_kind file) k
     → AreFit (data_fields file) vs → IsInternal file t old f → o ≡ rec_of (k, before)
     → r ≡ rec_of (k, vs)
-    → IsHeld any_rule t (changed_records (records_of f) (Some o) (Some r)) new
+    → IsHeld any_rule t (changed_records (file_records f) (Some o) (Some r)) new
     → ((n : ℕ) → ¬ In n (leaves_of t) → map_at new n ≡ map_at old n)
     → IsEdited file t old new (fin.insert f k vs)
 update_edit file t old new f k before vs o r valid of are is was same held others = record {
@@ -77,8 +77,8 @@ update_edit file t old new f k before vs o r valid of are is was same held other
     fit = insert_fits file f k vs of are is.fit;
     held = held_updated t new valid f k before vs
         (subst (λ (x : Rec). IsHeld any_rule t
-        (changed_records (records_of f) (Some x) (Some (rec_of (k, vs)))) new) was
-        (subst (λ (x : Rec). IsHeld any_rule t (changed_records (records_of f) (Some o) (Some x))
+        (changed_records (file_records f) (Some x) (Some (rec_of (k, vs)))) new) was
+        (subst (λ (x : Rec). IsHeld any_rule t (changed_records (file_records f) (Some o) (Some x))
         new) same held));
   };
   others = others;
@@ -87,14 +87,14 @@ update_edit file t old new f k before vs o r valid of are is was same held other
 pub delete_edit : (file : FileDef) (t : Tree AnyMapping) (old new : List LeafMap) (f : File)
     (k : Value) (before : List Value) (o : Rec) → IsValid any_rule t → IsInternal file t old f
     → o ≡ rec_of (k, before)
-    → IsHeld any_rule t (changed_records (records_of f) (Some o) None) new
+    → IsHeld any_rule t (changed_records (file_records f) (Some o) None) new
     → ((n : ℕ) → ¬ In n (leaves_of t) → map_at new n ≡ map_at old n)
     → IsEdited file t old new (fin.remove f k)
 delete_edit file t old new f k before o valid is was held others = record {
   stands = record {
     fit = remove_fits file f k is.fit;
     held = held_removed t new valid f k before
-        (subst (λ (x : Rec). IsHeld any_rule t (changed_records (records_of f) (Some x) None) new)
+        (subst (λ (x : Rec). IsHeld any_rule t (changed_records (file_records f) (Some x) None) new)
         was held);
   };
   others = others;
@@ -103,10 +103,10 @@ delete_edit file t old new f k before o valid is was held others = record {
 -- ---- an update
 
 pub updated_is : (f : File) (k : Value) (cs : List Change) (vs after : List Value)
-    → Some vs ≡ fin.get f k → after ≡ changed vs cs → fin.insert f k after ≡ updated f k cs
+    → Some vs ≡ fin.get f k → after ≡ with_changes vs cs → fin.insert f k after ≡ updated f k cs
 updated_is f k cs vs after there e =
     ap (fin.insert f k) e ∙ ap (λ (o : Option (List Value)). fin.insert f k
-    (changed (unwrap_or o []) cs)) there
+    (with_changes (unwrap_or o []) cs)) there
 
 are_set_value : (fs : List Field) (vs : List Value) (i : ℕ) (d : Field) (v : Value) → AreFit fs vs
     → i < length fs → Fits (get_or fs i d).kind v → AreFit fs (set vs i v)
@@ -161,12 +161,12 @@ first_and_others (w ∷ ws) v some is = ap (λ (x : Value). x ∷ ws) (sym is)
 
 -- the record after changes of its data
 pub rec_made : (old new : Rec) (k : Value) (values : List Value) (cs : List Change)
-    → old ≡ rec_of (k, values) → new.key ≡ old.key → new.fields ≡ changed old.fields cs
-    → new ≡ rec_of (k, changed values cs)
+    → old ≡ rec_of (k, values) → new.key ≡ old.key → new.fields ≡ with_changes old.fields cs
+    → new ≡ rec_of (k, with_changes values cs)
 rec_made old new k values cs was key fields =
     let keys : new.key ≡ k ∷ [] = key ∙ ap (λ (r : Rec). r.key) was in
-    let others : new.fields ≡ changed values cs = fields
-    ∙ ap (λ (r : Rec). changed r.fields cs) was in
+    let others : new.fields ≡ with_changes values cs = fields
+    ∙ ap (λ (r : Rec). with_changes r.fields cs) was in
     λ i. record { key = keys i; fields = others i }
 
 -- the cause of a full device after a look-up, which changed nothing

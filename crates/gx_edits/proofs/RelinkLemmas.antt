@@ -180,16 +180,19 @@ relinked_edit schema built leaves old new s c i l None for are lt refused after 
           subst (AreInternal schema built new)
           (sym (ap (λ (o : Option Refusal). cond (is_some o) s (state_after s c)) (sym refused)
           ∙ after))
-          (relinked_are schema built leaves old new s i l for are lt (is (sym refused)) held others);
+          (relinked_are schema built leaves old new s i l for are lt (is (sym refused)) held
+          others);
     }
-relinked_edit schema built leaves old new s c i l (Some why) for are lt refused after is held others =
+relinked_edit schema built leaves old new s c i l (Some why) for are lt refused after is held
+    others =
     record {
       why_is = refused;
       stands =
           subst (AreInternal schema built new)
           (sym (ap (λ (o : Option Refusal). cond (is_some o) s (state_after s c)) (sym refused)
           ∙ sym (link_itself s i)))
-          (relinked_are schema built leaves old new s i (link_in s i) for are lt (are.valid.links i lt)
+          (relinked_are schema built leaves old new s i (link_in s i) for are lt
+          (are.valid.links i lt)
           held others);
     }
 

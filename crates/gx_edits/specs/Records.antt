@@ -19,7 +19,7 @@ use Rattle.gx_types.specs.Any.{any_rule}
 use Rattle.gx_pairs.specs.declared.refused.Refused.{Refused}
 use Rattle.gx_pairs.specs.Changes.{refusal_for}
 use Rattle.gx_model.specs.States.{File}
-use Rattle.gx_model.specs.Commands.{Refusal, changed, updated as updated_file, first_refusal, key_exists, no_record}
+use Rattle.gx_model.specs.Commands.{Refusal, with_changes, updated as updated_file, first_refusal, key_exists, no_record}
 use Rattle.gx_scan.specs.Files.{rec_of, IsInternal, IsStorable, IsTreeFor, HasFile}
 
 -- the tree is one for the records of the file, of which one may have this key
@@ -81,4 +81,4 @@ pub record Updates {S : Type 0} (g : Ghosts S) (file : FileDef) (t : Tree AnyMap
   pub full : (f : File) → g.whole old → IsInternal file t (g.working old) f
       → IsErrOf result stop.Full → (values : List Value) × (fin.get f key ≡ Some values)
       × IsCrowdedBy (g.limit old) (entry_count (g.working old)
-      + length (entries_of any_rule t (rec_of (key, changed values changes))))
+      + length (entries_of any_rule t (rec_of (key, with_changes values changes))))

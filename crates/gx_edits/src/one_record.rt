@@ -1,8 +1,8 @@
 // A record that is put at the places of its own entries, and what stands there before.
-ghost use Rattle.std.specs.Prelude.{◌≡◌, ◌∷◌, [], List, Some};
+ghost use Rattle.std.specs.Prelude.{◌≡◌, [], List, Some};
 ghost use Rattle.gx_values.specs.declared.values.Value.{Value as TheValue};
 ghost use Rattle.gx_stack.specs.Seen.{tree_of};
-ghost use Rattle.gx_model.specs.Commands.{changed};
+ghost use Rattle.gx_model.specs.Commands.{with_changes};
 ghost use Rattle.gx_scan.specs.Files.{rec_of};
 ghost use Rattle.gx_edits.specs.OneRecord.{has_record, StandsBefore};
 
@@ -49,7 +49,7 @@ impl Previous {
 /// What stands at the key of a record whose changed data are put.
 pub(crate) fn before_changes(node: &Node<AnyMapping>, changes: &Changes) -> Previous
     ensures { (key : TheValue) (values : List TheValue) →
-        StandsBefore result (tree_of node.now) (changed values changes.now)
+        StandsBefore result (tree_of node.now) (with_changes values changes.now)
         (Some (rec_of (key, values))) }
 {
     if others_stay(node, changes) {

@@ -7,7 +7,7 @@ ghost use Rattle.gx_commands.specs.Commands.{IsChangeOf};
 ghost use Rattle.gx_mapping.specs.Rule.{IsOf};
 ghost use Rattle.gx_stack.specs.Seen.{tree_of};
 ghost use Rattle.gx_typing.specs.Dues.{file_form};
-ghost use Rattle.gx_model.specs.Commands.{changed};
+ghost use Rattle.gx_model.specs.Commands.{with_changes};
 ghost use Rattle.gx_scan.specs.Files.{rec_of};
 ghost use Rattle.gx_edits.specs.Records.{CanEdit, Inserts, Deletes, Updates};
 ghost use Rattle.gx_entries.specs.Entries.{AreOwnLeaves};
@@ -181,7 +181,7 @@ fn changed_record(file: &FileDef, old: Rec, changes: Changes) -> Rec
     requires old { IsOf (file_form file.now) old }
     requires changes { AllByRecursion (IsChangeOf file.now) changes }
     ensures key { result.key ≡ old.key }
-    ensures fields { result.fields ≡ changed old.fields changes }
+    ensures fields { result.fields ≡ with_changes old.fields changes }
     ensures fits { IsOf (file_form file.now) result }
 {
     Rec {
@@ -194,7 +194,7 @@ fn changed_record(file: &FileDef, old: Rec, changes: Changes) -> Rec
 fn changed_values(file: &FileDef, values: Values, changes: Changes) -> Values
     requires values { AreFit (data_fields file.now) values }
     requires changes { AllByRecursion (IsChangeOf file.now) changes }
-    ensures changed { result ≡ changed values changes }
+    ensures changed { result ≡ with_changes values changes }
     ensures fits { AreFit (data_fields file.now) result }
 {
     let _file = file;

@@ -45,7 +45,8 @@ same_sign (b ∷ bytes) = by_test (nat_eq b (sign_of bytes)) refl (same_sign byt
   where
     by_test : (t : Bool) → t ≡ nat_eq b (sign_of bytes) → sign_of (shortest bytes) ≡ sign_of bytes
         → sign_of (cond t (shortest bytes) (b ∷ bytes)) ≡ sign_of (b ∷ bytes)
-    by_test true is again = again ∙ sym (sign_in_front b bytes (equal_from_nat_eq b (sign_of bytes) (sym is)))
+    by_test true is again =
+        again ∙ sym (sign_in_front b bytes (equal_from_nat_eq b (sign_of bytes) (sym is)))
     by_test false is again = refl
 
 extended_more : (n : ℕ) (bytes : List ℕ) → length bytes ≤ n

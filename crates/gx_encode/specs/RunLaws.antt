@@ -6,7 +6,7 @@ use Rattle.std.proofs.Math.ListN.{replicate}
 use Rattle.std.proofs.lemmas.Bool.Decides.{nat_tests}
 use Rattle.gx_laws.proofs.NumberLemmas.{equal_from_nat_eq, nat_eq_itself}
 use Rattle.gx_values.specs.Values.{is_printable}
-use Rattle.gx_encode.specs.Runs.{with_byte, runs_of, pairs_of, rle, joined, AreLongest, AreRuns, AreShort, last_from, repeats}
+use Rattle.gx_encode.specs.Runs.{with_byte, runs_of, bytes_of_runs, rle, joined, AreLongest, AreRuns, AreShort, last_from, repeats}
 
 other : (a b : ℕ) → nat_eq a b ≡ false → a ≢ b
 other a b e = grind (arith, nat_tests)
@@ -25,7 +25,8 @@ with_joined b (run ∷ runs) = by_test (nat_eq b run.1) refl
   where
     by_test : (t : Bool) → t ≡ nat_eq b run.1
         → joined (cond t ((suc run.0, b) ∷ runs) ((1, b) ∷ run ∷ runs)) ≡ b ∷ joined (run ∷ runs)
-    by_test true is = ap (λ (x : ℕ). b ∷ (replicate run.0 x ++ joined runs)) (equal_from_nat_eq b run.1 (sym is))
+    by_test true is = ap (λ (x : ℕ). b ∷ (replicate run.0 x ++ joined runs))
+        (equal_from_nat_eq b run.1 (sym is))
     by_test false is = refl
 
 with_longest : (b : ℕ) (runs : List (ℕ × ℕ)) → AreLongest None runs
@@ -58,9 +59,10 @@ are_runs text = record { joined = runs_joined text; longest = runs_longest text 
 pub record BeginWith (runs done : List (ℕ × ℕ)) (rest : List ℕ) : Type 0 where
   pub more : List (ℕ × ℕ)
   pub is : runs ≡ done ++ more
-  pub pairs : pairs_of more ≡ rest
+  pub pairs : bytes_of_runs more ≡ rest
 
-pub pairs_cut : (runs done : List (ℕ × ℕ)) (rest : List ℕ) → pairs_of runs ≡ pairs_of done ++ rest
+pub pairs_cut : (runs done : List (ℕ × ℕ)) (rest : List ℕ)
+    → bytes_of_runs runs ≡ bytes_of_runs done ++ rest
     → BeginWith runs done rest
 pairs_cut runs [] rest e = record { more = runs; is = refl; pairs = e }
 pairs_cut [] (d ∷ done) rest e = absurd (let n = ap length e in omega (arith, n))
@@ -71,7 +73,7 @@ pairs_cut (r ∷ runs) (d ∷ done) rest e =
     let tail = later.is in
     record { more = later.more; is = λ i. (count i, byte i) ∷ tail i; pairs = later.pairs }
 
-pub same_pairs : (a b : List (ℕ × ℕ)) → pairs_of a ≡ pairs_of b → a ≡ b
+pub same_pairs : (a b : List (ℕ × ℕ)) → bytes_of_runs a ≡ bytes_of_runs b → a ≡ b
 same_pairs [] [] e = refl
 same_pairs [] (r ∷ b) e = absurd (let n = ap length e in omega (arith, n))
 same_pairs (r ∷ a) [] e = absurd (let n = ap length e in omega (arith, n))
@@ -88,13 +90,13 @@ same_rle a b e =
 
 -- and at most twice as long
 with_pairs : (b : ℕ) (runs : List (ℕ × ℕ))
-    → length (pairs_of (with_byte b runs)) ≤ length (pairs_of runs) + 2
+    → length (bytes_of_runs (with_byte b runs)) ≤ length (bytes_of_runs runs) + 2
 with_pairs b [] = omega arith
 with_pairs b (run ∷ runs) = by_test (nat_eq b run.1)
   where
     by_test : (t : Bool)
-        → length (pairs_of (cond t ((suc run.0, b) ∷ runs) ((1, b) ∷ run ∷ runs)))
-        ≤ length (pairs_of (run ∷ runs)) + 2
+        → length (bytes_of_runs (cond t ((suc run.0, b) ∷ runs) ((1, b) ∷ run ∷ runs)))
+        ≤ length (bytes_of_runs (run ∷ runs)) + 2
     by_test true = omega arith
     by_test false = omega arith
 
@@ -178,7 +180,7 @@ run_behind (x ∷ y ∷ text) k b apart =
     ∙ ap (λ runs. with_byte x runs ++ (suc k, b) ∷ []) (sym first)
 
 pub pairs_behind : (runs : List (ℕ × ℕ)) (run : ℕ × ℕ)
-    → pairs_of (runs ++ run ∷ []) ≡ pairs_of runs ++ run.0 ∷ run.1 ∷ []
+    → bytes_of_runs (runs ++ run ∷ []) ≡ bytes_of_runs runs ++ run.0 ∷ run.1 ∷ []
 pairs_behind [] run = refl
 pairs_behind (r ∷ runs) run = ap (λ (rest : List ℕ). r.0 ∷ r.1 ∷ rest) (pairs_behind runs run)
 

@@ -16,12 +16,12 @@ runs_of [] = []
 runs_of (b ∷ text) = with_byte b (runs_of text)
 
 -- a count byte and the byte, for each run
-abbrev pub pairs_of : List (ℕ × ℕ) → List ℕ
-pairs_of [] = []
-pairs_of (run ∷ runs) = run.0 ∷ run.1 ∷ pairs_of runs
+abbrev pub bytes_of_runs : List (ℕ × ℕ) → List ℕ
+bytes_of_runs [] = []
+bytes_of_runs (run ∷ runs) = run.0 ∷ run.1 ∷ bytes_of_runs runs
 
 abbrev pub rle : List ℕ → List ℕ
-rle text = pairs_of (runs_of text)
+rle text = bytes_of_runs (runs_of text)
 
 -- the text that the runs are of
 abbrev pub joined : List (ℕ × ℕ) → List ℕ
@@ -42,7 +42,7 @@ pub record AreRuns (text : List ℕ) (runs : List (ℕ × ℕ)) : Type 0 where
 pub record IsCodeOfRuns (text bytes : List ℕ) : Type 0 where
   pub runs : List (ℕ × ℕ)
   pub are : AreRuns text runs
-  pub pairs : bytes ≡ pairs_of runs
+  pub pairs : bytes ≡ bytes_of_runs runs
 
 -- the count of each run can be written
 abbrev pub AreShort : List (ℕ × ℕ) → Type 0

@@ -1,4 +1,4 @@
-//! The transformation `encode`: one data field by its code, and the two codes.
+//! The layer `encode`: one data field by its code, and the two codes.
 #![tactic(auto)]
 
 mod codes;

@@ -11,7 +11,7 @@ use Rattle.gx_ports.specs.declared.view.View.{Ghosts}
 use Rattle.gx_types.specs.declared.built.Built.{Built}
 use Rattle.gx_model.specs.States.{State}
 use Rattle.gx_model.specs.Commands.{Refusal, refusal_of, IsAnswer}
-use Rattle.gx_model.specs.Play.{Playing, seen_state, with_working, next_of, IsAnswered}
+use Rattle.gx_model.specs.Play.{Playing, seen_state, with_working, after_command, IsAnswered}
 use Rattle.gx_engine.specs.declared.engine.Engine.{Engine}
 use Rattle.gx_engine.specs.Steps.{AreFresh, selects}
 use Rattle.gx_answers.specs.Queries.{follows_link}
@@ -23,7 +23,7 @@ same_after None s = refl
 same_after (Some why) s = refl
 
 pub follow_next : (schema : Schema) (p : Playing) (c : Command) → follows_link c ≡ true
-    → next_of schema p c ≡ with_working p (seen_state p)
+    → after_command schema p c ≡ with_working p (seen_state p)
 follow_next schema p (command.Members link owner order) e = ap (with_working p) (same_after
     (refusal_of schema (seen_state p) (command.Members link owner order)) (seen_state p))
 follow_next schema p (command.Owner link member) e =

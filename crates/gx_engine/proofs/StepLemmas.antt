@@ -29,7 +29,7 @@ use Rattle.gx_pairs.specs.Changes.{refusal_for}
 use Rattle.gx_model.specs.States.{File, State, Row, file_in}
 use Rattle.gx_model.specs.Found.{IsListed, is_chosen, meets_conds, meets_of}
 use Rattle.gx_model.specs.Commands.{Refusal, no_record, next_state, refusal_of, first_refusal, IsAnswerOr, IsListText, lacks_of}
-use Rattle.gx_model.specs.Play.{Playing, IsAnswered, seen_state, is_inside, working_after, with_working, next_of}
+use Rattle.gx_model.specs.Play.{Playing, IsAnswered, seen_state, is_inside, working_after, with_working, after_command}
 use Rattle.gx_model.proofs.RunLemmas.{some_after}
 use Rattle.gx_scan.specs.Files.{HasFile}
 use Rattle.gx_engine.specs.declared.engine.Engine.{Engine}
@@ -198,7 +198,7 @@ file_cause g e new i file t why result lt is tree ends =
 -- ---- edits
 
 pub edit_next : (schema : Schema) (p : Playing) (c : Command) → is_edit c ≡ true
-    → next_of schema p c ≡ with_working p (next_state schema (seen_state p) c)
+    → after_command schema p c ≡ with_working p (next_state schema (seen_state p) c)
 edit_next schema p command.Begin e = absurd (true≢false (sym e))
 edit_next schema p command.Commit e = absurd (true≢false (sym e))
 edit_next schema p command.Abort e = absurd (true≢false (sym e))
@@ -247,7 +247,7 @@ edit_carried schema built inside commits old new kept now p c why out said text 
       answer = text;
       said = is_said;
       answered = edit_answered schema p c why text is edit.why_is is_text;
-      stands = kept_stands schema built inside commits new kept now (next_of schema p c) same
+      stands = kept_stands schema built inside commits new kept now (after_command schema p c) same
           (subst (Stands schema built inside commits new kept) (sym (edit_next schema p c is))
           (stands_with schema built inside commits old new kept p
           (next_state schema (seen_state p) c) stands (edit_open inside c is place) edit.stands));
@@ -261,10 +261,10 @@ edit_room _ e = e
 pub edit_short : (limit : Option Limits) (schema : Schema) (built : Built) (before : ℕ)
     (p : Playing) (c : Command) → is_edit c ≡ true → is_inside p ≡ true
     → IsCrowdedBy limit (before + state_entries built (next_state schema (seen_state p) c))
-    → IsCrowdedBy limit (before + state_entries built (seen_state (next_of schema p c)))
+    → IsCrowdedBy limit (before + state_entries built (seen_state (after_command schema p c)))
 edit_short limit schema built before p c is open_ short =
     let s = next_state schema (seen_state p) c in
-    short_after limit built before s (seen_state (next_of schema p c))
+    short_after limit built before s (seen_state (after_command schema p c))
     (ap seen_state (edit_next schema p c is) ∙ seen_next p s open_) short
 
 pub edit_wants : (schema : Schema) (p : Playing) (c : Command) → may_bring c ≡ true

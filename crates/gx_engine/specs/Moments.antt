@@ -6,7 +6,7 @@ use Rattle.gx_commands.specs.declared.command.Command.{Command}
 use Rattle.gx_commands.specs.declared.command.Command.TheVariants as command
 use Rattle.gx_types.specs.declared.built.Built.{Built}
 use Rattle.gx_model.specs.Commands.{refusal_of}
-use Rattle.gx_model.specs.Play.{Playing, seen_state, is_inside, next_of, IsAnswered}
+use Rattle.gx_model.specs.Play.{Playing, seen_state, is_inside, after_command, IsAnswered}
 use Rattle.gx_states.specs.Internal.{AreInternal}
 use Rattle.gx_edits.specs.Edits.{may_bring}
 
@@ -24,7 +24,7 @@ pub record IsCarried (schema : Schema) (built : Built) (p : Playing) (c : Comman
   pub answer : List ℕ
   pub said : new ≡ old ++ answer
   pub answered : IsAnswered schema p c answer
-  pub stands : Stands schema built inside commits working kept (next_of schema p c)
+  pub stands : Stands schema built inside commits working kept (after_command schema p c)
 
 -- ---- which commands may want room
 

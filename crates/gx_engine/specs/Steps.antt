@@ -17,7 +17,7 @@ use Rattle.gx_stack.specs.Tree.{leaves_of as tree_leaves, kids_leaves}
 use Rattle.gx_types.specs.declared.built.Built.{Built}
 use Rattle.gx_types.specs.Links.{link_kids_at}
 use Rattle.gx_types.specs.Nodes.{tree_at}
-use Rattle.gx_model.specs.Play.{Playing, seen_state, next_of}
+use Rattle.gx_model.specs.Play.{Playing, seen_state, after_command}
 use Rattle.gx_engine.specs.declared.engine.Engine.{Engine}
 use Rattle.gx_engine.specs.declared.engine.StepStop.{StepStop}
 use Rattle.gx_engine.specs.declared.engine.StepStop.TheVariants.{Now, Stopped}
@@ -48,6 +48,16 @@ commits_of e = e.commits
 -- the first stop, which is kept
 abbrev pub stop_of : {S : Type 0} → Engine S → Option Stop
 stop_of e = e.stopped
+
+-- an engine that begins: over these leaves, with no transaction open, no commit and no stop
+pub record Begins {S : Type 0} (schema : Schema) (built : Built) (leaves : S) (e : Engine S)
+    : Type 0 where
+  pub schema_is : schema_of e ≡ schema
+  pub built_is : built_of e ≡ built
+  pub leaves_are : leaves_of e ≡ leaves
+  pub shut : is_open e ≡ false
+  pub no_commits : commits_of e ≡ 0
+  pub no_stop : stop_of e ≡ None
 
 -- its schema can be stored as it is built
 abbrev pub IsReady : {S : Type 0} → Ghosts S → Engine S → Type 0
@@ -83,7 +93,7 @@ IsShortFor g e p c =
     MayWantRoom (schema_of e) p c
     × IsCrowdedBy (g.limit (leaves_of e))
     (entry_count (g.working (leaves_of e))
-    + state_entries (built_of e) (seen_state (next_of (schema_of e) p c)))
+    + state_entries (built_of e) (seen_state (after_command (schema_of e) p c)))
 
 -- ---- one command
 

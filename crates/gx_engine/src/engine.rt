@@ -45,20 +45,15 @@ impl<B: Leaves + Drop> Engine<B> {
     ghost use Rattle.gx_commands.specs.declared.command.Command.TheVariants as command;
     ghost use Rattle.gx_states.specs.Internal.{AreInternal, AreFor};
     ghost use Rattle.gx_answers.specs.Queries.{follows_link};
-    ghost use Rattle.gx_engine.specs.Steps.{schema_of, built_of, leaves_of, is_open, commits_of, stop_of, IsReady, IsDue, StandsFor, IsAt, IsShortFor, CarriesOut, AreFresh, IsStep, EndsStep, TakesFewSteps, IsSame};
+    ghost use Rattle.gx_engine.specs.Steps.{schema_of, built_of, leaves_of, is_open, Begins, IsReady, IsDue, StandsFor, IsAt, IsShortFor, CarriesOut, AreFresh, IsStep, EndsStep, TakesFewSteps, IsSame};
     ghost use Rattle.gx_engine.specs.declared.engine.StepStop.TheVariants.{Now, Stopped};
 
     /// An engine over leaves, which hold the files and the links of the schema as they are built.
     /// No transaction is open, and no stop is kept.
     pub fn start(schema: Schema, built: Built, leaves: B) -> Engine<B>
         requires { AreFor schema built (length (B.working leaves)) }
+        ensures begins { Begins schema built leaves result }
         ensures ready { IsReady B.View result }
-        ensures schema { schema_of result ≡ schema }
-        ensures built { built_of result ≡ built }
-        ensures leaves { leaves_of result ≡ leaves }
-        ensures inside { is_open result ≡ false }
-        ensures commits { commits_of result ≡ 0 }
-        ensures stop { stop_of result ≡ None }
         ensures stands { (s : State) → AreInternal schema built (B.working leaves) s →
             B.kept leaves ≡ B.working leaves → StandsFor B.View result (start_at s) }
     {

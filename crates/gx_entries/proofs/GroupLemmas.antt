@@ -7,7 +7,7 @@ use Rattle.std.proofs.lemmas.List.{drop_more}
 use Rattle.gx_values.specs.declared.values.Value.{Value}
 use Rattle.gx_split.specs.Groups.{chosen}
 use Rattle.gx_commands.specs.declared.command.Change.{Change}
-use Rattle.gx_model.specs.Commands.{changed}
+use Rattle.gx_model.specs.Commands.{with_changes}
 
 first_of : (b : Bool) (mask : List Bool) (v : Value) (vs : List Value)
     → chosen (b ∷ mask) (v ∷ vs) ≡ cond b (v ∷ []) [] ++ chosen mask vs
@@ -41,7 +41,7 @@ chosen_set (false ∷ mask) (w ∷ vs) (suc i) v here =
 
 pub others_same : (mask : List Bool) (cs : List Change) (vs : List Value)
     → AllByRecursion (λ (c : Change). get_or mask (c.field - 1) false ≡ true) cs
-    → chosen (map not mask) (changed vs cs) ≡ chosen (map not mask) vs
+    → chosen (map not mask) (with_changes vs cs) ≡ chosen (map not mask) vs
 others_same mask [] vs all = refl
 others_same mask (c ∷ cs) vs all =
     others_same mask cs (slice_set vs (c.field - 1) c.value) all.1

@@ -6,7 +6,7 @@ ghost use Rattle.gx_values.specs.Values.{AreFit};
 ghost use Rattle.gx_split.specs.Groups.{chosen};
 ghost use Rattle.gx_split.specs.SegmentRules.{form_of, mask_of};
 ghost use Rattle.gx_stack.specs.Seen.{tree_of};
-ghost use Rattle.gx_model.specs.Commands.{changed};
+ghost use Rattle.gx_model.specs.Commands.{with_changes};
 ghost use Rattle.gx_entries.specs.Entries.{others_in, others_of};
 
 use gx_commands::Changes;
@@ -51,7 +51,7 @@ pub(crate) fn first_group(
 /// second entry stay.
 pub fn others_stay(node: &Node<AnyMapping>, changes: &Changes) -> bool
     ensures { result ≡ true → (values : List TheValue) →
-        others_in (tree_of node.now) (changed values changes.now)
+        others_in (tree_of node.now) (with_changes values changes.now)
         ≡ others_in (tree_of node.now) values }
 {
     if let Node::Layer(layer) = node

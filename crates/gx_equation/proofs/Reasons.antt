@@ -48,24 +48,30 @@ MeansOr (Err reason) = IsSaid reason
 
 -- ---- one token, and one reader after another
 
-says_met : {X : Type 0} (bytes rest : List ℕ) (m : Result X Why) → MeansOr m → Says (met bytes m rest)
+says_met : {X : Type 0} (bytes rest : List ℕ) (m : Result X Why) → MeansOr m
+    → Says (met bytes m rest)
 says_met bytes rest (Ok x) h = tt
 says_met bytes rest (Err reason) h = h
 
-says_by : {X : Type 0} (meaning : Lexeme → Result X Why) (bytes : List ℕ) (n : Result (Lexeme × List ℕ) Fault) → ((t : Lexeme) → MeansOr (meaning t)) → next_token bytes ≡ n → Says (n >>= λ x. met bytes (meaning x.0) x.1)
+says_by : {X : Type 0} (meaning : Lexeme → Result X Why) (bytes : List ℕ)
+    (n : Result (Lexeme × List ℕ) Fault) → ((t : Lexeme) → MeansOr (meaning t))
+    → next_token bytes ≡ n → Says (n >>= λ x. met bytes (meaning x.0) x.1)
 says_by meaning bytes (Ok x) each e = says_met bytes x.1 (meaning x.0) (each x.0)
 says_by meaning bytes (Err f) each e = let n = no_token bytes f e in subst IsSaid (sym n.1) tt
 
-says_want : {X : Type 0} (meaning : Lexeme → Result X Why) → ((t : Lexeme) → MeansOr (meaning t)) → (bytes : List ℕ) → Says (want meaning bytes)
+says_want : {X : Type 0} (meaning : Lexeme → Result X Why) → ((t : Lexeme) → MeansOr (meaning t))
+    → (bytes : List ℕ) → Says (want meaning bytes)
 says_want meaning each bytes = says_by meaning bytes (next_token bytes) each refl
 
-says_then : {X Y : Type 0} (r : Result X Fault) (k : X → Result Y Fault) → Says r → ((x : X) → r ≡ Ok x → Says (k x)) → Says (r >>= k)
+says_then : {X Y : Type 0} (r : Result X Fault) (k : X → Result Y Fault) → Says r
+    → ((x : X) → r ≡ Ok x → Says (k x)) → Says (r >>= k)
 says_then (Ok x) k h more = more x refl
 says_then (Err f) k h more = h
 
 -- ---- meanings
 
-means_word : {X : Type 0} (meaning : List ℕ → Result X Why) → ((w : List ℕ) → MeansOr (meaning w)) → (t : Lexeme) → MeansOr (word_if meaning t)
+means_word : {X : Type 0} (meaning : List ℕ → Result X Why) → ((w : List ℕ) → MeansOr (meaning w))
+    → (t : Lexeme) → MeansOr (word_if meaning t)
 means_word meaning each (Word w) = each w
 means_word meaning each other = tt
 
@@ -127,7 +133,8 @@ mapped_says : {X Y : Type 0} (f : X → Y) (m : Result X Why) → MeansOr m → 
 mapped_says f (Ok x) h = tt
 mapped_says f (Err reason) h = h
 
-means_or_comma : {X : Type 0} (item : Lexeme → Result X Why) → ((t : Lexeme) → MeansOr (item t)) → (t : Lexeme) → MeansOr (or_comma item t)
+means_or_comma : {X : Type 0} (item : Lexeme → Result X Why) → ((t : Lexeme) → MeansOr (item t))
+    → (t : Lexeme) → MeansOr (or_comma item t)
 means_or_comma item each Comma = tt
 means_or_comma item each other = mapped_says (λ x. Some x) (item other) (each other)
 
@@ -146,60 +153,89 @@ side_word_says (Some l) w = tt
 side_word_says None w = mapped_says head_word (head_of_word 16 w) (head_says 16 w)
 
 means_side : (t : Lexeme) → MeansOr (a_side_word t)
-means_side t = means_word (λ w. side_word (linkset_of_word w) w) (λ w. side_word_says (linkset_of_word w) w) t
+means_side t = means_word (λ w. side_word (linkset_of_word w) w)
+    (λ w. side_word_says (linkset_of_word w) w) t
 
 -- ---- heads
 
-more_step : {X : Type 0} (before : List X) (o : Option X) (rest : List ℕ) (others : X → Result (List X × List ℕ) Fault) → ((x : X) → Says (others x)) → Says {X = List X × List ℕ} (elim o [ None ↦ Ok (before, rest) | Some x ↦ others x ])
+more_step : {X : Type 0} (before : List X) (o : Option X) (rest : List ℕ) (others : X
+    → Result (List X × List ℕ) Fault) → ((x : X) → Says (others x))
+    → Says {X = List X × List ℕ} (elim o [ None ↦ Ok (before, rest) | Some x ↦ others x ])
 more_step before None rest others h = tt
 more_step before (Some x) rest others h = h x
 
-pub says_items : {X : Type 0} (item : Lexeme → Result X Why) → ((t : Lexeme) → MeansOr (item t)) → ((bytes : List ℕ) (y : Option X × List ℕ) → want (or_comma item) bytes ≡ Ok y → length y.1 < length bytes)
-    → (fuel : ℕ) (before : List X) (bytes : List ℕ) → length bytes < fuel → Says (items_at item fuel before bytes)
+pub says_items : {X : Type 0} (item : Lexeme → Result X Why) → ((t : Lexeme) → MeansOr (item t))
+    → ((bytes : List ℕ) (y : Option X × List ℕ) → want (or_comma item) bytes ≡ Ok y
+    → length y.1 < length bytes)
+    → (fuel : ℕ) (before : List X) (bytes : List ℕ) → length bytes < fuel
+    → Says (items_at item fuel before bytes)
 unfolding items_at
 says_items item each short zero before bytes lt = absurd (omega arith)
 says_items item each short (suc fuel) before bytes lt =
-    says_then (want (or_comma item) bytes) (λ x. elim x.0 [ None ↦ Ok (before, x.1) | Some y ↦ items_at item fuel (before ++ y ∷ []) x.1 ]) (says_want (or_comma item) (means_or_comma item each) bytes)
-    (λ x e. more_step before x.0 x.1 (λ y. items_at item fuel (before ++ y ∷ []) x.1) (λ y. says_items item each short fuel (before ++ y ∷ []) x.1 (omega (arith, short bytes x e))))
+    says_then (want (or_comma item) bytes)
+    (λ x. elim x.0 [ None ↦ Ok (before, x.1) | Some y ↦ items_at item fuel (before ++ y ∷ []) x.1 ])
+    (says_want (or_comma item) (means_or_comma item each) bytes)
+    (λ x e. more_step before x.0 x.1 (λ y. items_at item fuel (before ++ y ∷ []) x.1)
+    (λ y. says_items item each short fuel (before ++ y ∷ []) x.1
+    (omega (arith, short bytes x e))))
 
-pub says_names : (first : List ℕ) (bytes : List ℕ) → Says (items_at a_word (suc (length bytes)) (first ∷ []) bytes)
-says_names first bytes = says_items a_word means_name name_shorter (suc (length bytes)) (first ∷ []) bytes (omega arith)
+pub says_names : (first : List ℕ) (bytes : List ℕ)
+    → Says (items_at a_word (suc (length bytes)) (first ∷ []) bytes)
+says_names first bytes =
+    says_items a_word means_name name_shorter (suc (length bytes)) (first ∷ []) bytes (omega arith)
 
-pub says_bounds : (first : Value) (bytes : List ℕ) → Says (items_at a_bound (suc (length bytes)) (first ∷ []) bytes)
-says_bounds first bytes = says_items a_bound means_bound bound_shorter (suc (length bytes)) (first ∷ []) bytes (omega arith)
+pub says_bounds : (first : Value) (bytes : List ℕ)
+    → Says (items_at a_bound (suc (length bytes)) (first ∷ []) bytes)
+says_bounds first bytes =
+    says_items a_bound means_bound bound_shorter (suc (length bytes)) (first ∷ []) bytes
+    (omega arith)
 
 says_hash : (bytes : List ℕ) → Says (hash_at bytes)
 unfolding hash_at
-says_hash bytes = says_then (want an_open bytes) _ (says_want an_open means_open bytes) (λ o _. says_then (want (a_size 64) o.1) _ (says_want (a_size 64) (means_size 64) o.1) (λ n _. says_then (want a_close n.1) _ (says_want a_close means_close n.1) (λ c _. tt)))
+says_hash bytes = says_then (want an_open bytes) _ (says_want an_open means_open bytes)
+    (λ o _. says_then (want (a_size 64) o.1) _ (says_want (a_size 64) (means_size 64) o.1)
+    (λ n _. says_then (want a_close n.1) _ (says_want a_close means_close n.1) (λ c _. tt)))
 
 says_encode : (bytes : List ℕ) → Says (encode_at bytes)
 unfolding encode_at
 says_encode bytes =
-    says_then (want an_open bytes) _ (says_want an_open means_open bytes) (λ o _. says_then (want a_word o.1) _ (says_want a_word means_name o.1) (λ n _. says_then (want a_code n.1) _ (says_want a_code means_code n.1) (λ c _.
+    says_then (want an_open bytes) _ (says_want an_open means_open bytes)
+    (λ o _. says_then (want a_word o.1) _ (says_want a_word means_name o.1)
+    (λ n _. says_then (want a_code n.1) _ (says_want a_code means_code n.1) (λ c _.
     says_then (want a_comma c.1) _ (says_want a_comma means_comma c.1) (λ d _. tt))))
 
 says_segment : (bytes : List ℕ) → Says (segment_at bytes)
 unfolding segment_at
 says_segment bytes =
-    says_then (want an_open bytes) _ (says_want an_open means_open bytes) (λ o _. says_then (want a_word o.1) _ (says_want a_word means_name o.1) (λ n _.
-    says_then (items_at a_word (suc (length n.1)) (n.0 ∷ []) n.1) _ (says_names n.0 n.1) (λ ns _. tt)))
+    says_then (want an_open bytes) _ (says_want an_open means_open bytes)
+    (λ o _. says_then (want a_word o.1) _ (says_want a_word means_name o.1) (λ n _.
+    says_then (items_at a_word (suc (length n.1)) (n.0 ∷ []) n.1) _ (says_names n.0 n.1)
+    (λ ns _. tt)))
 
 says_partition : (bytes : List ℕ) → Says (partition_at bytes)
 unfolding partition_at
 says_partition bytes =
-    says_then (want an_open bytes) _ (says_want an_open means_open bytes) (λ o _. says_then (want a_word o.1) _ (says_want a_word means_name o.1) (λ n _. says_then (want a_bound n.1) _ (says_want a_bound means_bound n.1) (λ b _.
-    says_then (items_at a_bound (suc (length b.1)) (b.0 ∷ []) b.1) _ (says_bounds b.0 b.1) (λ bs _. tt))))
+    says_then (want an_open bytes) _ (says_want an_open means_open bytes)
+    (λ o _. says_then (want a_word o.1) _ (says_want a_word means_name o.1)
+    (λ n _. says_then (want a_bound n.1) _ (says_want a_bound means_bound n.1) (λ b _.
+    says_then (items_at a_bound (suc (length b.1)) (b.0 ∷ []) b.1) _ (says_bounds b.0 b.1)
+    (λ bs _. tt))))
 
 says_divide : (bytes : List ℕ) → Says (divide_at bytes)
 unfolding divide_at
-says_divide bytes = says_then (want an_open bytes) _ (says_want an_open means_open bytes) (λ o _. says_then (want (a_size 16000) o.1) _ (says_want (a_size 16000) (means_size 16000) o.1) (λ n _. says_then (want a_comma n.1) _ (says_want a_comma means_comma n.1) (λ c _. tt)))
+says_divide bytes = says_then (want an_open bytes) _ (says_want an_open means_open bytes)
+    (λ o _. says_then (want (a_size 16000) o.1) _ (says_want (a_size 16000) (means_size 16000) o.1)
+    (λ n _. says_then (want a_comma n.1) _ (says_want a_comma means_comma n.1) (λ c _. tt)))
 
 says_index : (bytes : List ℕ) → Says (index_at bytes)
 unfolding index_at
-says_index bytes = says_then (want an_open bytes) _ (says_want an_open means_open bytes) (λ o _. says_then (want a_word o.1) _ (says_want a_word means_name o.1) (λ n _. says_then (want a_comma n.1) _ (says_want a_comma means_comma n.1) (λ c _. tt)))
+says_index bytes = says_then (want an_open bytes) _ (says_want an_open means_open bytes)
+    (λ o _. says_then (want a_word o.1) _ (says_want a_word means_name o.1)
+    (λ n _. says_then (want a_comma n.1) _ (says_want a_comma means_comma n.1) (λ c _. tt)))
 
 says_opened : (top : Head) (bytes : List ℕ) → Says (opened_at top bytes)
-says_opened top bytes = says_then (want an_open bytes) _ (says_want an_open means_open bytes) (λ o _. tt)
+says_opened top bytes =
+    says_then (want an_open bytes) _ (says_want an_open means_open bytes) (λ o _. tt)
 
 says_arguments : (w : HeadWord) (bytes : List ℕ) → Says (arguments_at w bytes)
 unfolding arguments_at
@@ -220,44 +256,69 @@ says_arguments words.Index bytes = says_index bytes
 -- what passes leaves less, says why it fails, and fails where no token stands
 pub record IsGood (term : Pass) : Type 0 where
   pub says : (bytes : List ℕ) → Says (term bytes)
-  pub shorter : (bytes : List ℕ) (y : Unit {0} × List ℕ) → term bytes ≡ Ok y → length y.1 < length bytes
+  pub shorter : (bytes : List ℕ) (y : Unit {0} × List ℕ) → term bytes ≡ Ok y
+      → length y.1 < length bytes
   pub starts : (bytes : List ℕ) (f : Fault) → next_token bytes ≡ Err f → term bytes ≡ Err f
 
-mark_step : (more : Bool) (r : Result (Unit {0} × List ℕ) Fault) (rest : List ℕ) → Says r → Says (cond more r (Ok (tt, rest)))
+mark_step : (more : Bool) (r : Result (Unit {0} × List ℕ) Fault) (rest : List ℕ) → Says r
+    → Says (cond more r (Ok (tt, rest)))
 mark_step true r rest h = h
 mark_step false r rest h = tt
 
-pub says_kids : (term : Pass) → IsGood term → (fuel : ℕ) (bytes : List ℕ) → length bytes < fuel → Says (pass_kids term fuel bytes)
+pub says_kids : (term : Pass) → IsGood term → (fuel : ℕ) (bytes : List ℕ) → length bytes < fuel
+    → Says (pass_kids term fuel bytes)
 says_kids term good zero bytes lt = absurd (omega arith)
 says_kids term good (suc fuel) bytes lt =
-    says_then (term bytes) (λ t. want comma_or_close t.1 >>= λ more. cond more.0 (pass_kids term fuel more.1) (Ok (tt, more.1))) (good.says bytes)
-    (λ t e. says_then (want comma_or_close t.1) (λ more. cond more.0 (pass_kids term fuel more.1) (Ok (tt, more.1))) (says_want comma_or_close means_mark t.1)
-    (λ more m. mark_step more.0 (pass_kids term fuel more.1) more.1 (says_kids term good fuel more.1 (omega (arith, good.shorter bytes t e, more_shorter t.1 more m)))))
+    says_then (term bytes) (λ t. want comma_or_close t.1 >>= λ more. cond more.0
+    (pass_kids term fuel more.1) (Ok (tt, more.1))) (good.says bytes)
+    (λ t e. says_then (want comma_or_close t.1)
+    (λ more. cond more.0 (pass_kids term fuel more.1) (Ok (tt, more.1)))
+    (says_want comma_or_close means_mark t.1)
+    (λ more m. mark_step more.0 (pass_kids term fuel more.1) more.1
+    (says_kids term good fuel more.1
+    (omega (arith, good.shorter bytes t e, more_shorter t.1 more m)))))
 
-says_behind : (term : Pass) → IsGood term → (a : Arity) (bytes : List ℕ) → Says (pass_behind term a bytes)
+says_behind : (term : Pass) → IsGood term → (a : Arity) (bytes : List ℕ)
+    → Says (pass_behind term a bytes)
 says_behind term good No_kids bytes = tt
-says_behind term good One_kid bytes = says_then (term bytes) _ (good.says bytes) (λ t _. says_want a_close means_close t.1)
+says_behind term good One_kid bytes =
+    says_then (term bytes) _ (good.says bytes) (λ t _. says_want a_close means_close t.1)
 says_behind term good Two_kids bytes =
-    says_then (term bytes) _ (good.says bytes) (λ t _. says_then (want a_comma t.1) _ (says_want a_comma means_comma t.1) (λ c _. says_then (term c.1) _ (good.says c.1) (λ u _. says_want a_close means_close u.1)))
+    says_then (term bytes) _ (good.says bytes)
+    (λ t _. says_then (want a_comma t.1) _ (says_want a_comma means_comma t.1)
+    (λ c _. says_then (term c.1) _ (good.says c.1)
+    (λ u _. says_want a_close means_close u.1)))
 says_behind term good Some_kids bytes = says_kids term good (suc (length bytes)) bytes (omega arith)
 
-says_from : (term : Pass) → IsGood term → (w : HeadWord) (bytes : List ℕ) → Says (pass_from term w bytes)
-says_from term good w bytes = says_then (arguments_at w bytes) (λ h. pass_behind term (word_arity w) h.1) (says_arguments w bytes) (λ h _. says_behind term good (word_arity w) h.1)
+says_from : (term : Pass) → IsGood term → (w : HeadWord) (bytes : List ℕ)
+    → Says (pass_from term w bytes)
+says_from term good w bytes =
+    says_then (arguments_at w bytes) (λ h. pass_behind term (word_arity w) h.1)
+    (says_arguments w bytes) (λ h _. says_behind term good (word_arity w) h.1)
 
-term_less : (levels : ℕ) (bytes : List ℕ) (y : Unit {0} × List ℕ) → pass_term levels bytes ≡ Ok y → length y.1 < length bytes
+term_less : (levels : ℕ) (bytes : List ℕ) (y : Unit {0} × List ℕ) → pass_term levels bytes ≡ Ok y
+    → length y.1 < length bytes
 term_less levels bytes y e =
-    let m = mapped_ok (λ x. (tt, x.1)) (term_at levels [] bytes) y (term_passes levels [] bytes ∙ e) in
+    let m = mapped_ok (λ x. (tt, x.1)) (term_at levels [] bytes) y (term_passes levels [] bytes ∙ e)
+    in
     omega (arith, read_shorter levels [] bytes m.0 m.1, ap (λ (z : Unit {0} × List ℕ). length z.1) m.2)
 
-term_starts : (levels : ℕ) (bytes : List ℕ) (f : Fault) → next_token bytes ≡ Err f → pass_term levels bytes ≡ Err f
+term_starts : (levels : ℕ) (bytes : List ℕ) (f : Fault) → next_token bytes ≡ Err f
+    → pass_term levels bytes ≡ Err f
 term_starts zero bytes f e = ap (λ n. n >>= λ x. met bytes (no_level x.0) x.1) e
-term_starts (suc levels) bytes f e = ap (λ n. (n >>= λ x. met bytes (a_head (suc levels) x.0) x.1) >>= λ w. pass_from (pass_term levels) w.0 w.1) e
+term_starts (suc levels) bytes f e =
+    ap (λ n. (n >>= λ x. met bytes (a_head (suc levels) x.0) x.1) >>= λ w. pass_from
+    (pass_term levels) w.0 w.1) e
 
 says_term : (levels : ℕ) (bytes : List ℕ) → Says (pass_term levels bytes)
-says_term zero bytes = says_want no_level (λ t. mapped_says (λ _. tt) (a_head 0 t) (means_head 0 t)) bytes
+says_term zero bytes = says_want no_level (λ t. mapped_says (λ _. tt) (a_head 0 t) (means_head 0 t))
+    bytes
 says_term (suc levels) bytes =
-    says_then (want (a_head (suc levels)) bytes) (λ w. pass_from (pass_term levels) w.0 w.1) (says_want (a_head (suc levels)) (means_head (suc levels)) bytes)
-    (λ w _. says_from (pass_term levels) (record { says = says_term levels; shorter = term_less levels; starts = term_starts levels }) w.0 w.1)
+    says_then (want (a_head (suc levels)) bytes) (λ w. pass_from (pass_term levels) w.0 w.1)
+    (says_want (a_head (suc levels)) (means_head (suc levels)) bytes)
+    (λ w _. says_from (pass_term levels)
+    (record { says = says_term levels; shorter = term_less levels; starts = term_starts levels })
+    w.0 w.1)
 
 pub good_term : (levels : ℕ) → IsGood (pass_term levels)
 good_term levels = record { says = says_term levels; shorter = term_less levels; starts = term_starts levels }
@@ -265,42 +326,59 @@ good_term levels = record { says = says_term levels; shorter = term_less levels;
 -- ---- definitions
 
 says_side_from : (x : SideWord) (bytes : List ℕ) → Says (pass_side_from x bytes)
-says_side_from (link_word l) bytes = says_then (want an_open bytes) (λ o. pass_behind (pass_term 15) (linkset_arity l) o.1) (says_want an_open means_open bytes) (λ o _. says_behind (pass_term 15) (good_term 15) (linkset_arity l) o.1)
+says_side_from (link_word l) bytes =
+    says_then (want an_open bytes) (λ o. pass_behind (pass_term 15) (linkset_arity l) o.1)
+    (says_want an_open means_open bytes)
+    (λ o _. says_behind (pass_term 15) (good_term 15) (linkset_arity l) o.1)
 says_side_from (head_word w) bytes = says_from (pass_term 15) (good_term 15) w bytes
 
 says_named : (bytes : List ℕ) → Says (pass_named bytes)
 says_named bytes =
     says_then (want an_equals bytes) (λ e. pass_side e.1) (says_want an_equals means_equals bytes)
-    (λ q _. says_then (want a_side_word q.1) (λ x. pass_side_from x.0 x.1) (says_want a_side_word means_side q.1) (λ x _. says_side_from x.0 x.1))
+    (λ q _. says_then (want a_side_word q.1) (λ x. pass_side_from x.0 x.1)
+    (says_want a_side_word means_side q.1) (λ x _. says_side_from x.0 x.1))
 
-side_less : (bytes : List ℕ) (y : Unit {0} × List ℕ) → pass_side bytes ≡ Ok y → length y.1 < length bytes
+side_less : (bytes : List ℕ) (y : Unit {0} × List ℕ) → pass_side bytes ≡ Ok y
+    → length y.1 < length bytes
 side_less bytes y e =
     let m = mapped_ok (λ x. (tt, x.1)) (side_at [] bytes) y (side_passes [] bytes ∙ e) in
     omega (arith, side_shorter m.0.0.0 [] m.0.0.1 bytes m.0.1 (side_found [] bytes m.0 m.1), ap (λ (z : Unit {0} × List ℕ). length z.1) m.2)
 
-pub named_less : (bytes : List ℕ) (y : Unit {0} × List ℕ) → pass_named bytes ≡ Ok y → length y.1 < length bytes
+pub named_less : (bytes : List ℕ) (y : Unit {0} × List ℕ) → pass_named bytes ≡ Ok y
+    → length y.1 < length bytes
 named_less bytes y e =
     let a = bind_ok (want an_equals bytes) (λ q. pass_side q.1) y e in
     omega (arith, wanted_shorter an_equals bytes a.0 (λ x h. absurd cc) a.1, side_less a.0.1 y a.2)
 
-pub start_less : (bytes : List ℕ) (name rest : List ℕ) → want a_start bytes ≡ Ok (Some name, rest) → length rest < length bytes
+pub start_less : (bytes : List ℕ) (name rest : List ℕ) → want a_start bytes ≡ Ok (Some name, rest)
+    → length rest < length bytes
 start_less bytes name rest e =
     let w = want_ok a_start bytes (Some name, rest) e in
-    the_word name bytes rest (subst (λ (t : Lexeme). the t bytes rest) (start_mark w.token (Some name) w.is) w.first)
+    the_word name bytes rest
+    (subst (λ (t : Lexeme). the t bytes rest) (start_mark w.token (Some name) w.is) w.first)
 
-start_step : (fuel : ℕ) (bytes : List ℕ) (o : Option (List ℕ)) (rest : List ℕ) → length bytes < suc fuel → want a_start bytes ≡ Ok (o, rest) → ((b : List ℕ) → length b < fuel → Says (pass_definitions fuel b))
-    → Says {X = Unit {0}} (elim o [ None ↦ Ok tt | Some name ↦ pass_named rest >>= λ d. pass_definitions fuel d.1 ])
+start_step : (fuel : ℕ) (bytes : List ℕ) (o : Option (List ℕ)) (rest : List ℕ)
+    → length bytes < suc fuel → want a_start bytes ≡ Ok (o, rest)
+    → ((b : List ℕ) → length b < fuel → Says (pass_definitions fuel b))
+    → Says {X = Unit {0}} (elim o
+    [ None ↦ Ok tt | Some name ↦ pass_named rest >>= λ d. pass_definitions fuel d.1 ])
 start_step fuel bytes None rest lt e again = tt
 start_step fuel bytes (Some name) rest lt e again =
-    says_then (pass_named rest) (λ d. pass_definitions fuel d.1) (says_named rest) (λ d h. again d.1 (omega (arith, start_less bytes name rest e, named_less rest d h)))
+    says_then (pass_named rest) (λ d. pass_definitions fuel d.1) (says_named rest)
+    (λ d h. again d.1 (omega (arith, start_less bytes name rest e, named_less rest d h)))
 
-pub says_definitions : (fuel : ℕ) (bytes : List ℕ) → length bytes < fuel → Says (pass_definitions fuel bytes)
+pub says_definitions : (fuel : ℕ) (bytes : List ℕ) → length bytes < fuel
+    → Says (pass_definitions fuel bytes)
 says_definitions zero bytes lt = absurd (omega arith)
 says_definitions (suc fuel) bytes lt =
-    says_then (want a_start bytes) (λ s. elim s.0 [ None ↦ Ok tt | Some name ↦ pass_named s.1 >>= λ d. pass_definitions fuel d.1 ]) (says_want a_start means_start bytes)
+    says_then (want a_start bytes)
+    (λ s. elim s.0 [ None ↦ Ok tt | Some name ↦ pass_named s.1 >>= λ d. pass_definitions fuel d.1 ])
+    (says_want a_start means_start bytes)
     (λ s e. start_step fuel bytes s.0 s.1 lt e (λ b h. says_definitions fuel b h))
 
 pub says_equation : (bytes : List ℕ) → Says (pass_equation bytes)
 says_equation bytes =
-    says_then (pass_first bytes) (λ d. pass_definitions (suc (length d.1)) d.1) (says_then (want a_word bytes) (λ n. pass_named n.1) (says_want a_word means_name bytes) (λ n _. says_named n.1))
+    says_then (pass_first bytes) (λ d. pass_definitions (suc (length d.1)) d.1)
+    (says_then (want a_word bytes) (λ n. pass_named n.1) (says_want a_word means_name bytes)
+    (λ n _. says_named n.1))
     (λ d _. says_definitions (suc (length d.1)) d.1 (omega arith))

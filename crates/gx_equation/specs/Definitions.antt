@@ -31,13 +31,14 @@ a_start (Word text) = Ok (Some text)
 a_start End = Ok None
 a_start other = unexpected other
 
-unfoldable pub file_at : List ℕ → List ℕ → Result ((SideTree × List ℕ) × List ℕ) Fault
-file_at places bytes = do
+unfoldable pub file_side_at : List ℕ → List ℕ → Result ((SideTree × List ℕ) × List ℕ) Fault
+file_side_at places bytes = do
   t ← term_at 16 places bytes
   Ok ((file_side t.0.0, t.0.1), t.1)
 
-unfoldable pub linkset_at : Linkset → List ℕ → List ℕ → Result ((SideTree × List ℕ) × List ℕ) Fault
-linkset_at linkset places bytes = do
+unfoldable pub link_side_at : Linkset → List ℕ → List ℕ
+    → Result ((SideTree × List ℕ) × List ℕ) Fault
+link_side_at linkset places bytes = do
   opened ← want an_open bytes
   terms ← kids_behind (term_at 15) (linkset_arity linkset) places opened.1
   Ok ((link_side linkset terms.0.0, terms.0.1), terms.1)
@@ -46,8 +47,8 @@ unfoldable pub side_at : List ℕ → List ℕ → Result ((SideTree × List ℕ
 side_at places bytes = do
   x ← want a_side bytes
   elim x.0 [
-    | None ↦ file_at places bytes
-    | Some linkset ↦ linkset_at linkset (places ++ left_of bytes ∷ []) x.1
+    | None ↦ file_side_at places bytes
+    | Some linkset ↦ link_side_at linkset (places ++ left_of bytes ∷ []) x.1
   ]
 
 -- a definition of this name, behind the name

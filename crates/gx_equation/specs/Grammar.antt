@@ -17,7 +17,7 @@ use Rattle.gx_equation.specs.declared.heads.Linkset.{Linkset}
 use Rattle.gx_equation.specs.declared.heads.Linkset.TheVariants as linksets
 use Rattle.gx_equation.specs.Definitions.{lines_of}
 use Rattle.gx_equation.specs.Terms.{left_of}
-use Rattle.gx_equation.specs.Trees.{Tree, node, list_of, Arity, No_kids, One_kid, Two_kids, Some_kids, arity, linkset_arity, SideTree, file_side, link_side, DefinitionTree}
+use Rattle.gx_equation.specs.Trees.{TermTree, node, list_of, Arity, No_kids, One_kid, Two_kids, Some_kids, arity, linkset_arity, SideTree, file_side, link_side, DefinitionTree}
 
 -- ---- names, numbers and bounds
 
@@ -83,10 +83,10 @@ linkset_word linksets.Inverted = codes "inverted"
 -- The text of a term, with the places of the heads before it, and those behind it, which end with
 -- its own.
 abbrev pub TextOf : Type 1
-TextOf = Tree → List ℕ → List ℕ → List ℕ → List ℕ → Type 0
+TextOf = TermTree → List ℕ → List ℕ → List ℕ → List ℕ → Type 0
 
 -- terms with commas between them, up to the `)`
-abbrev pub ListText : TextOf → List Tree → List ℕ → List ℕ → List ℕ → List ℕ → Type 0
+abbrev pub ListText : TextOf → List TermTree → List ℕ → List ℕ → List ℕ → List ℕ → Type 0
 ListText Text [] before after = λ _ _. ⊥
 ListText Text (t ∷ []) before after = Text t before after ⨾ the Close
 ListText Text (t ∷ u ∷ us) before after =
@@ -94,7 +94,7 @@ ListText Text (t ∷ u ∷ us) before after =
     × (Text t before mid ⨾ the Comma ⨾ ListText Text (u ∷ us) mid after) bytes rest
 
 -- so many terms
-abbrev pub KidsText : TextOf → Arity → List Tree → List ℕ → List ℕ → List ℕ → List ℕ → Type 0
+abbrev pub KidsText : TextOf → Arity → List TermTree → List ℕ → List ℕ → List ℕ → List ℕ → Type 0
 KidsText Text No_kids ts before after = λ bytes rest. (ts ≡ []) × (before ≡ after) × (bytes ≡ rest)
 KidsText Text One_kid ts before after =
     λ bytes rest. (length ts ≡ 1) × ListText Text ts before after bytes rest

@@ -13,7 +13,7 @@ use Rattle.gx_ports.specs.declared.kinds.LeafKind.TheVariants as leaf
 use Rattle.gx_equation.specs.declared.heads.Head.{Head}
 use Rattle.gx_equation.specs.declared.heads.Head.TheVariants as heads
 use Rattle.gx_equation.specs.Grammar.{code_word, linkset_word}
-use Rattle.gx_equation.specs.Trees.{Tree, Trees, node, none, kid, kids_from, list_of, Arity, No_kids, One_kid, Two_kids, Some_kids, arity, linkset_arity, SideTree, file_side, link_side, DefinitionTree}
+use Rattle.gx_equation.specs.Trees.{TermTree, Trees, node, none, kid, kids_from, list_of, Arity, No_kids, One_kid, Two_kids, Some_kids, arity, linkset_arity, SideTree, file_side, link_side, DefinitionTree}
 
 abbrev pub bound_text : Value → List ℕ
 bound_text (value.Int n) = signed_decimal n
@@ -49,7 +49,7 @@ if_kids No_kids text = []
 if_kids other text = text
 
 abbrev mutual
-  pub term_text : Tree → List ℕ
+  pub term_text : TermTree → List ℕ
   term_text (node top kids) = head_text top ++ if_kids (arity top) (list_text kids)
 
   -- terms with commas between them, up to the `)`
@@ -95,14 +95,14 @@ IsHead (heads.Divide n) = (0 < n) × (n ≤ 16000)
 IsHead (heads.Index name) = IsWord name
 
 -- so many terms as a head has
-abbrev pub IsCount : Arity → List Tree → Type 0
+abbrev pub IsCount : Arity → List TermTree → Type 0
 IsCount No_kids ts = ts ≡ []
 IsCount One_kid ts = length ts ≡ 1
 IsCount Two_kids ts = length ts ≡ 2
 IsCount Some_kids ts = 0 < length ts
 
 -- a term of at most so many levels of heads
-abbrev pub IsTerm : ℕ → Tree → Type 0
+abbrev pub IsTerm : ℕ → TermTree → Type 0
 IsTerm zero t = ⊥
 IsTerm (suc levels) (node top kids) =
     IsHead top × IsCount (arity top) (list_of kids) × AllByRecursion (IsTerm levels) (list_of kids)

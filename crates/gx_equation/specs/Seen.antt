@@ -8,9 +8,9 @@ use Rattle.gx_equation.specs.declared.equation.Term.TheFolds.{fold-Term}
 use Rattle.gx_equation.specs.declared.equation.Side.{Side}
 use Rattle.gx_equation.specs.declared.equation.Side.TheVariants as sides
 use Rattle.gx_equation.specs.declared.equation.Definition.{Definition}
-use Rattle.gx_equation.specs.Trees.{Tree, node, none, kid, kids_from, SideTree, file_side, link_side, DefinitionTree}
+use Rattle.gx_equation.specs.Trees.{TermTree, node, none, kid, kids_from, SideTree, file_side, link_side, DefinitionTree}
 
-abbrev pub seen_step : Term-F Tree → Tree
+abbrev pub seen_step : Term-F TermTree → TermTree
 seen_step (Leaf kind) = node (heads.Leaf kind) none
 seen_step (Actual t) = node heads.Actual (kid t.value none)
 seen_step (Encode name code t) = node (heads.Encode name code) (kid t.value none)
@@ -20,10 +20,10 @@ seen_step (Partition name bounds ts) = node (heads.Partition name bounds) (kids_
 seen_step (Divide size t) = node (heads.Divide size) (kid t.value none)
 seen_step (Index name t u) = node (heads.Index name) (kid t.value (kid u.value none))
 
-abbrev pub tree_of : Term → Tree
-tree_of t = fold-Term Tree seen_step t
+abbrev pub tree_of : Term → TermTree
+tree_of t = fold-Term TermTree seen_step t
 
-abbrev pub trees_of : List Term → List Tree
+abbrev pub trees_of : List Term → List TermTree
 trees_of ts = map tree_of ts
 
 abbrev pub side_of : Side → SideTree

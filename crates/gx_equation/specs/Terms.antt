@@ -6,7 +6,7 @@ use Rattle.gx_tokens.specs.Lexemes.{after_blanks}
 use Rattle.gx_tokens.specs.Reading.{◌>>=◌, want, a_close, a_comma, comma_or_close, fault_at}
 use Rattle.gx_equation.specs.declared.heads.Head.{Head}
 use Rattle.gx_equation.specs.Heads.{head_at}
-use Rattle.gx_equation.specs.Trees.{Tree, node, kids_from, Arity, No_kids, One_kid, Two_kids, Some_kids, arity}
+use Rattle.gx_equation.specs.Trees.{TermTree, node, kids_from, Arity, No_kids, One_kid, Two_kids, Some_kids, arity}
 
 -- the place of the first token: how many bytes are left with it
 abbrev pub left_of : List ℕ → ℕ
@@ -14,12 +14,12 @@ left_of bytes = length (after_blanks false bytes)
 
 -- Reading is given the places of the heads so far, and gives those of its own behind them.
 abbrev pub Reader : Type 0
-Reader = List ℕ → List ℕ → Result ((Tree × List ℕ) × List ℕ) Fault
+Reader = List ℕ → List ℕ → Result ((TermTree × List ℕ) × List ℕ) Fault
 
 -- the terms before, and those of the text up to the `)`; there is fuel for each byte, so that it
 -- never runs out
-unfoldable pub kids_at : Reader → ℕ → List Tree → List ℕ → List ℕ
-    → Result ((List Tree × List ℕ) × List ℕ) Fault
+unfoldable pub kids_at : Reader → ℕ → List TermTree → List ℕ → List ℕ
+    → Result ((List TermTree × List ℕ) × List ℕ) Fault
 kids_at term zero before places bytes = want (λ _. Err why.Count) bytes
 kids_at term (suc fuel) before places bytes = do
   t ← term places bytes
@@ -29,7 +29,7 @@ kids_at term (suc fuel) before places bytes = do
 
 -- so many terms, up to the `)`
 abbrev pub kids_behind : Reader → Arity → List ℕ → List ℕ
-    → Result ((List Tree × List ℕ) × List ℕ) Fault
+    → Result ((List TermTree × List ℕ) × List ℕ) Fault
 kids_behind term No_kids places bytes = Ok (([], places), bytes)
 kids_behind term One_kid places bytes = do
   t ← term places bytes

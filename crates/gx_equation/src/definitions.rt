@@ -3,7 +3,7 @@ ghost use Rattle.std.specs.Prelude.{◌≡◌, [], ◌∷◌, suc, length, optio
 ghost use Rattle.gx_tokens.specs.Reading.{Gives, map_ok, want};
 ghost use Rattle.gx_tokens.specs.Spelling.{IsWord};
 ghost use Rattle.gx_equation.specs.Seen.{side_of, definition_of, definitions_of};
-ghost use Rattle.gx_equation.specs.Definitions.{linkset_of_word, a_side, a_start, file_at, linkset_at, side_at, definition_behind, definitions_at, equation_at};
+ghost use Rattle.gx_equation.specs.Definitions.{linkset_of_word, a_side, a_start, file_side_at, link_side_at, side_at, definition_behind, definitions_at, equation_at};
 
 use crate::equation::{Definition, Definitions, Side};
 use crate::heads::Linkset;
@@ -57,20 +57,20 @@ fn read_start(bytes: &[u8]) -> Result<(Option<&[u8]>, &[u8]), Fault>
     }
 }
 
-#[tactic(auto, unfolding(crate::specs::Definitions::file_at))]
+#[tactic(auto, unfolding(crate::specs::Definitions::file_side_at))]
 fn read_file_side<'a>(
     alloc: Global,
     places: &mut Vec<usize>,
     bytes: &'a [u8],
 ) -> Result<(Side, &'a [u8]), ReadError>
     ensures { Gives (λ x. ((side_of x.0, places.new.items), x.1.now)) result
-        (file_at places.old.items bytes.now) }
+        (file_side_at places.old.items bytes.now) }
 {
     let (term, rest) = read_term(alloc, LEVELS, places, bytes)?;
     Ok((Side::File(term), rest))
 }
 
-#[tactic(auto, unfolding(crate::specs::Definitions::linkset_at))]
+#[tactic(auto, unfolding(crate::specs::Definitions::link_side_at))]
 fn read_linkset_side<'a>(
     alloc: Global,
     linkset: Linkset,
@@ -78,7 +78,7 @@ fn read_linkset_side<'a>(
     bytes: &'a [u8],
 ) -> Result<(Side, &'a [u8]), ReadError>
     ensures { Gives (λ x. ((side_of x.0, places.new.items), x.1.now)) result
-        (linkset_at linkset places.old.items bytes.now) }
+        (link_side_at linkset places.old.items bytes.now) }
 {
     let rest = read_open(bytes)?;
     match linkset {

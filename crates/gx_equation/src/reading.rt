@@ -1,7 +1,7 @@
 // Reading a whole equation.
 ghost use Rattle.std.specs.Prelude.{◌≡◌, ◌<◌, length, List, ℕ, Ok, IfOk, IfErr};
 ghost use Rattle.gx_equation.specs.Faults.{IsBad};
-ghost use Rattle.gx_tokens.specs.Reading.{Gives, map_ok, with_line, IsUnlessNoMemory};
+ghost use Rattle.gx_tokens.specs.Reading.{Gives, map_ok, with_fault_line, IsUnlessNoMemory};
 ghost use Rattle.gx_equation.specs.Definitions.{equation_at, with_lines};
 ghost use Rattle.gx_equation.specs.Grammar.{Means};
 ghost use Rattle.gx_equation.specs.Printing.{AreWritten};
@@ -28,7 +28,7 @@ fn equation_of(alloc: Global, bytes: &[u8]) -> Result<Equation, ReadError>
 fn read_exactly(alloc: Global, bytes: &[u8]) -> Result<Equation, Unread>
     requires { length bytes.now < 4294967295 }
     ensures { IsUnlessNoMemory (map_ok (λ e. (definitions_of e.definitions, e.lines)) result)
-        (with_line bytes.now (map_ok (with_lines bytes.now) (equation_at bytes.now))) }
+        (with_fault_line bytes.now (map_ok (with_lines bytes.now) (equation_at bytes.now))) }
 {
     equation_of(alloc, bytes).map_err(|error| unread(bytes, error))
 }
@@ -60,7 +60,7 @@ pub fn read_equation(alloc: Global, bytes: &[u8]) -> Result<Equation, Unread>
     ensures fault { IfErr result (λ error. IsBad bytes.now error) }
     // Which fault is the first, and its line.
     ensures exact { IsUnlessNoMemory (map_ok (λ e. (definitions_of e.definitions, e.lines)) result)
-        (with_line bytes.now (map_ok (with_lines bytes.now) (equation_at bytes.now))) }
+        (with_fault_line bytes.now (map_ok (with_lines bytes.now) (equation_at bytes.now))) }
 {
     read_exactly(alloc, bytes)
 }

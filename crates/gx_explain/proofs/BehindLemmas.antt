@@ -5,8 +5,10 @@ use Rattle.std.proofs.lemmas.List.{append_assoc, take_all}
 use Rattle.std.proofs.Math.Seq.{take-append-add}
 
 -- a line behind what was said before
-pub behind : (before mid now first line : List ℕ) → mid ≡ before ++ first → now ≡ mid ++ line → now ≡ before ++ (first ++ line)
-behind before mid now first line is said = said ∙ ap (λ t. t ++ line) is ∙ append_assoc before first line
+pub behind : (before mid now first line : List ℕ) → mid ≡ before ++ first → now ≡ mid ++ line
+    → now ≡ before ++ (first ++ line)
+behind before mid now first line is said = said ∙ ap (λ t. t ++ line) is
+    ∙ append_assoc before first line
 
 -- a front of a line behind what was said before
 pub front_behind : (before mid now first line : List ℕ) (n : ℕ) → mid ≡ before ++ first

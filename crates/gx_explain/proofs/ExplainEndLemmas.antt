@@ -21,7 +21,7 @@ use Rattle.gx_play.specs.declared.play.PlayEnd.{PlayEnd}
 use Rattle.gx_play.specs.declared.play.PlayEnd.TheVariants as play_end
 use Rattle.gx_play.specs.declared.status.Status.{Status}
 use Rattle.gx_play.specs.declared.status.Status.TheVariants as status
-use Rattle.gx_play.specs.Endings.{line_of, memory_line, ending_of, IsEnded}
+use Rattle.gx_play.specs.Endings.{ending_line, memory_line, ending_of, IsEnded}
 use Rattle.gx_play.specs.Plays.{IsHeard, HasCause}
 use Rattle.gx_play.specs.Say.{IsCut}
 use Rattle.gx_play.specs.Played.{SaysText, SaysFront}
@@ -34,11 +34,13 @@ use Rattle.gx_explain.proofs.BehindLemmas.{behind, front_behind, taken}
 pub same_fields : (schema : Schema) (ds : List DefinitionTree) (nodes : List (Node AnyMapping))
     → AreTreesOfFiles 0 schema.files ds nodes → fields_in schema nodes ≡ indexed_fields schema ds
 same_fields schema ds nodes are =
-    λ i file. map (λ f. file_indexed_as 0 schema.files ds nodes file f.name are i) (file_at schema file).fields
+    λ i file. map (λ f. file_indexed_as 0 schema.files ds nodes file f.name are i)
+    (file_at schema file).fields
 
 -- a front of a text is one of the text and a line behind it
 front_within : (old new : Content) (text line : List ℕ)
-    → ((n : ℕ) × (new.now.said ≡ old.now.said ++ take n text)) → (n : ℕ) × (new.now.said ≡ old.now.said ++ take n (text ++ line))
+    → ((n : ℕ) × (new.now.said ≡ old.now.said ++ take n text))
+    → (n : ℕ) × (new.now.said ≡ old.now.said ++ take n (text ++ line))
 front_within old new text line is =
     let m = min is.0 (length text) in
     (m, is.1 ∙ ap (λ t. old.now.said ++ t) (taken text is.0 m refl ∙ sym (take-append-le m text line (omega arith))))
@@ -46,13 +48,16 @@ front_within old new text line is =
 module _ (schema : Schema) (indexed : ℕ → List Bool) where
   -- ---- what was heard of a script
 
-  said_from : (P : List ℕ → Type 0) (old mid new : Content) → mid.now.said ≡ old.now.said → SaysText P mid new → SaysText P old new
+  said_from : (P : List ℕ → Type 0) (old mid new : Content) → mid.now.said ≡ old.now.said
+      → SaysText P mid new → SaysText P old new
   said_from P old mid new same is = (is.0, is.1, is.2 ∙ ap (λ t. t ++ is.0) same)
 
   -- nothing was said before
   pub plans_from : (all : Lines) (old mid new : Content) (result : Result (Unit {0}) PlayEnd)
-      → mid.now.said ≡ old.now.said → SaysPlans schema indexed all mid new result → SaysPlans schema indexed all old new result
-  plans_from all old mid new (Ok x) same is = said_from (IsExplainedTo schema indexed all good) old mid new same is
+      → mid.now.said ≡ old.now.said → SaysPlans schema indexed all mid new result
+      → SaysPlans schema indexed all old new result
+  plans_from all old mid new (Ok x) same is =
+      said_from (IsExplainedTo schema indexed all good) old mid new same is
   plans_from all old mid new (Err (play_end.Line number why)) same is =
       said_from (IsExplainedTo schema indexed all (stopped number why)) old mid new same is
   plans_from all old mid new (Err (play_end.Stop stop.NoMemory)) same is =
@@ -63,7 +68,8 @@ module _ (schema : Schema) (indexed : ℕ → List Bool) where
   plans_from all old mid new (Err (play_end.Stop (stop.Damaged block))) same is = absurd is
 
   -- what was heard has the lines of the whole script
-  pub plans_of : (script left heard : List ℕ) (old new : Content) (result : Result (Unit {0}) PlayEnd)
+  pub plans_of : (script left heard : List ℕ) (old new : Content)
+      (result : Result (Unit {0}) PlayEnd)
       → IsHeard script left heard → SaysPlans schema indexed (script_lines heard) old new result
       → SaysPlans schema indexed (script_lines script) old new result
   plans_of script left heard old new result is =
@@ -74,15 +80,20 @@ module _ (schema : Schema) (indexed : ℕ → List Bool) where
 
   -- before a line is explained
   pub unheard_plans : (all : Lines) (old new : Content) (before now : ℕ) (why : Stop)
-      → new.now.said ≡ old.now.said → HasCause before now why → SaysPlans schema indexed all old new (Err (play_end.Stop why))
-  unheard_plans all old new before now stop.Fault same cause = ([], none_explained all, (0, same ∙ sym (append-nil old.now.said)))
-  unheard_plans all old new before now stop.NoMemory same cause = ([], none_explained all, same ∙ sym (append-nil old.now.said))
+      → new.now.said ≡ old.now.said → HasCause before now why
+      → SaysPlans schema indexed all old new (Err (play_end.Stop why))
+  unheard_plans all old new before now stop.Fault same cause =
+      ([], none_explained all, (0, same ∙ sym (append-nil old.now.said)))
+  unheard_plans all old new before now stop.NoMemory same cause =
+      ([], none_explained all, same ∙ sym (append-nil old.now.said))
   unheard_plans all old new before now stop.Full same cause = absurd cause
   unheard_plans all old new before now (stop.Damaged block) same cause = absurd cause
 
   -- where no line ended it, the whole script was heard
-  all_lines : (all : Lines) (ran : List (List ℕ)) (next : Result (Option (List ℕ)) LineWhy) (inside : Bool)
-      (n : ℕ) → AreFirstLines all ran next → IsExplainEnd schema inside n next good → all.stop ≡ None
+  all_lines : (all : Lines) (ran : List (List ℕ)) (next : Result (Option (List ℕ)) LineWhy)
+      (inside : Bool)
+      (n : ℕ) → AreFirstLines all ran next → IsExplainEnd schema inside n next good
+      → all.stop ≡ None
   all_lines all ran (Ok None) inside n first ends = first.1
   all_lines all ran (Ok (Some line)) inside n first ends = absurd (not_good ends.2)
     where
@@ -93,8 +104,10 @@ module _ (schema : Schema) (indexed : ℕ → List Bool) where
       not_good : ◌≡◌ {A = End} good (stopped (n + 1) why) → ⊥
       not_good e = cc
 
-  pub heard_whole : (script left heard : List ℕ) (old new : Content) (result : Result (Unit {0}) PlayEnd)
-      → IsHeard script left heard → SaysPlans schema indexed (script_lines heard) old new result → result ≡ Ok tt → left ≡ []
+  pub heard_whole : (script left heard : List ℕ) (old new : Content)
+      (result : Result (Unit {0}) PlayEnd)
+      → IsHeard script left heard → SaysPlans schema indexed (script_lines heard) old new result
+      → result ≡ Ok tt → left ≡ []
   unfolding longest_script
   heard_whole script left heard old new result is said ok = by_end is.end
     where
@@ -104,7 +117,8 @@ module _ (schema : Schema) (indexed : ℕ → List Bool) where
       by_end : ((left ≡ []) ⊎ (16777216 < length heard)) → left ≡ []
       by_end (inl none) = none
       by_end (inr long) =
-          absurd (long_stops heard long (all_lines (script_lines heard) to.1.ran to.1.next to.1.inside
+          absurd (long_stops heard long
+          (all_lines (script_lines heard) to.1.ran to.1.next to.1.inside
           (length to.1.ran) to.1.first to.1.ends))
 
   -- ---- behind the plans, the line of the end
@@ -115,7 +129,8 @@ module _ (schema : Schema) (indexed : ℕ → List Bool) where
   done_said old new is = (is.0, record { plans = is.0; explained = is.1; text_is = sym (append-nil is.0) }, is.2)
 
   -- what was explained are the first lines
-  first_of : (all : Lines) (end : End) (text : List ℕ) → (x : IsExplainedTo schema indexed all end text)
+  first_of : (all : Lines) (end : End) (text : List ℕ)
+      → (x : IsExplainedTo schema indexed all end text)
       → AreFirstExplained schema indexed all text
   first_of all end text x =
       let parts = parts_of all x.ran x.next x.first in
@@ -129,7 +144,8 @@ module _ (schema : Schema) (indexed : ℕ → List Bool) where
 
   short_said : (old mid new : Content)
       → SaysText (AreFirstExplained schema indexed (script_lines old.script)) old mid
-      → new.now.said ≡ mid.now.said ++ memory_line → SaysText (IsMemoryExplanation schema indexed old.script) old new
+      → new.now.said ≡ mid.now.said ++ memory_line
+      → SaysText (IsMemoryExplanation schema indexed old.script) old new
   short_said old mid new is said = (
     is.0 ++ memory_line,
     record { plans = is.0; explained = is.1; text_is = refl },
@@ -139,7 +155,8 @@ module _ (schema : Schema) (indexed : ℕ → List Bool) where
 
   short_front : (old mid new : Content) (n : ℕ)
       → SaysText (AreFirstExplained schema indexed (script_lines old.script)) old mid
-      → new.now.said ≡ mid.now.said ++ take n memory_line → SaysFront (IsSomeText schema indexed old.script) old new
+      → new.now.said ≡ mid.now.said ++ take n memory_line
+      → SaysFront (IsSomeText schema indexed old.script) old new
   short_front old mid new n is said = (
     is.0 ++ memory_line,
     inr (record { plans = is.0; explained = is.1; text_is = refl }),
@@ -147,23 +164,29 @@ module _ (schema : Schema) (indexed : ℕ → List Bool) where
   )
 
   firsts : (old mid : Content) (number : ℕ) (why : LineWhy)
-      → SaysText (IsExplainedTo schema indexed (script_lines old.script) (stopped number why)) old mid
+      → SaysText (IsExplainedTo schema indexed (script_lines old.script) (stopped number why)) old
+      mid
       → SaysText (AreFirstExplained schema indexed (script_lines old.script)) old mid
-  firsts old mid number why is = (is.0, first_of (script_lines old.script) (stopped number why) is.0 is.1, is.2)
+  firsts old mid number why is =
+      (is.0, first_of (script_lines old.script) (stopped number why) is.0 is.1, is.2)
 
   line_front : (old mid new : Content) (number : ℕ) (why : LineWhy)
-      → SaysText (IsExplainedTo schema indexed (script_lines old.script) (stopped number why)) old mid
-      → IsCut (line_of (ending.Line number why)) memory_line mid new → SaysFront (IsSomeText schema indexed old.script) old new
+      → SaysText (IsExplainedTo schema indexed (script_lines old.script) (stopped number why)) old
+      mid
+      → IsCut (ending_line (ending.Line number why)) memory_line mid new
+      → SaysFront (IsSomeText schema indexed old.script) old new
   line_front old mid new number why is (n, inl said) = (
-    is.0 ++ line_of (ending.Line number why),
+    is.0 ++ ending_line (ending.Line number why),
     inl (stopped number why, record { plans = is.0; explained = is.1; text_is = refl }),
-    (length is.0 + n, front_behind old.now.said mid.now.said new.now.said is.0 (line_of (ending.Line number why)) n is.2 said),
+    (length is.0 + n, front_behind old.now.said mid.now.said new.now.said is.0 (ending_line (ending.Line number why)) n is.2 said),
   )
-  line_front old mid new number why is (n, inr said) = short_front old mid new n (firsts old mid number why is) said
+  line_front old mid new number why is (n, inr said) =
+      short_front old mid new n (firsts old mid number why is) said
 
   memory_front : (old mid new : Content)
       → SaysText (AreFirstExplained schema indexed (script_lines old.script)) old mid
-      → IsCut memory_line memory_line mid new → SaysFront (IsSomeText schema indexed old.script) old new
+      → IsCut memory_line memory_line mid new
+      → SaysFront (IsSomeText schema indexed old.script) old new
   memory_front old mid new is (n, inl said) = short_front old mid new n is said
   memory_front old mid new is (n, inr said) = short_front old mid new n is said
 
@@ -177,28 +200,36 @@ module _ (schema : Schema) (indexed : ℕ → List Bool) where
   )
 
   line_said : (old mid new : Content) (number : ℕ) (why : LineWhy) (s : Status)
-      → SaysText (IsExplainedTo schema indexed (script_lines old.script) (stopped number why)) old mid
+      → SaysText (IsExplainedTo schema indexed (script_lines old.script) (stopped number why)) old
+      mid
       → IsEnded (ending.Line number why) mid new s → IsScriptExplained schema indexed old new s
   line_said old mid new number why status.Script is e = (
-    is.0 ++ line_of (ending.Line number why),
+    is.0 ++ ending_line (ending.Line number why),
     (number, why, record { plans = is.0; explained = is.1; text_is = refl }),
-    behind old.now.said mid.now.said new.now.said is.0 (line_of (ending.Line number why)) is.2 (e.said (λ f. cc) (λ f. cc)),
+    behind old.now.said mid.now.said new.now.said is.0 (ending_line (ending.Line number why)) is.2
+        (e.said (λ f. cc) (λ f. cc)),
   )
-  line_said old mid new number why status.Memory is e = short_said old mid new (firsts old mid number why is) (e.memory refl)
-  line_said old mid new number why status.Outside is e = line_front old mid new number why is (e.cut refl)
-  line_said old mid new number why status.Done is e = absurd (never (e.status_is (λ f. cc) (λ f. cc)))
+  line_said old mid new number why status.Memory is e =
+      short_said old mid new (firsts old mid number why is) (e.memory refl)
+  line_said old mid new number why status.Outside is e =
+      line_front old mid new number why is (e.cut refl)
+  line_said old mid new number why status.Done is e =
+      absurd (never (e.status_is (λ f. cc) (λ f. cc)))
     where
       never : status.Done ≡ status.Script → ⊥
       never f = cc
-  line_said old mid new number why status.Refused is e = absurd (never (e.status_is (λ f. cc) (λ f. cc)))
+  line_said old mid new number why status.Refused is e =
+      absurd (never (e.status_is (λ f. cc) (λ f. cc)))
     where
       never : status.Refused ≡ status.Script → ⊥
       never f = cc
-  line_said old mid new number why status.Full is e = absurd (never (e.status_is (λ f. cc) (λ f. cc)))
+  line_said old mid new number why status.Full is e =
+      absurd (never (e.status_is (λ f. cc) (λ f. cc)))
     where
       never : status.Full ≡ status.Script → ⊥
       never f = cc
-  line_said old mid new number why status.Device is e = absurd (never (e.status_is (λ f. cc) (λ f. cc)))
+  line_said old mid new number why status.Device is e =
+      absurd (never (e.status_is (λ f. cc) (λ f. cc)))
     where
       never : status.Device ≡ status.Script → ⊥
       never f = cc
@@ -231,11 +262,13 @@ module _ (schema : Schema) (indexed : ℕ → List Bool) where
 
   -- whatever the status of the end is
   pub end_said : (old mid new : Content) (why : PlayEnd) (s : Status)
-      → SaysPlans schema indexed (script_lines old.script) old mid (Err why) → IsEnded (ending_of why) mid new s
+      → SaysPlans schema indexed (script_lines old.script) old mid (Err why)
+      → IsEnded (ending_of why) mid new s
       → IsScriptExplained schema indexed old new s
   end_said old mid new (play_end.Line number why) s is e = line_said old mid new number why s is e
   end_said old mid new (play_end.Stop stop.NoMemory) s is e = memory_said old mid new s is e
   end_said old mid new (play_end.Stop stop.Fault) s is e =
-      subst (IsScriptExplained schema indexed old new) (sym (e.fault refl)) (fault_front old mid new is (e.silent refl))
+      subst (IsScriptExplained schema indexed old new) (sym (e.fault refl))
+      (fault_front old mid new is (e.silent refl))
   end_said old mid new (play_end.Stop stop.Full) s is e = absurd is
   end_said old mid new (play_end.Stop (stop.Damaged block)) s is e = absurd is

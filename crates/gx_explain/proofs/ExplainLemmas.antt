@@ -23,7 +23,8 @@ use Rattle.gx_explain.specs.Explaining.{IsLineExplained, SaysPlans}
 module _ (schema : Schema) (indexed : ℕ → List Bool) where
   -- ---- lines one behind the other
 
-  explained_on : (first later : List (List ℕ)) (number : ℕ) (inside mid final : Bool) (text more : List ℕ)
+  explained_on : (first later : List (List ℕ)) (number : ℕ) (inside mid final : Bool)
+      (text more : List ℕ)
       → AreExplained schema indexed number inside first text mid
       → AreExplained schema indexed (number + length first) mid later more final
       → AreExplained schema indexed number inside (first ++ later) (text ++ more) final
@@ -32,28 +33,33 @@ module _ (schema : Schema) (indexed : ℕ → List Bool) where
       (subst (λ b. AreExplained schema indexed number b later more final) same
       (subst (λ n. AreExplained schema indexed n mid later more final)
       (let e : number + length {A = List ℕ} [] ≡ number = omega arith in e) behind))
-  explained_on (line ∷ first) later number inside mid final text more (command, rest, means, placed, front, is) behind = (
-    command,
-    rest ++ more,
-    means,
-    placed,
-    explained_on first later (number + 1) (inside_after inside command) mid final rest more front
-        (subst (λ n. AreExplained schema indexed n mid later more final)
-        (let e : number + length (line ∷ first) ≡ number + 1 + length first = omega arith in e) behind),
-    ap (λ t. t ++ more) is ∙ append_assoc (command_text schema indexed number command) rest more,
-  )
+  explained_on (line ∷ first) later number inside mid final text more
+      (command, rest, means, placed, front, is) behind = (
+        command,
+        rest ++ more,
+        means,
+        placed,
+        explained_on first later (number + 1) (inside_after inside command) mid final rest more
+            front
+            (subst (λ n. AreExplained schema indexed n mid later more final)
+            (let e : number + length (line ∷ first) ≡ number + 1 + length first = omega arith in
+            e) behind),
+        ap (λ t. t ++ more) is ∙ append_assoc (command_text schema indexed number command) rest
+            more,
+      )
 
   -- ---- so far
 
   -- what was said of the lines that were read so far, when these are left
-  pub record IsSoFar (all left : Lines) (number : ℕ) (inside : Bool) (old new : Content) : Type 0 where
-    pub ran : List (List ℕ)
-    pub many : length ran ≡ number
-    pub lines_are : all.lines ≡ ran ++ left.lines
-    pub stop_is : all.stop ≡ left.stop
-    pub text : List ℕ
-    pub explained : AreExplained schema indexed 1 false ran text inside
-    pub said : new.now.said ≡ old.now.said ++ text
+  pub record IsSoFar (all left : Lines) (number : ℕ) (inside : Bool) (old new : Content) : Type 0
+    where
+      pub ran : List (List ℕ)
+      pub many : length ran ≡ number
+      pub lines_are : all.lines ≡ ran ++ left.lines
+      pub stop_is : all.stop ≡ left.stop
+      pub text : List ℕ
+      pub explained : AreExplained schema indexed 1 false ran text inside
+      pub said : new.now.said ≡ old.now.said ++ text
 
   pub at_start : (all : Lines) (old : Content) → IsSoFar all all 0 false old old
   at_start all old = record {
@@ -67,20 +73,25 @@ module _ (schema : Schema) (indexed : ℕ → List Bool) where
   }
 
   -- one line more
-  one_more : (ran : List (List ℕ)) (number : ℕ) (inside : Bool) (text line : List ℕ) (x : ExplainedLine)
+  one_more : (ran : List (List ℕ)) (number : ℕ) (inside : Bool) (text line : List ℕ)
+      (x : ExplainedLine)
       → length ran ≡ number → AreExplained schema indexed 1 false ran text inside
       → IsLineExplained schema indexed inside (number + 1) line x
       → AreExplained schema indexed 1 false (ran ++ line ∷ []) (text ++ x.text) x.inside
   one_more ran number inside text line x many explained is =
       let one : AreExplained schema indexed (number + 1) inside (line ∷ []) x.text x.inside
-      = (is.command, [], is.means, is.placed, (refl, is.inside_is), is.text_is ∙ sym (append-nil _)) in
+      = (is.command, [], is.means, is.placed, (refl, is.inside_is), is.text_is ∙ sym (append-nil _))
+      in
       explained_on ran (line ∷ []) 1 false inside x.inside text x.text explained
       (subst (λ n. AreExplained schema indexed n inside (line ∷ []) x.text x.inside)
       (let e : number + 1 ≡ 1 + length ran = omega (arith, many) in e) one)
 
-  pub after_line : (all before left : Lines) (number : ℕ) (inside : Bool) (line : List ℕ) (x : ExplainedLine)
-      (old mid new : Content) → before ≡ with_line line left → IsSoFar all before number inside old mid
-      → IsLineExplained schema indexed inside (number + 1) line x → new.now.said ≡ mid.now.said ++ x.text
+  pub after_line : (all before left : Lines) (number : ℕ) (inside : Bool) (line : List ℕ)
+      (x : ExplainedLine)
+      (old mid new : Content) → before ≡ with_line line left
+      → IsSoFar all before number inside old mid
+      → IsLineExplained schema indexed inside (number + 1) line x
+      → new.now.said ≡ mid.now.said ++ x.text
       → IsSoFar all left (number + 1) x.inside old new
   after_line all before left number inside line x old mid new before_is so is said = record {
     ran = so.ran ++ line ∷ [];
@@ -94,9 +105,12 @@ module _ (schema : Schema) (indexed : ℕ → List Bool) where
 
   -- ---- the end
 
-  ended : (all left : Lines) (number : ℕ) (inside : Bool) (next : Result (Option (List ℕ)) LineWhy) (end : End)
-      (old new : Content) → (so : IsSoFar all left number inside old new) → AreFirstLines all so.ran next
-      → IsExplainEnd schema inside number next end → SaysText (IsExplainedTo schema indexed all end) old new
+  ended : (all left : Lines) (number : ℕ) (inside : Bool) (next : Result (Option (List ℕ)) LineWhy)
+      (end : End)
+      (old new : Content) → (so : IsSoFar all left number inside old new)
+      → AreFirstLines all so.ran next
+      → IsExplainEnd schema inside number next end
+      → SaysText (IsExplainedTo schema indexed all end) old new
   ended all left number inside next end old new so first ends = (
     so.text,
     record {
@@ -112,17 +126,21 @@ module _ (schema : Schema) (indexed : ℕ → List Bool) where
   )
 
   -- no more lines are left
-  all_ran : (all left : Lines) (number : ℕ) (inside : Bool) (stop : Option LineWhy) (old new : Content)
-      → left ≡ record { lines = []; stop = stop } → (so : IsSoFar all left number inside old new) → (all.lines ≡ so.ran) × (all.stop ≡ stop)
+  all_ran : (all left : Lines) (number : ℕ) (inside : Bool) (stop : Option LineWhy)
+      (old new : Content)
+      → left ≡ record { lines = []; stop = stop } → (so : IsSoFar all left number inside old new)
+      → (all.lines ≡ so.ran) × (all.stop ≡ stop)
   all_ran all left number inside stop old new left_is so = (
     so.lines_are ∙ ap (λ (ls : Lines). so.ran ++ ls.lines) left_is ∙ append-nil so.ran,
     so.stop_is ∙ ap (λ (ls : Lines). ls.stop) left_is,
   )
 
   pub at_end : (all left : Lines) (number : ℕ) (inside : Bool) (old new : Content)
-      → IsSoFar all left number inside old new → left ≡ no_lines → SaysText (IsExplainedTo schema indexed all good) old new
+      → IsSoFar all left number inside old new → left ≡ no_lines
+      → SaysText (IsExplainedTo schema indexed all good) old new
   at_end all left number inside old new so left_is =
-      ended all left number inside (Ok None) good old new so (all_ran all left number inside None old new left_is so) refl
+      ended all left number inside (Ok None) good old new so
+      (all_ran all left number inside None old new left_is so) refl
 
   -- where the line behind can't be had
   at_stop : (all left : Lines) (number n : ℕ) (inside : Bool) (reason : LineWhy) (old new : Content)
@@ -130,22 +148,28 @@ module _ (schema : Schema) (indexed : ℕ → List Bool) where
       → SaysText (IsExplainedTo schema indexed all (stopped n reason)) old new
   at_stop all left number n inside reason old new so n_is left_is =
       ended all left number inside (Err reason) (stopped n reason) old new so
-      (all_ran all left number inside (Some reason) old new left_is so) (ap (λ k. stopped k reason) n_is)
+      (all_ran all left number inside (Some reason) old new left_is so)
+      (ap (λ k. stopped k reason) n_is)
 
   pub at_line_end : (all left : Lines) (number : ℕ) (inside : Bool) (end : PlayEnd)
-      (result : Result (Unit {0}) PlayEnd) (old new : Content) → IsSoFar all left number inside old new
+      (result : Result (Unit {0}) PlayEnd) (old new : Content)
+      → IsSoFar all left number inside old new
       → result ≡ Err end → IsLineEnd left number end → SaysPlans schema indexed all old new result
   at_line_end all left number inside (play_end.Line n reason) result old new so result_is is =
-      subst (λ r. SaysPlans schema indexed all old new r) (sym result_is) (at_stop all left number n inside reason old new so is.0 is.1)
+      subst (λ r. SaysPlans schema indexed all old new r) (sym result_is)
+      (at_stop all left number n inside reason old new so is.0 is.1)
   at_line_end all left number inside (play_end.Stop stop) result old new so result_is is = absurd is
 
   -- at a line that means no command, or one that may not stand there
-  at_bad_line : (all before left : Lines) (number : ℕ) (inside : Bool) (line : List ℕ) (reason : LineWhy)
+  at_bad_line : (all before left : Lines) (number : ℕ) (inside : Bool) (line : List ℕ)
+      (reason : LineWhy)
       (old new : Content) → before ≡ with_line line left → IsSoFar all before number inside old new
-      → IsBadLine schema inside line reason → SaysText (IsExplainedTo schema indexed all (stopped (number + 1) reason)) old new
+      → IsBadLine schema inside line reason
+      → SaysText (IsExplainedTo schema indexed all (stopped (number + 1) reason)) old new
   at_bad_line all before left number inside line reason old new before_is so bad =
       ended all before number inside (Ok (Some line)) (stopped (number + 1) reason) old new so
-      (left.lines, so.lines_are ∙ ap (λ (ls : Lines). so.ran ++ ls.lines) before_is) (reason, bad, refl)
+      (left.lines, so.lines_are ∙ ap (λ (ls : Lines). so.ran ++ ls.lines) before_is)
+      (reason, bad, refl)
 
   first_so_far : (all left : Lines) (number : ℕ) (inside : Bool) (old new : Content)
       → (so : IsSoFar all left number inside old new) → AreFirstExplained schema indexed all so.text
@@ -153,26 +177,34 @@ module _ (schema : Schema) (indexed : ℕ → List Bool) where
       so = record { ran = so.ran; later = left.lines; parts = so.lines_are; inside = inside; explained = so.explained }
 
   -- where nothing is said of a line
-  pub at_line : (all before left : Lines) (number : ℕ) (inside : Bool) (line : List ℕ) (end : PlayEnd)
+  pub at_line : (all before left : Lines) (number : ℕ) (inside : Bool) (line : List ℕ)
+      (end : PlayEnd)
       (result : Result (Unit {0}) PlayEnd) (old new : Content) → before ≡ with_line line left
       → IsSoFar all before number inside old new → result ≡ Err end
       → ((n : ℕ) (reason : LineWhy) → end ≡ play_end.Line n reason
       → IsBadAt schema inside (number + 1) line n reason)
-      → ((why : Stop) → end ≡ play_end.Stop why → why ≡ stop.NoMemory) → SaysPlans schema indexed all old new result
-  at_line all before left number inside line (play_end.Line n reason) result old new before_is so result_is bad unread =
+      → ((why : Stop) → end ≡ play_end.Stop why → why ≡ stop.NoMemory)
+      → SaysPlans schema indexed all old new result
+  at_line all before left number inside line (play_end.Line n reason) result old new before_is so
+      result_is bad unread =
       let at = bad n reason refl in
       subst (λ r. SaysPlans schema indexed all old new r) (sym result_is)
-      (subst (λ k. SaysText (IsExplainedTo schema indexed all (stopped k reason)) old new) (sym at.0)
+      (subst (λ k. SaysText (IsExplainedTo schema indexed all (stopped k reason)) old new)
+      (sym at.0)
       (at_bad_line all before left number inside line reason old new before_is so at.1))
-  at_line all before left number inside line (play_end.Stop why) result old new before_is so result_is bad unread =
-      subst (λ r. SaysPlans schema indexed all old new r) (sym (result_is ∙ ap (λ s. Err (play_end.Stop s)) (unread why refl)))
+  at_line all before left number inside line (play_end.Stop why) result old new before_is so
+      result_is bad unread =
+      subst (λ r. SaysPlans schema indexed all old new r)
+      (sym (result_is ∙ ap (λ s. Err (play_end.Stop s)) (unread why refl)))
       (so.text, first_so_far all before number inside old new so, so.said)
 
   -- where saying the plan of a line failed
   pub at_fault : (all before left : Lines) (number n : ℕ) (inside : Bool) (line piece : List ℕ)
       (x : ExplainedLine) (old mid new : Content) → before ≡ with_line line left
-      → IsSoFar all before number inside old mid → IsLineExplained schema indexed inside (number + 1) line x
-      → piece ≡ x.text → new.now.said ≡ mid.now.said ++ take n piece → SaysFront (AreFirstExplained schema indexed all) old new
+      → IsSoFar all before number inside old mid
+      → IsLineExplained schema indexed inside (number + 1) line x
+      → piece ≡ x.text → new.now.said ≡ mid.now.said ++ take n piece
+      → SaysFront (AreFirstExplained schema indexed all) old new
   at_fault all before left number n inside line piece x old mid new before_is so is piece_is said = (
     so.text ++ x.text,
     record {

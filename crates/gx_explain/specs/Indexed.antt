@@ -2,7 +2,7 @@
 use Rattle.std.specs.Prelude.{ℕ, zero, suc, Bool, true, false, not, ◌&&◌, ◌||◌, is_some, List, [], ◌∷◌}
 use Rattle.gx_values.specs.declared.records.Form.{Form}
 use Rattle.gx_schema.specs.declared.schema.FileDef.{FileDef}
-use Rattle.gx_equation.specs.Trees.{Tree, Trees, node, none, kid, SideTree, file_side, link_side, DefinitionTree}
+use Rattle.gx_equation.specs.Trees.{TermTree, Trees, node, none, kid, SideTree, file_side, link_side, DefinitionTree}
 use Rattle.gx_typing.specs.Dues.{file_form}
 use Rattle.gx_forms.specs.Forms.{kid_form}
 use Rattle.gx_types.specs.HeadRules.{head_rule}
@@ -15,7 +15,7 @@ some_carries carries i (kid t ts) = carries i || some_carries carries (suc i) ts
 -- A field of records of the form is indexed in a term where the head has an index by it, or where
 -- some child carries it and it is indexed in each child that carries it. In a leaf none is.
 abbrev mutual
-  pub term_indexed : Form → Tree → List ℕ → Bool
+  pub term_indexed : Form → TermTree → List ℕ → Bool
   term_indexed form (node top kids) name =
       is_some ((head_rule top form).indexes name)
       || (some_carries (λ c. (head_rule top form).carries c name) 0 kids

@@ -12,19 +12,27 @@ use Rattle.gx_mapping.specs.declared.parts.Part.{Part}
 use Rattle.gx_gather.specs.Gather.{first_front}
 
 -- where one is at its end
-pub keys_end : (i m n : ℕ) (a b : List Value) → length a + i ≡ m → length b + i ≡ n → (length a ≡ 0) ⊎ (length b ≡ 0) → nat_cmp m n ≡ values_cmp a b
+pub keys_end : (i m n : ℕ) (a b : List Value) → length a + i ≡ m → length b + i ≡ n
+    → (length a ≡ 0) ⊎ (length b ≡ 0) → nat_cmp m n ≡ values_cmp a b
 keys_end i m n [] [] e f end = sym (nat_cmp_is m n Equal (omega arith))
 keys_end i m n [] (y ∷ b) e f end = sym (nat_cmp_is m n Less (omega arith))
 keys_end i m n (x ∷ a) [] e f end = sym (nat_cmp_is m n Greater (omega arith))
-keys_end i m n (x ∷ a) (y ∷ b) e f end = absurd (elim end [ inl k ↦ omega arith | inr k ↦ omega arith ])
+keys_end i m n (x ∷ a) (y ∷ b) e f end =
+    absurd (elim end [ inl k ↦ omega arith | inr k ↦ omega arith ])
 
 -- at values of both
-pub keys_next : (a b : List Value) (i : ℕ) (x y : Value) → x ≡ get_or a i x → y ≡ get_or b i y → i < length a → i < length b → values_cmp (drop i a) (drop i b) ≡ ordering_then (value_cmp x y) (values_cmp (drop (i + 1) a) (drop (i + 1) b))
+pub keys_next : (a b : List Value) (i : ℕ) (x y : Value) → x ≡ get_or a i x → y ≡ get_or b i y
+    → i < length a → i < length b
+    → values_cmp (drop i a) (drop i b) ≡ ordering_then (value_cmp x y)
+    (values_cmp (drop (i + 1) a) (drop (i + 1) b))
 keys_next a b i x y read read' l l' =
-    (λ j. values_cmp (drop_more a i x l j) (drop_more b i y l' j)) ∙ (λ j. ordering_then (value_cmp (sym read j) (sym read' j)) (values_cmp (drop (i + 1) a) (drop (i + 1) b)))
+    (λ j. values_cmp (drop_more a i x l j) (drop_more b i y l' j))
+    ∙ (λ j. ordering_then (value_cmp (sym read j) (sym read' j))
+    (values_cmp (drop (i + 1) a) (drop (i + 1) b)))
 
 -- the front of the first part's key
-pub first_front_is : (width : ℕ) (group : List Part) (p : Part) → 0 < length group → p ≡ get_or group 0 p → first_front width group ≡ take width p.rec.key
+pub first_front_is : (width : ℕ) (group : List Part) (p : Part) → 0 < length group
+    → p ≡ get_or group 0 p → first_front width group ≡ take width p.rec.key
 first_front_is width [] p some read = absurd (omega arith)
 first_front_is width (g ∷ gs) p some read = ap (λ (x : Part). take width x.rec.key) (sym read)
 

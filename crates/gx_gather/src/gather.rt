@@ -1,6 +1,6 @@
 // Records gathered from the data parts that the children of a layer hold.
 ghost use Rattle.std.specs.Prelude.{◌≡◌, ◌<◌, ◌++◌, ◌∷◌, [], ℕ, true, List, Some, None, length, map, take, OnOk, IsErrOf, IfOk, IfSome, IfNone};
-ghost use Rattle.std.specs.List.Sorted.{IsPermutation, IsSortedBy, IsStrictlySortedBy};
+ghost use Rattle.std.specs.List.Sorted.{IsSortedBy, IsStrictlySortedBy};
 ghost use Rattle.std.specs.Ordering.{is_lt};
 ghost use Rattle.gx_values.specs.Values.{AreSized};
 ghost use Rattle.gx_values.specs.declared.records.Rec.{Rec as Record};
@@ -32,7 +32,7 @@ pub fn add_parts(child: u16, found: Recs, parts: &mut Parts) -> Result<(), Alloc
 
 /// Appends the records that these data parts make, in the order of their keys.
 ///
-/// `Damaged`: some of the parts are those of no record; the block is `NO_BLOCK`. `Memory`: an
+/// `Damaged`: some of the parts are those of no record; the block is `NO_BLOCK`. `NoMemory`: an
 /// allocation failure. After either, records may have been appended, and those before stay.
 pub fn gather_parts<M: Mapping>(
     alloc: Global,
@@ -61,8 +61,8 @@ pub fn gather_parts<M: Mapping>(
 /// Replaces each of these records of one child by the record that has it as its only data part,
 /// under the same key. What is its own part already stays.
 ///
-/// `Damaged`: one of them is the only data part of no record; the block is `NO_BLOCK`. `Memory`: an
-/// allocation failure. After either, nothing is said of the records.
+/// `Damaged`: one of them is the only data part of no record; the block is `NO_BLOCK`. `NoMemory`:
+/// an allocation failure. After either, nothing is said of the records.
 pub fn gather_each<M: Mapping>(
     alloc: Global,
     mapping: &M,

@@ -35,8 +35,8 @@ abbrev pub front_of : Kind → List ℕ → List ℕ
 front_of kind key = unwrap_or (whole_front kind key) key
 
 -- the number of the chain in which an entry with the key stands
-abbrev pub bucket_of : LeafSpec → List ℕ → ℕ
-bucket_of spec key = fnv (front_of spec.first key) % roots_of spec
+abbrev pub hash_bucket : LeafSpec → List ℕ → ℕ
+hash_bucket spec key = fnv (front_of spec.first key) % roots_of spec
 
 -- a hashed file of at least one chain
 abbrev pub IsHashed : LeafKind → Type 0

@@ -8,7 +8,7 @@ use Rattle.gx_ports.specs.Roots.{roots_of}
 use Rattle.gx_ports.specs.Sheets.{Sheets, Ground}
 use Rattle.gx_chain.specs.Chain.{IsChain, IsOn}
 use Rattle.gx_chain.specs.Chains.{IsOfChain, IsOnChain}
-use Rattle.gx_hash.specs.Buckets.{bucket_of}
+use Rattle.gx_hash.specs.Buckets.{hash_bucket}
 
 -- The pages of the owner are those of one chain from each root on, each once. An entry stands in
 -- the chain of its bucket, and the map is the union of the entries.
@@ -22,6 +22,6 @@ pub record IsHash (ground : Ground) (place : Place) (sheets : Sheets) (map : Lea
   pub owned : (page : ℕ) → slice_get sheets.owners page ≡ Some place.owner
       → IsOfChain pages (roots_of place.spec) page
   pub placed : (bucket : ℕ) (key body : List ℕ) → bucket < roots_of place.spec
-      → IsOn sheets (pages bucket) key body → bucket_of place.spec key ≡ bucket
+      → IsOn sheets (pages bucket) key body → hash_bucket place.spec key ≡ bucket
   pub map_is : (key body : List ℕ) → (get map key ≡ Some body)
       ↔ IsOnChain sheets pages (roots_of place.spec) key body

@@ -4,11 +4,11 @@ use Rattle.gx_ports.specs.declared.page_view.PageView.{Ghosts}
 use Rattle.gx_ports.specs.declared.pages.Place.{Place}
 use Rattle.gx_ports.specs.Sheets.{Sheets, Ground}
 use Rattle.gx_chain.specs.Placed.{HaveBucket, IsPlacedChain, HasPlacedChain, ArePlacedChains}
-use Rattle.gx_hash.specs.Buckets.{bucket_of}
+use Rattle.gx_hash.specs.Buckets.{hash_bucket}
 
 -- the keys of these pages are those of a bucket
 abbrev pub ArePlaced : Place → Sheets → ℕ → List ℕ → Type 0
-ArePlaced place sheets = HaveBucket (bucket_of place.spec) sheets
+ArePlaced place sheets = HaveBucket (hash_bucket place.spec) sheets
 
 -- One chain with the keys of the bucket begins at its root, and its pages are marked beside those
 -- that were marked before.

@@ -2,7 +2,7 @@
 ghost use Rattle.std.specs.Prelude.{◌≡◌, ◌+◌, ◌<◌, None, Some, MatchOption};
 ghost use Rattle.gx_ports.specs.Files.{IsPlace};
 ghost use Rattle.gx_ports.specs.Roots.{roots_of};
-ghost use Rattle.gx_hash.specs.Buckets.{IsHashed, bucket_of, fnv, front_of, through_zero, whole_front};
+ghost use Rattle.gx_hash.specs.Buckets.{IsHashed, hash_bucket, fnv, front_of, through_zero, whole_front};
 
 use gx_ports::{Pages, Place};
 use gx_values::Kind;
@@ -58,7 +58,7 @@ fn fnv(bytes: &[u8]) -> u64
 /// The number of the chain in which an entry with the key stands.
 pub(crate) fn bucket(place: &Place, key: &[u8]) -> u32
     requires { IsHashed place.now.spec.kind }
-    ensures is { result ≡ bucket_of place.now.spec key.now }
+    ensures is { result ≡ hash_bucket place.now.spec key.now }
     ensures below { result < roots_of place.now.spec }
 {
     let buckets = u64::from(place.spec.kind.roots());

@@ -1,10 +1,10 @@
 // The chains of a hashed file are checked.
-ghost use Rattle.std.specs.Prelude.{◌≡◌, ◌==◌, ◌<◌, length, replicate, false, true, IsTrue, OnOk, IsErrOf};
+ghost use Rattle.std.specs.Prelude.{◌≡◌, ◌==◌, ◌<◌, length, replicate, false, IsTrue, OnOk, IsErrOf};
 ghost use Rattle.std.specs.List.{list_all};
 ghost use Rattle.gx_ports.specs.Files.{IsPlace, EndsFile, IsWhole};
 ghost use Rattle.gx_ports.specs.PageCalls.{ReadsPages};
 ghost use Rattle.gx_ports.specs.Roots.{roots_of};
-ghost use Rattle.gx_hash.specs.Buckets.{IsHashed, bucket_of};
+ghost use Rattle.gx_hash.specs.Buckets.{IsHashed, hash_bucket};
 ghost use Rattle.gx_hash.specs.Hash.{IsHash};
 ghost use Rattle.gx_hash.specs.Visited.{AreVisitedBuckets, HasUnseenBucket, IsVisitedBucket};
 
@@ -74,7 +74,7 @@ fn visit_bucket<P: Pages>(
 // Whether all keys have the bucket.
 fn are_placed(place: &Place, number: u32, keys: &BTreeSet<Vec<u8>>) -> bool
     requires { IsHashed place.now.spec.kind }
-    ensures { result ≡ list_all (λ key. bucket_of place.now.spec key.items
+    ensures { result ≡ list_all (λ key. hash_bucket place.now.spec key.items
         == number) keys.now.keys }
 {
     keys.iter().all(|key| bucket(place, key) == number)

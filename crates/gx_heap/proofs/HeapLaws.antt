@@ -16,19 +16,23 @@ use Rattle.gx_heap.proofs.HeapLemmas.{heap_few, heap_same}
 
 -- the map that is read is the one of a chain with all pages of its owner
 pub heap_read : (ground : Ground) (place : Place) (s : Sheets) (pages : List ℕ) → 1 ≤ place.owner
-    → IsChain ground place.owner s place.root pages → ((page : ℕ) → slice_get s.owners page ≡ Some place.owner → Contains pages page)
+    → IsChain ground place.owner s place.root pages
+    → ((page : ℕ) → slice_get s.owners page ≡ Some place.owner → Contains pages page)
     → IsHeap ground place s (heap_map ground place s)
 heap_read ground place s pages some chain all_owned = record {
   pages = pages;
   chain = chain;
   owned = all_owned;
-  map_is = owned_map_is place.owner s pages some (chain_apart ground place.owner place.root s pages chain) chain.fit.owned all_owned;
+  map_is = owned_map_is place.owner s pages some
+      (chain_apart ground place.owner place.root s pages chain) chain.fit.owned all_owned;
 }
 
-pub heap_laws : (ground : Ground) (place : Place) → place.spec.kind ≡ kinds.Heap → IsPlace ground place
+pub heap_laws : (ground : Ground) (place : Place) → place.spec.kind ≡ kinds.Heap
+    → IsPlace ground place
     → AreFileLaws ground place (IsHeap ground place) (heap_map ground place)
 heap_laws ground place kind at = record {
-  one = λ s m is. one_map place.owner s is.pages at.least (chain_apart ground place.owner place.root s is.pages is.chain) is.chain.fit.owned
+  one = λ s m is. one_map place.owner s is.pages at.least
+      (chain_apart ground place.owner place.root s is.pages is.chain) is.chain.fit.owned
       is.owned m is.map_is;
   same = λ old new m same is. heap_same ground place old new m same is;
   few = λ s m is.

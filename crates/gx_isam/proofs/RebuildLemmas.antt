@@ -28,7 +28,7 @@ use Rattle.gx_chain.proofs.CountLemmas.{count_listed}
 use Rattle.gx_chain.proofs.EntryLemmas.{more_from, more_to}
 use Rattle.gx_chain.proofs.ListLemmas.{contains_here, contains_later, contains_none}
 use Rattle.gx_chain.proofs.WriteLemmas.{slice_get_set}
-use Rattle.gx_isam_index.specs.Index.{IsIndexPage, bucket_count, bucket_of, first_of, separators_of}
+use Rattle.gx_isam_index.specs.Index.{IsIndexPage, bucket_count, bucket_of, first_page_of, separators_of}
 use Rattle.gx_isam.specs.Isam.{AreBuckets, IsIsam}
 use Rattle.gx_isam.specs.Change.{IsHungBefore, IsLeftOut}
 use Rattle.gx_chain.specs.Chains.{pages_below}
@@ -64,47 +64,64 @@ count_freed owner q owners some is =
 
 -- ---- the chain of one bucket has changed
 
-module _ (ground : Ground) (place : Place) (s t : Sheets) (map : LeafMap) (some : 1 ≤ place.owner) (h : IsIsam ground place s map) (j : ℕ)
-    (below : j < bucket_count (bytes_at s place.root)) (now : List ℕ) (c : IsBucketChanged ground place j s t (h.pages j) now)
-    (Put : List ℕ → List ℕ → Type 0) (put_here : (k b : List ℕ) → Put k b → bucket_of (bytes_at s place.root) k ≡ j)
-    (Stays : List ℕ → Type 0) (stays : (k : List ℕ) → bucket_of (bytes_at s place.root) k ≢ j → Stays k)
-    (entries : (k b : List ℕ) → IsOn t now k b ↔ (Put k b ⊎ (Stays k × IsOn s (h.pages j) k b))) where
-  abbrev pages_t : ℕ → List ℕ
-  pages_t = changed h.pages j now
+module _ (ground : Ground) (place : Place) (s t : Sheets) (map : LeafMap) (some : 1 ≤ place.owner)
+    (h : IsIsam ground place s map) (j : ℕ)
+    (below : j < bucket_count (bytes_at s place.root)) (now : List ℕ)
+    (c : IsBucketChanged ground place j s t (h.pages j) now)
+    (Put : List ℕ → List ℕ → Type 0) (put_here : (k b : List ℕ) → Put k b
+    → bucket_of (bytes_at s place.root) k ≡ j)
+    (Stays : List ℕ → Type 0) (stays : (k : List ℕ) → bucket_of (bytes_at s place.root) k ≢ j
+    → Stays k)
+    (entries : (k b : List ℕ) → IsOn t now k b ↔ (Put k b ⊎ (Stays k × IsOn s (h.pages j) k b)))
+  where
+    abbrev pages_t : ℕ → List ℕ
+    pages_t = changed h.pages j now
 
-  b_now : AreBuckets ground place.owner t (bytes_at t place.root) pages_t
-  b_now = buckets_now ground place s t map some h j below now c Put put_here Stays stays entries
+    b_now : AreBuckets ground place.owner t (bytes_at t place.root) pages_t
+    b_now = buckets_now ground place s t map some h j below now c Put put_here Stays stays entries
 
-  on_now : (k b : List ℕ) → (fin.get (isam_map place t) k ≡ Some b)
-      ↔ (Put k b ⊎ (Stays k × IsOn s (h.pages (bucket_of (bytes_at s place.root) k)) k b))
-  on_now k b =
-      let read = isam_map_on ground place t pages_t some c.index c.root b_now (owned_now ground place s t map some h j below now c) k b in
-      let on = on_bucket ground place s t map some h j below now c Put put_here Stays stays entries k b in (
-        λ is. (let at = read.0 is in on.0 (subst (λ i. IsOn t (pages_t i) k b) (sym (b_now.placed at.bucket k b at.below at.on)) at.on)),
-        λ put. read.1 (record {
-          bucket = bucket_of (bytes_at t place.root) k;
-          below = bucket_below (bytes_at t place.root) k c.index.some;
-          on = on.1 put;
-        }),
-      )
+    on_now : (k b : List ℕ) → (fin.get (isam_map place t) k ≡ Some b)
+        ↔ (Put k b ⊎ (Stays k × IsOn s (h.pages (bucket_of (bytes_at s place.root) k)) k b))
+    on_now k b =
+        let read = isam_map_on ground place t pages_t some c.index c.root b_now
+        (owned_now ground place s t map some h j below now c) k b in
+        let on = on_bucket ground place s t map some h j below now c Put put_here Stays stays
+        entries
+        k b in (
+          λ is. (let at = read.0 is in
+              on.0 (subst (λ i. IsOn t (pages_t i) k b)
+              (sym (b_now.placed at.bucket k b at.below at.on)) at.on)),
+          λ put. read.1 (record {
+            bucket = bucket_of (bytes_at t place.root) k;
+            below = bucket_below (bytes_at t place.root) k c.index.some;
+            on = on.1 put;
+          }),
+        )
 
-  pub changed_found : (k b : List ℕ) → (fin.get (isam_map place t) k ≡ Some b) ↔ (Put k b ⊎ (Stays k × (fin.get map k ≡ Some b)))
-  changed_found k b = (
-    λ is. elim ((on_now k b).0 is) [ inl put ↦ inl put | inr old ↦ inr (old.0, (isam_at ground place s map h k b).1 old.1) ],
-    λ put. (on_now k b).1 (elim put [ inl here ↦ inl here | inr old ↦ inr (old.0, (isam_at ground place s map h k b).0 old.1) ]),
-  )
+    pub changed_found : (k b : List ℕ) → (fin.get (isam_map place t) k ≡ Some b)
+        ↔ (Put k b ⊎ (Stays k × (fin.get map k ≡ Some b)))
+    changed_found k b = (
+      λ is. elim ((on_now k b).0 is)
+          [ inl put ↦ inl put | inr old ↦ inr (old.0, (isam_at ground place s map h k b).1 old.1) ],
+      λ put. (on_now k b).1 (elim put
+          [ inl here ↦ inl here | inr old ↦ inr (old.0, (isam_at ground place s map h k b).0 old.1) ]),
+    )
 
-  pub changed_isam : IsIsam ground place t (isam_map place t)
-  changed_isam = bucket_isam ground place s t map some h j below now c Put put_here Stays stays entries (isam_map place t) on_now
+    pub changed_isam : IsIsam ground place t (isam_map place t)
+    changed_isam = bucket_isam ground place s t map some h j below now c Put put_here Stays stays
+        entries (isam_map place t) on_now
 
 -- ---- the first page of a chain is left out
 
-module _ (ground : Ground) (place : Place) (s u : Sheets) (map : LeafMap) (some : 1 ≤ place.owner) (past : ground.tables ≤ place.root)
+module _ (ground : Ground) (place : Place) (s u : Sheets) (map : LeafMap) (some : 1 ≤ place.owner)
+    (past : ground.tables ≤ place.root)
     (h : IsIsam ground place s map) (j : ℕ) (below : j < bucket_count (bytes_at s place.root))
-    (first : ℕ) (first_is : first_of (bytes_at s place.root) j ≡ first) (first_some : first ≢ NONE)
+    (first : ℕ) (first_is : first_page_of (bytes_at s place.root) j ≡ first)
+    (first_some : first ≢ NONE)
     (l : IsLeftOut ground place (bytes_at s place.root) j first (next_at s first) s u) where
   chain : IsChain ground place.owner s first (h.pages j)
-  chain = subst (λ n. IsChain ground place.owner s n (h.pages j)) first_is (h.buckets.chains j below)
+  chain = subst (λ n. IsChain ground place.owner s n (h.pages j)) first_is
+      (h.buckets.chains j below)
 
   abbrev head : (rest : List ℕ) × (h.pages j ≡ first ∷ rest)
   head = headed ground place.owner s first (h.pages j) chain first_some
@@ -116,7 +133,8 @@ module _ (ground : Ground) (place : Place) (s u : Sheets) (map : LeafMap) (some 
   first_in = subst (λ (x : List ℕ). Contains x first) (sym head.1) (contains_here first head.0)
 
   out : IsBucketChanged ground place j s u (h.pages j) head.0
-  out = left_out ground place s s u map some past h j below first first_is first_some (h.pages j) chain same l head.0 head.1
+  out = left_out ground place s s u map some past h j below first first_is first_some
+      (h.pages j) chain same l head.0 head.1
 
   abbrev Gone : List ℕ → Type 0
   Gone k = (c : List ℕ) → Contains (entries_at s first) (record { key = k; body = c }) → ⊥
@@ -124,44 +142,53 @@ module _ (ground : Ground) (place : Place) (s u : Sheets) (map : LeafMap) (some 
   entries_out : (k b : List ℕ) → IsOn u head.0 k b ↔ (⊥ ⊎ (Gone k × IsOn s (h.pages j) k b))
   entries_out k b =
       let rest =
-      on_rest ground place s s u map some past h j below first first_is first_some (h.pages j) chain same l head.0 head.1 k b in (
+      on_rest ground place s s u map some past h j below first first_is first_some
+      (h.pages j) chain same l head.0 head.1 k b in (
         λ on. inr (rest.0 on),
         λ old. elim old [ inl never ↦ absurd never | inr gone ↦ rest.1 gone ],
       )
 
   pub cut_isam : IsIsam ground place u (isam_map place u)
-  cut_isam = changed_isam ground place s u map some h j below head.0 out (λ k b. ⊥) (λ k b never. absurd never) Gone
-      (λ k d c at. d (h.buckets.placed j k c below (record { page = first; among = first_in; here = at }))) entries_out
+  cut_isam = changed_isam ground place s u map some h j below head.0 out (λ k b. ⊥)
+      (λ k b never. absurd never) Gone
+      (λ k d c at. d (h.buckets.placed j k c below
+      (record { page = first; among = first_in; here = at }))) entries_out
 
   pub cut_others : OthersStay ground place.owner s u
   cut_others = bucket_others ground place s u map some h j below head.0 out
 
   pub cut_count : page_count place.owner u + 1 ≡ page_count place.owner s
   cut_count =
-      let owners : u.owners ≡ set s.owners first 0 = l.freed.owners ∙ ap (λ (o : List ℕ). set o first 0) l.written.owners in
+      let owners : u.owners ≡ set s.owners first 0 = l.freed.owners
+      ∙ ap (λ (o : List ℕ). set o first 0) l.written.owners in
       ap (λ (o : List ℕ). count_by (λ n. n == place.owner) o + 1) owners
       ∙ count_freed place.owner first s.owners some (chain.fit.owned first first_in)
 
   pub cut_firsts : (bucket_count (bytes_at u place.root) ≡ bucket_count (bytes_at s place.root))
       × ((other : ℕ) → other < bucket_count (bytes_at s place.root) → other ≢ j
-      → first_of (bytes_at u place.root) other ≡ first_of (bytes_at s place.root) other)
+      → first_page_of (bytes_at u place.root) other ≡ first_page_of (bytes_at s place.root) other)
   cut_firsts = (out.count, out.firsts)
 
 -- the file has a page
-pub root_counted : (ground : Ground) (place : Place) (s : Sheets) (map : LeafMap) → 1 ≤ place.owner → IsIsam ground place s map
+pub root_counted : (ground : Ground) (place : Place) (s : Sheets) (map : LeafMap) → 1 ≤ place.owner
+    → IsIsam ground place s map
     → 1 ≤ page_count place.owner s
-root_counted ground place s map some h = let less = count_freed place.owner place.root s.owners some h.root in omega (arith, less)
+root_counted ground place s map some h = let less =
+    count_freed place.owner place.root s.owners some h.root in omega (arith, less)
 
 -- ---- chains are emptied
 
 -- Pages of the chain of a bucket were freed. Those that are left are as many fewer.
-pub record IsFreeingSo (ground : Ground) (place : Place) (bucket : ℕ) (start now : Sheets) (before index : List ℕ) (n : ℕ) : Type 0 where
+pub record IsFreeingSo (ground : Ground) (place : Place) (bucket : ℕ) (start now : Sheets)
+    (before index : List ℕ) (n : ℕ) : Type 0 where
   pub whole : HasIndex ground place now index
-  pub firsts : (other : ℕ) → other < bucket_count before → other ≢ bucket → first_of index other ≡ first_of before other
+  pub firsts : (other : ℕ) → other < bucket_count before → other ≢ bucket
+      → first_page_of index other ≡ first_page_of before other
   pub others : OthersStay ground place.owner start now
   pub few : page_count place.owner now + n ≤ ground.size
 
-pub record IsFreeingChain {S : Type 0} (g : Ghosts S) (place : Place) (bucket : ℕ) (start now : S) (before index : List ℕ)
+pub record IsFreeingChain {S : Type 0} (g : Ghosts S) (place : Place) (bucket : ℕ) (start now : S)
+    (before index : List ℕ)
     (n : ℕ) : Type 0 where
   pub keeps : KeepsPages g start now
   pub faults : g.faults now ≡ g.faults start
@@ -170,31 +197,39 @@ pub record IsFreeingChain {S : Type 0} (g : Ghosts S) (place : Place) (bucket : 
   pub way : IsTrue g.tells → HasIndex (g.ground start) place (g.working start) before
       → IsFreeingSo (g.ground start) place bucket (g.working start) (g.working now) before index n
 
-pub freeing_first : (ground : Ground) (place : Place) (bucket : ℕ) (s : Sheets) (index : List ℕ) → length s.owners ≡ ground.size
+pub freeing_first : (ground : Ground) (place : Place) (bucket : ℕ) (s : Sheets) (index : List ℕ)
+    → length s.owners ≡ ground.size
     → HasIndex ground place s index → IsFreeingSo ground place bucket s s index index 0
 freeing_first ground place bucket s index many whole = record {
   whole = whole;
   firsts = λ other in' d. refl;
   others = others_itself ground place.owner s;
-  few = let most = count_by-le-length (λ (o : ℕ). o == place.owner) s.owners in omega (arith, most, many);
+  few = let most = count_by-le-length (λ (o : ℕ). o == place.owner) s.owners in
+      omega (arith, most, many);
 }
 
-module _ (ground : Ground) (place : Place) (bucket : ℕ) (start s : Sheets) (before index : List ℕ) (n : ℕ) (some : 1 ≤ place.owner)
+module _ (ground : Ground) (place : Place) (bucket : ℕ) (start s : Sheets) (before index : List ℕ)
+    (n : ℕ) (some : 1 ≤ place.owner)
     (f : IsFreeingSo ground place bucket start s before index n) where
   -- before all pages were freed there is an end
   pub freeing_ends : n < ground.size
-  freeing_ends = let few = f.few in let one = root_counted ground place s f.whole.map some f.whole.file in omega (arith, few, one)
+  freeing_ends = let few = f.few in let one =
+      root_counted ground place s f.whole.map some f.whole.file in omega (arith, few, one)
 
   module _ (below : bucket < bucket_count index) where
-    pub freeing_chain : (pages : List ℕ) × IsChain ground place.owner s (first_of index bucket) pages
+    pub freeing_chain : (pages : List ℕ)
+        × IsChain ground place.owner s (first_page_of index bucket) pages
     freeing_chain = (
       f.whole.file.pages bucket,
-      subst (λ (b : List ℕ). IsChain ground place.owner s (first_of b bucket) (f.whole.file.pages bucket))
+      subst (λ (b : List ℕ). IsChain ground place.owner s (first_page_of b bucket)
+          (f.whole.file.pages bucket))
           (sym f.whole.index_is)
-          (f.whole.file.buckets.chains bucket (subst (λ (b : List ℕ). bucket < bucket_count b) f.whole.index_is below)),
+          (f.whole.file.buckets.chains bucket
+          (subst (λ (b : List ℕ). bucket < bucket_count b) f.whole.index_is below)),
     )
 
-    pub freeing_done : ground.size < 2 ^ 32 → bucket_count index ≡ bucket_count before → first_of index bucket ≡ NONE
+    pub freeing_done : ground.size < 2 ^ 32 → bucket_count index ≡ bucket_count before
+        → first_page_of index bucket ≡ NONE
         → IsFreed ground place bucket before index start s
     freeing_done small count none = record {
       small = small;
@@ -205,38 +240,52 @@ module _ (ground : Ground) (place : Place) (bucket : ℕ) (start s : Sheets) (be
       others = f.others;
     }
 
-    pub freeing_cut : ground.tables ≤ place.root → (first next : ℕ) (index' : List ℕ) (u : Sheets) → first_of index bucket ≡ first
-        → first ≢ NONE → next ≡ next_at s first → IsLeftOut ground place index bucket first next s u → index' ≡ bytes_at u place.root
-        → bucket_count index ≡ bucket_count before → IsFreeingSo ground place bucket start u before index' (n + 1)
+    pub freeing_cut : ground.tables ≤ place.root → (first next : ℕ) (index' : List ℕ) (u : Sheets)
+        → first_page_of index bucket ≡ first
+        → first ≢ NONE → next ≡ next_at s first → IsLeftOut ground place index bucket first next s u
+        → index' ≡ bytes_at u place.root
+        → bucket_count index ≡ bucket_count before
+        → IsFreeingSo ground place bucket start u before index' (n + 1)
     freeing_cut past first next index' u first_is first_some next_is out read count =
         let below_s = subst (λ (b : List ℕ). bucket < bucket_count b) f.whole.index_is below in
-        let first_s = ap (λ (b : List ℕ). first_of b bucket) (sym f.whole.index_is) ∙ first_is in
-        let out_s = subst (λ m. IsLeftOut ground place (bytes_at s place.root) bucket first m s u) next_is
-        (subst (λ (b : List ℕ). IsLeftOut ground place b bucket first next s u) f.whole.index_is out) in
-        let firsts = (cut_firsts ground place s u f.whole.map some past f.whole.file bucket below_s first first_s first_some out_s).1 in
+        let first_s = ap (λ (b : List ℕ). first_page_of b bucket) (sym f.whole.index_is)
+        ∙ first_is in
+        let out_s = subst (λ m. IsLeftOut ground place (bytes_at s place.root) bucket first m s u)
+        next_is
+        (subst (λ (b : List ℕ). IsLeftOut ground place b bucket first next s u) f.whole.index_is
+        out) in
+        let firsts = (cut_firsts ground place s u f.whole.map some past f.whole.file bucket below_s
+        first first_s first_some out_s).1 in
         record {
           whole = record {
             map = isam_map place u;
-            file = cut_isam ground place s u f.whole.map some past f.whole.file bucket below_s first first_s first_some out_s;
+            file = cut_isam ground place s u f.whole.map some past f.whole.file bucket below_s first
+                first_s first_some out_s;
             index_is = read;
           };
-          firsts = λ other in' d. ap (λ (b : List ℕ). first_of b other) read
-              ∙ firsts other (subst (λ (b : List ℕ). other < bucket_count b) f.whole.index_is (omega (arith, in', count))) d
-              ∙ ap (λ (b : List ℕ). first_of b other) (sym f.whole.index_is) ∙ f.firsts other in' d;
+          firsts = λ other in' d. ap (λ (b : List ℕ). first_page_of b other) read
+              ∙ firsts other (subst (λ (b : List ℕ). other < bucket_count b) f.whole.index_is
+              (omega (arith, in', count))) d
+              ∙ ap (λ (b : List ℕ). first_page_of b other) (sym f.whole.index_is)
+              ∙ f.firsts other in' d;
           others = others_joined ground place.owner start s u f.others
-              (cut_others ground place s u f.whole.map some past f.whole.file bucket below_s first first_s first_some out_s);
-          few = let one = cut_count ground place s u f.whole.map some past f.whole.file bucket below_s first first_s first_some out_s in
+              (cut_others ground place s u f.whole.map some past f.whole.file bucket below_s first
+              first_s first_some out_s);
+          few = let one = cut_count ground place s u f.whole.map some past f.whole.file bucket
+              below_s first first_s first_some out_s in
               let few = f.few in omega (arith, one, few);
         }
 
 -- the first chains were emptied
-pub record IsFreeingAll (ground : Ground) (place : Place) (start now : Sheets) (index : List ℕ) (bucket : ℕ) : Type 0 where
+pub record IsFreeingAll (ground : Ground) (place : Place) (start now : Sheets) (index : List ℕ)
+    (bucket : ℕ) : Type 0 where
   pub whole : HasIndex ground place now index
   pub small : 0 < bucket → ground.size < 2 ^ 32
-  pub none : (i : ℕ) → i < bucket → first_of index i ≡ NONE
+  pub none : (i : ℕ) → i < bucket → first_page_of index i ≡ NONE
   pub others : OthersStay ground place.owner start now
 
-pub record IsFreeing {S : Type 0} (g : Ghosts S) (place : Place) (start now : S) (index : List ℕ) (count bucket : ℕ) : Type 0 where
+pub record IsFreeing {S : Type 0} (g : Ghosts S) (place : Place) (start now : S) (index : List ℕ)
+    (count bucket : ℕ) : Type 0 where
   pub keeps : KeepsPages g start now
   pub faults : g.faults now ≡ g.faults start
   pub page : IsIndexPage index
@@ -245,14 +294,15 @@ pub record IsFreeing {S : Type 0} (g : Ghosts S) (place : Place) (start now : S)
   pub way : (map : LeafMap) → IsTrue g.tells → IsIsam (g.ground start) place (g.working start) map
       → IsFreeingAll (g.ground start) place (g.working start) (g.working now) index bucket
 
-pub freed_more : (ground : Ground) (place : Place) (start s u : Sheets) (index index' : List ℕ) (bucket : ℕ) → bucket < bucket_count index
+pub freed_more : (ground : Ground) (place : Place) (start s u : Sheets) (index index' : List ℕ)
+    (bucket : ℕ) → bucket < bucket_count index
     → IsFreeingAll ground place start s index bucket → IsFreed ground place bucket index index' s u
     → IsFreeingAll ground place start u index' (bucket + 1)
 freed_more ground place start s u index index' bucket below f freed = record {
   whole = freed.whole;
   small = λ some. freed.small;
   none = λ i less. elim (cases_eq i bucket) [
-    | inl e ↦ ap (first_of index') e ∙ freed.none
+    | inl e ↦ ap (first_page_of index') e ∙ freed.none
     | inr d ↦ freed.firsts i (omega (arith, less, below)) d ∙ f.none i (omega (arith, less, d))
   ];
   others = others_joined ground place.owner start s u f.others freed.others;
@@ -260,46 +310,58 @@ freed_more ground place start s u index index' bucket below f freed = record {
 
 -- ---- all chains are empty
 
-pub none_left : (ground : Ground) (place : Place) (s : Sheets) (map : LeafMap) → ground.size < 2 ^ 32 → IsIsam ground place s map
-    → ((i : ℕ) → i < bucket_count (bytes_at s place.root) → first_of (bytes_at s place.root) i ≡ NONE)
+pub none_left : (ground : Ground) (place : Place) (s : Sheets) (map : LeafMap)
+    → ground.size < 2 ^ 32 → IsIsam ground place s map
+    → ((i : ℕ) → i < bucket_count (bytes_at s place.root)
+    → first_page_of (bytes_at s place.root) i ≡ NONE)
     → (q : ℕ) → slice_get s.owners q ≡ Some place.owner → q ≡ place.root
 none_left ground place s map small h none q o = elim (h.owned q o) [
   | inl e ↦ e
   | inr on ↦ (let pages = no_pages ground place.owner s (h.pages on.bucket) small
-      (subst (λ n. IsChain ground place.owner s n (h.pages on.bucket)) (none on.bucket on.below) (h.buckets.chains on.bucket on.below)) in
+      (subst (λ n. IsChain ground place.owner s n (h.pages on.bucket)) (none on.bucket on.below)
+      (h.buckets.chains on.bucket on.below)) in
       absurd (contains_none q (subst (λ (x : List ℕ). Contains x q) pages on.among)))
 ]
 
 pub freed_all : (ground : Ground) (place : Place) (start s : Sheets) (index : List ℕ) (bucket : ℕ)
-    → IsFreeingAll ground place start s index bucket → bucket ≡ bucket_count index → IsEmptied ground place start s
+    → IsFreeingAll ground place start s index bucket → bucket ≡ bucket_count index
+    → IsEmptied ground place start s
 freed_all ground place start s index bucket f all = record {
   root = f.whole.file.root;
   only = none_left ground place s f.whole.map
-      (f.small (let some = f.whole.file.index.some in let count = ap bucket_count f.whole.index_is in omega (arith, some, count, all)))
+      (f.small (let some = f.whole.file.index.some in let count = ap bucket_count f.whole.index_is
+      in omega (arith, some, count, all)))
       f.whole.file
-      (λ i less. ap (λ (b : List ℕ). first_of b i) (sym f.whole.index_is)
-      ∙ f.none i (subst (λ n. i < n) (sym all) (subst (λ (b : List ℕ). i < bucket_count b) (sym f.whole.index_is) less)));
+      (λ i less. ap (λ (b : List ℕ). first_page_of b i) (sym f.whole.index_is)
+      ∙ f.none i (subst (λ n. i < n) (sym all)
+      (subst (λ (b : List ℕ). i < bucket_count b) (sym f.whole.index_is) less)));
   others = f.others;
 }
 
 -- an index without pages is written to the root
-module _ (ground : Ground) (place : Place) (before s m t : Sheets) (page : List ℕ) (e : IsEmptied ground place before s) (same : m ≡ s)
-    (within : place.root < length s.bytes) (written : t ≡ record { owners = m.owners; bytes = set m.bytes place.root page })
+module _ (ground : Ground) (place : Place) (before s m t : Sheets) (page : List ℕ)
+    (e : IsEmptied ground place before s) (same : m ≡ s)
+    (within : place.root < length s.bytes)
+    (written : t ≡ record { owners = m.owners; bytes = set m.bytes place.root page })
     (index : IsIndexPage page)
-    (none : (i : ℕ) → i < bucket_count page → first_of page i ≡ NONE) where
+    (none : (i : ℕ) → i < bucket_count page → first_page_of page i ≡ NONE) where
   t_is : t ≡ record { owners = s.owners; bytes = set s.bytes place.root page }
-  t_is = written ∙ ap (λ (x : Sheets). record { owners = x.owners; bytes = set x.bytes place.root page }) same
+  t_is = written ∙ ap (λ (x : Sheets).
+      record { owners = x.owners; bytes = set x.bytes place.root page }) same
 
   owners_same : t.owners ≡ s.owners
   owners_same = ap (λ (x : Sheets). x.owners) t_is
 
   pub blank_page : bytes_at t place.root ≡ page
-  blank_page = ap (λ (x : Sheets). bytes_at x place.root) t_is ∙ get_or-set_same s.bytes place.root page [] within
+  blank_page = ap (λ (x : Sheets). bytes_at x place.root) t_is
+      ∙ get_or-set_same s.bytes place.root page [] within
 
-  blank_chain : (i : ℕ) → i < bucket_count (bytes_at t place.root) → IsChain ground place.owner t (first_of (bytes_at t place.root) i) []
+  blank_chain : (i : ℕ) → i < bucket_count (bytes_at t place.root)
+      → IsChain ground place.owner t (first_page_of (bytes_at t place.root) i) []
   blank_chain i less = record {
-    linked = ap (λ (b : List ℕ). first_of b i) blank_page ∙ none i (subst (λ (b : List ℕ). i < bucket_count b) blank_page less);
-    fit = fit_none ground place.owner t (first_of (bytes_at t place.root) i);
+    linked = ap (λ (b : List ℕ). first_page_of b i) blank_page
+        ∙ none i (subst (λ (b : List ℕ). i < bucket_count b) blank_page less);
+    fit = fit_none ground place.owner t (first_page_of (bytes_at t place.root) i);
   }
 
   pub blank_isam : IsIsam ground place t fin.empty
@@ -321,14 +383,18 @@ module _ (ground : Ground) (place : Place) (before s m t : Sheets) (page : List 
     owned = λ q. (λ o. ap (λ (x : List ℕ). slice_get x q) owners_same ∙ o, λ o. sym (ap (λ (x : List ℕ). slice_get x q) owners_same) ∙ o);
     bytes = λ q in' o. ap (λ (x : Sheets). slice_get x.bytes q) t_is
         ∙ slice_get_set s.bytes place.root q page
-        (λ is. d (sym (same_Some place.owner other (sym e.root ∙ ap (slice_get s.owners) (sym is) ∙ o))));
+        (λ is. d (sym (same_Some place.owner other (sym e.root ∙ ap (slice_get s.owners) (sym is)
+        ∙ o))));
   })
 
 -- it is blank for the entries of the map
-pub blank_for : (ground : Ground) (place : Place) (s r t : Sheets) (map : LeafMap) (page : List ℕ) (entries : List LeafEntry)
-    → IsEmptied ground place s r → place.root < length r.bytes → t ≡ record { owners = r.owners; bytes = set r.bytes place.root page }
+pub blank_for : (ground : Ground) (place : Place) (s r t : Sheets) (map : LeafMap) (page : List ℕ)
+    (entries : List LeafEntry)
+    → IsEmptied ground place s r → place.root < length r.bytes
+    → t ≡ record { owners = r.owners; bytes = set r.bytes place.root page }
     → IsIndexPage page
-    → ((i : ℕ) → i < bucket_count page → first_of page i ≡ NONE) → entries ≡ selected [] [] map → IsBlankFor ground place t page entries map
+    → ((i : ℕ) → i < bucket_count page → first_page_of page i ≡ NONE) → entries ≡ selected [] [] map
+    → IsBlankFor ground place t page entries map
 blank_for ground place s r t map page entries e within written index none is = record {
   file = blank_isam ground place s r r t page e refl within written index none;
   index_is = sym (blank_page ground place s r r t page e refl within written index none);
@@ -338,7 +404,8 @@ blank_for ground place s r t map page entries e within written index none is = r
 -- ---- chains are filled
 
 -- The entries from a place on stand in the file, whose index this is.
-pub record IsFilledFrom (ground : Ground) (place : Place) (start now : Sheets) (before index : List ℕ) (entries : List LeafEntry)
+pub record IsFilledFrom (ground : Ground) (place : Place) (start now : Sheets)
+    (before index : List ℕ) (entries : List LeafEntry)
     (end : ℕ) : Type 0 where
   pub map : LeafMap
   pub file : IsIsam ground place now map
@@ -348,8 +415,10 @@ pub record IsFilledFrom (ground : Ground) (place : Place) (start now : Sheets) (
   pub those : (k b : List ℕ) → (fin.get map k ≡ Some b) ↔ IsWithin entries end (length entries) k b
   pub others : OthersStay ground place.owner start now
 
-pub filled_first : (ground : Ground) (place : Place) (s : Sheets) (index : List ℕ) (entries : List LeafEntry) (map : LeafMap) (end : ℕ)
-    → IsBlankFor ground place s index entries map → end ≡ length entries → IsFilledFrom ground place s s index index entries end
+pub filled_first : (ground : Ground) (place : Place) (s : Sheets) (index : List ℕ)
+    (entries : List LeafEntry) (map : LeafMap) (end : ℕ)
+    → IsBlankFor ground place s index entries map → end ≡ length entries
+    → IsFilledFrom ground place s s index index entries end
 filled_first ground place s index entries map end blank is = record {
   map = fin.empty;
   file = blank.file;
@@ -363,12 +432,16 @@ filled_first ground place s index entries map end blank is = record {
   others = others_itself ground place.owner s;
 }
 
-module _ (ground : Ground) (place : Place) (begin s u : Sheets) (before index index' : List ℕ) (entries : List LeafEntry)
-    (ordered : AreOrdered entries) (start end : ℕ) (within : end ≤ length entries) (some : 1 ≤ place.owner)
+module _ (ground : Ground) (place : Place) (begin s u : Sheets) (before index index' : List ℕ)
+    (entries : List LeafEntry)
+    (ordered : AreOrdered entries) (start end : ℕ) (within : end ≤ length entries)
+    (some : 1 ≤ place.owner)
     (f : IsFilledFrom ground place begin s before index entries end)
-    (j : ℕ) (below : j < bucket_count index) (es : List Entry) (run : IsRun index entries start end j es)
+    (j : ℕ) (below : j < bucket_count index) (es : List Entry)
+    (run : IsRun index entries start end j es)
     (hung : IsHungBefore ground place index j es s u) (read : index' ≡ bytes_at u place.root)
-    (count : bucket_count index' ≡ bucket_count index) (separators : separators_of index' ≡ separators_of index) where
+    (count : bucket_count index' ≡ bucket_count index)
+    (separators : separators_of index' ≡ separators_of index) where
   abbrev h : IsIsam ground place s f.map
   h = f.file
 
@@ -378,13 +451,16 @@ module _ (ground : Ground) (place : Place) (begin s u : Sheets) (before index in
   hung_s : IsHungBefore ground place (bytes_at s place.root) j es s u
   hung_s = subst (λ (x : List ℕ). IsHungBefore ground place x j es s u) f.index_is hung
 
-  es_apart : (k b c : List ℕ) → Contains es (record { key = k; body = b }) → IsOn s (h.pages j) k c → ⊥
+  es_apart : (k b c : List ℕ) → Contains es (record { key = k; body = b }) → IsOn s (h.pages j) k c
+      → ⊥
   es_apart k b c here on =
       let new = (run.those k b).0 here in
-      let old = (f.those k c).0 ((h.map_is k c).1 (record { bucket = j; below = below_s; on = on })) in
+      let old = (f.those k c).0 ((h.map_is k c).1 (record { bucket = j; below = below_s; on = on }))
+      in
       let less = new.below in
       let more = old.from in
-      apart_keys entries ordered new.place old.place k b c (omega (arith, less, more)) new.there old.there
+      apart_keys entries ordered new.place old.place k b c (omega (arith, less, more)) new.there
+      old.there
 
   changed_s : IsBucketChanged ground place j s u (h.pages j) (hung_s.fresh ∷ h.pages j)
   changed_s = hung_bucket ground place s u f.map some h j below_s es run.filled es_apart hung_s
@@ -395,20 +471,25 @@ module _ (ground : Ground) (place : Place) (begin s u : Sheets) (before index in
   put_here : (k b : List ℕ) → Put k b → bucket_of (bytes_at s place.root) k ≡ j
   put_here k b put = ap (λ (x : List ℕ). bucket_of x k) (sym f.index_is) ∙ run.placed k b put
 
-  entries_s : (k b : List ℕ) → IsOn u (hung_s.fresh ∷ h.pages j) k b ↔ (Put k b ⊎ (Unit {0} × IsOn s (h.pages j) k b))
-  entries_s k b = (let on = hung_on ground place s u f.map some h j below_s es run.filled es_apart hung_s k b in (
-    λ is. elim (on.0 is) [ inl here ↦ inl here | inr old ↦ inr (tt, old) ],
-    λ is. on.1 (elim is [ inl here ↦ inl here | inr old ↦ inr old.1 ]),
-  ))
+  entries_s : (k b : List ℕ) → IsOn u (hung_s.fresh ∷ h.pages j) k b
+      ↔ (Put k b ⊎ (Unit {0} × IsOn s (h.pages j) k b))
+  entries_s k b = (let on =
+      hung_on ground place s u f.map some h j below_s es run.filled es_apart hung_s k b in (
+        λ is. elim (on.0 is) [ inl here ↦ inl here | inr old ↦ inr (tt, old) ],
+        λ is. on.1 (elim is [ inl here ↦ inl here | inr old ↦ inr old.1 ]),
+      ))
 
-  found : (k b : List ℕ) → (fin.get (isam_map place u) k ≡ Some b) ↔ (Put k b ⊎ (Unit {0} × (fin.get f.map k ≡ Some b)))
-  found = changed_found ground place s u f.map some h j below_s (hung_s.fresh ∷ h.pages j) changed_s Put put_here (λ k. Unit {0})
+  found : (k b : List ℕ) → (fin.get (isam_map place u) k ≡ Some b)
+      ↔ (Put k b ⊎ (Unit {0} × (fin.get f.map k ≡ Some b)))
+  found = changed_found ground place s u f.map some h j below_s (hung_s.fresh ∷ h.pages j) changed_s
+      Put put_here (λ k. Unit {0})
       (λ k d. tt) entries_s
 
   pub filled_more : IsFilledFrom ground place begin u before index' entries start
   filled_more = record {
     map = isam_map place u;
-    file = changed_isam ground place s u f.map some h j below_s (hung_s.fresh ∷ h.pages j) changed_s Put put_here (λ k. Unit {0})
+    file = changed_isam ground place s u f.map some h j below_s (hung_s.fresh ∷ h.pages j) changed_s
+        Put put_here (λ k. Unit {0})
         (λ k d. tt) entries_s;
     index_is = read;
     count = count ∙ f.count;
@@ -422,26 +503,33 @@ module _ (ground : Ground) (place : Place) (begin s u : Sheets) (before index in
             record { place = w.place; from = omega (arith, more, more'); below = w.below; there = w.there })
       ],
       λ w. (found k b).1 (elim (cases_lt w.place end) [
-        | inl less ↦ inl ((run.those k b).1 (record { place = w.place; from = w.from; below = less; there = w.there }))
+        | inl less ↦ inl ((run.those k b).1
+            (record { place = w.place; from = w.from; below = less; there = w.there }))
         | inr more ↦ inr (tt, (f.those k b).1 (record { place = w.place; from = more; below = w.below; there = w.there }))
       ]),
     );
     others = others_joined ground place.owner begin s u f.others
-        (bucket_others ground place s u f.map some h j below_s (hung_s.fresh ∷ h.pages j) changed_s);
+        (bucket_others ground place s u f.map some h j below_s (hung_s.fresh ∷ h.pages j)
+        changed_s);
   }
 
-pub record IsFilling {S : Type 0} (g : Ghosts S) (place : Place) (start now : S) (before index : List ℕ) (entries : List LeafEntry)
+pub record IsFilling {S : Type 0} (g : Ghosts S) (place : Place) (start now : S)
+    (before index : List ℕ) (entries : List LeafEntry)
     (end : ℕ) : Type 0 where
   pub keeps : KeepsPages g start now
   pub faults : g.faults now ≡ g.faults start
   pub page : IsIndexPage index
   pub within : end ≤ length entries
-  pub way : (map : LeafMap) → IsTrue g.tells → IsBlankFor (g.ground start) place (g.working start) before entries map
-      → IsFilledFrom (g.ground start) place (g.working start) (g.working now) before index entries end
+  pub way : (map : LeafMap) → IsTrue g.tells
+      → IsBlankFor (g.ground start) place (g.working start) before entries map
+      → IsFilledFrom (g.ground start) place (g.working start) (g.working now) before index entries
+      end
 
 -- it is part of the map, so that the pages are few
-module _ (ground : Ground) (place : Place) (start s : Sheets) (before index : List ℕ) (entries : List LeafEntry) (end : ℕ) (map : LeafMap)
-    (all : AreEntriesOf map entries) (f : IsFilledFrom ground place start s before index entries end) where
+module _ (ground : Ground) (place : Place) (start s : Sheets) (before index : List ℕ)
+    (entries : List LeafEntry) (end : ℕ) (map : LeafMap)
+    (all : AreEntriesOf map entries)
+    (f : IsFilledFrom ground place start s before index entries end) where
   part : (k b : List ℕ) → fin.get f.map k ≡ Some b → fin.get map k ≡ Some b
   part k b is = let w = (f.those k b).0 is in (all k b).1 (w.place, w.there)
 
@@ -451,7 +539,8 @@ module _ (ground : Ground) (place : Place) (start s : Sheets) (before index : Li
   owned : (q : ℕ) → slice_get s.owners q ≡ Some place.owner → Contains (place.root ∷ pages) q
   owned q o = elim (f.file.owned q o) [
     | inl e ↦ subst (Contains (place.root ∷ pages)) (sym e) (contains_here place.root pages)
-    | inr r ↦ contains_later place.root q pages (below_from f.file.pages (bucket_count (bytes_at s place.root)) r.bucket q r.below r.among)
+    | inr r ↦ contains_later place.root q pages
+        (below_from f.file.pages (bucket_count (bytes_at s place.root)) r.bucket q r.below r.among)
   ]
 
   pub filled_partly : IsPartlyFilled ground place start s map
@@ -489,41 +578,53 @@ module _ (ground : Ground) (place : Place) (start s : Sheets) (before index : Li
 -- ---- a page is filled
 
 -- the page has the entries from a place on
-pub record IsFillingPage (index : List ℕ) (entries : List LeafEntry) (start end bucket : ℕ) (page : List ℕ) : Type 0 where
+pub record IsFillingPage (index : List ℕ) (entries : List LeafEntry) (start end bucket : ℕ)
+    (page : List ℕ) : Type 0 where
   pub is_page : IsEntryPage page
   pub run : IsRun index entries start end bucket (entries_of page)
 
-within_one : (entries : List LeafEntry) (start end : ℕ) (k b : List ℕ) (e : LeafEntry) → start < end → slice_get entries start ≡ Some e
-    → IsWithin entries start end k b → (e ≡ record { key = k; body = b }) ⊎ IsWithin entries (start + 1) end k b
+within_one : (entries : List LeafEntry) (start end : ℕ) (k b : List ℕ) (e : LeafEntry) → start < end
+    → slice_get entries start ≡ Some e
+    → IsWithin entries start end k b → (e ≡ record { key = k; body = b })
+    ⊎ IsWithin entries (start + 1) end k b
 within_one entries start end k b e less at w = elim (cases_eq w.place start) [
   | inl same ↦
       inl (same_entry entries start e (record { key = k; body = b }) at
       (subst (λ n. slice_get entries n ≡ Some (record { key = k; body = b })) same w.there))
-  | inr d ↦ (let from = w.from in inr (record { place = w.place; from = omega (arith, from, d); below = w.below; there = w.there }))
+  | inr d ↦ (let from = w.from in
+      inr (record { place = w.place; from = omega (arith, from, d); below = w.below; there = w.there }))
 ]
 
 -- an entry in front
-pub run_more : (index : List ℕ) (entries : List LeafEntry) (start end bucket : ℕ) (page new : List Entry) (key body : List ℕ)
-    → (start + 1 ≤ end) → slice_get entries start ≡ Some (record { key = key; body = body }) → bucket_of index key ≡ bucket
-    → ((k b : List ℕ) → Contains page (record { key = k; body = b }) ↔ IsWithin entries (start + 1) end k b)
+pub run_more : (index : List ℕ) (entries : List LeafEntry) (start end bucket : ℕ)
+    (page new : List Entry) (key body : List ℕ)
+    → (start + 1 ≤ end) → slice_get entries start ≡ Some (record { key = key; body = body })
+    → bucket_of index key ≡ bucket
+    → ((k b : List ℕ) → Contains page (record { key = k; body = b })
+    ↔ IsWithin entries (start + 1) end k b)
     → ((k b : List ℕ) → Contains page (record { key = k; body = b }) → bucket_of index k ≡ bucket)
-    → new ≡ insert page 0 (record { key = key; body = body }) → IsRun index entries start end bucket new
+    → new ≡ insert page 0 (record { key = key; body = body })
+    → IsRun index entries start end bucket new
 run_more index entries start end bucket page new key body less at placed those all_placed is =
     let e : Entry = record { key = key; body = body } in
-    let to = λ (k b : List ℕ) (c : Contains new (record { key = k; body = b })). more_to page 0 e (record { key = k; body = b })
+    let to = λ (k b : List ℕ) (c : Contains new (record { key = k; body = b })). more_to page 0 e
+    (record { key = k; body = b })
     (subst (λ (x : List Entry). Contains x (record { key = k; body = b })) is c) in
     let from = λ (k b : List ℕ) (c : (e ≡ record { key = k; body = b }) ⊎ Contains page (record { key = k; body = b })). subst
-    (λ (x : List Entry). Contains x (record { key = k; body = b })) (sym is) (more_from page 0 e (record { key = k; body = b }) c) in
+    (λ (x : List Entry). Contains x (record { key = k; body = b })) (sym is)
+    (more_from page 0 e (record { key = k; body = b }) c) in
     record {
       some = omega (arith, less);
-      filled = λ none. contains_none e (subst (λ (x : List Entry). Contains x e) none (from key body (inl refl)));
+      filled = λ none. contains_none e
+          (subst (λ (x : List Entry). Contains x e) none (from key body (inl refl)));
       those = λ k b. (
         λ c. elim (to k b c) [
           | inl same ↦ record {
             place = start;
             from = omega arith;
             below = omega (arith, less);
-            there = at ∙ ap Some (λ i. record { key = (ap (λ (x : Entry). x.key) same) i; body = (ap (λ (x : Entry). x.body) same) i });
+            there = at ∙ ap Some (λ i.
+                record { key = (ap (λ (x : Entry). x.key) same) i; body = (ap (λ (x : Entry). x.body) same) i });
           }
           | inr old ↦
               (let w = (those k b).0 old in let low = w.from in record {
@@ -533,10 +634,11 @@ run_more index entries start end bucket page new key body less at placed those a
                 there = w.there;
               })
         ],
-        λ w. from k b (elim (within_one entries start end k b (record { key = key; body = body }) (omega (arith, less)) at w) [
-          | inl same ↦ inl (λ i. record { key = (ap (λ (x : LeafEntry). x.key) same) i; body = (ap (λ (x : LeafEntry). x.body) same) i })
-          | inr later ↦ inr ((those k b).1 later)
-        ]),
+        λ w. from k b (elim (within_one entries start end k b (record { key = key; body = body })
+            (omega (arith, less)) at w) [
+              | inl same ↦ inl (λ i. record { key = (ap (λ (x : LeafEntry). x.key) same) i; body = (ap (λ (x : LeafEntry). x.body) same) i })
+              | inr later ↦ inr ((those k b).1 later)
+            ]),
       );
       placed = λ k b c. elim (to k b c) [
         | inl same ↦ ap (bucket_of index) (sym (ap (λ (x : Entry). x.key) same)) ∙ placed
@@ -545,25 +647,32 @@ run_more index entries start end bucket page new key body less at placed those a
     }
 
 -- the last entry alone
-pub run_first : (index : List ℕ) (entries : List LeafEntry) (start end bucket : ℕ) (page new : List Entry) (key body : List ℕ)
-    → start + 1 ≡ end → slice_get entries start ≡ Some (record { key = key; body = body }) → bucket_of index key ≡ bucket → page ≡ []
+pub run_first : (index : List ℕ) (entries : List LeafEntry) (start end bucket : ℕ)
+    (page new : List Entry) (key body : List ℕ)
+    → start + 1 ≡ end → slice_get entries start ≡ Some (record { key = key; body = body })
+    → bucket_of index key ≡ bucket → page ≡ []
     → new ≡ insert page 0 (record { key = key; body = body })
     → IsRun index entries start end bucket new
 run_first index entries start end bucket page new key body last at placed none is =
     run_more index entries start end bucket page new key body (omega (arith, last)) at placed
     (λ k b. (
       λ c. absurd
-          (contains_none (record { key = k; body = b }) (subst (λ (x : List Entry). Contains x (record { key = k; body = b })) none c)),
+          (contains_none (record { key = k; body = b })
+          (subst (λ (x : List Entry). Contains x (record { key = k; body = b })) none c)),
       λ w. (let low = w.from in let high = w.below in absurd (omega (arith, low, high, last))),
     ))
     (λ k b c. absurd
-    (contains_none (record { key = k; body = b }) (subst (λ (x : List Entry). Contains x (record { key = k; body = b })) none c))) is
+    (contains_none (record { key = k; body = b })
+    (subst (λ (x : List Entry). Contains x (record { key = k; body = b })) none c))) is
 
 -- one entry more, in front
-pub filling_more : (index : List ℕ) (entries : List LeafEntry) (start end bucket : ℕ) (page new : List ℕ) (key body : List ℕ) → 0 < start
-    → IsFillingPage index entries start end bucket page → slice_get entries (start - 1) ≡ Some (record { key = key; body = body })
+pub filling_more : (index : List ℕ) (entries : List LeafEntry) (start end bucket : ℕ)
+    (page new : List ℕ) (key body : List ℕ) → 0 < start
+    → IsFillingPage index entries start end bucket page
+    → slice_get entries (start - 1) ≡ Some (record { key = key; body = body })
     → bucket_of index key ≡ bucket
-    → IsEntryPage new → entries_of new ≡ insert (entries_of page) 0 (record { key = key; body = body })
+    → IsEntryPage new → entries_of new ≡ insert (entries_of page) 0
+    (record { key = key; body = body })
     → IsFillingPage index entries (start - 1) end bucket new
 filling_more index entries start end bucket page new key body some f at placed is_page is =
     let before : start ≡ start - 1 + 1 = omega (arith, some) in
@@ -571,30 +680,37 @@ filling_more index entries start end bucket page new key body some f at placed i
     let less = run.some in
     record {
       is_page = is_page;
-      run = run_more index entries (start - 1) end bucket (entries_of page) (entries_of new) key body
+      run = run_more index entries (start - 1) end bucket (entries_of page)
+          (entries_of new) key body
           (omega (arith, less)) at placed run.those run.placed is;
     }
 
 -- its key is none of those behind it
-pub run_apart : (index : List ℕ) (entries : List LeafEntry) (ordered : AreOrdered entries) (start end bucket : ℕ) (page : List Entry)
+pub run_apart : (index : List ℕ) (entries : List LeafEntry) (ordered : AreOrdered entries)
+    (start end bucket : ℕ) (page : List Entry)
     (key body : List ℕ) → IsRun index entries (start + 1) end bucket page
-    → slice_get entries start ≡ Some (record { key = key; body = body }) → All (λ e. e.key ≢ key) page
+    → slice_get entries start ≡ Some (record { key = key; body = body })
+    → All (λ e. e.key ≢ key) page
 run_apart index entries ordered start end bucket page key body run at i d below same =
     let e = get_or page i d in
     let w = (run.those e.key e.body).0 (i, below, get_or_same page i d e below) in
     let low = w.from in
     apart_keys entries ordered start w.place key body e.body (omega (arith, low)) at
-    (subst (λ (k : List ℕ). slice_get entries w.place ≡ Some (record { key = k; body = e.body })) same w.there) where
-      get_or_same : (xs : List Entry) (n : ℕ) (a b : Entry) → n < length xs → get_or xs n b ≡ get_or xs n a
+    (subst (λ (k : List ℕ). slice_get entries w.place ≡ Some (record { key = k; body = e.body }))
+    same w.there) where
+      get_or_same : (xs : List Entry) (n : ℕ) (a b : Entry) → n < length xs
+          → get_or xs n b ≡ get_or xs n a
       get_or_same [] n a b less = absurd (omega (arith, less))
       get_or_same (x ∷ xs) zero a b less = refl
       get_or_same (x ∷ xs) (suc n) a b less = get_or_same xs n a b (omega (arith, less))
 
-pub filling_apart : (index : List ℕ) (entries : List LeafEntry) (start end bucket : ℕ) (page : List ℕ) (key body : List ℕ)
+pub filling_apart : (index : List ℕ) (entries : List LeafEntry) (start end bucket : ℕ)
+    (page : List ℕ) (key body : List ℕ)
     → AreOrdered entries → 0 < start → IsFillingPage index entries start end bucket page
     → slice_get entries (start - 1) ≡ Some (record { key = key; body = body })
     → All (λ e. e.key ≢ key) (entries_of page)
 filling_apart index entries start end bucket page key body ordered some f at =
     run_apart index entries ordered (start - 1) end bucket (entries_of page) key body
-    (subst (λ n. IsRun index entries n end bucket (entries_of page)) (let before : start ≡ start - 1 + 1 = omega (arith, some) in before)
+    (subst (λ n. IsRun index entries n end bucket (entries_of page))
+    (let before : start ≡ start - 1 + 1 = omega (arith, some) in before)
     f.run) at

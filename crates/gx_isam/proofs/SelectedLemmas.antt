@@ -21,7 +21,7 @@ use Rattle.gx_slots.specs.Entries.{Entry, IsFit}
 use Rattle.gx_slots.proofs.PageLemmas.{page_of}
 use Rattle.gx_chain.specs.Chain.{entries_at}
 use Rattle.gx_chain.proofs.ChainLemmas.{linked_page}
-use Rattle.gx_isam_index.specs.Index.{first_of}
+use Rattle.gx_isam_index.specs.Index.{first_page_of}
 use Rattle.gx_isam.specs.Isam.{IsIsam}
 use Rattle.gx_isam_index.specs.Layout.{AreOrdered, keys_of}
 use Rattle.gx_isam.specs.Rebuild.{AreEntriesOf}
@@ -34,7 +34,9 @@ Pairs = List (List ℕ × List ℕ)
 
 filtered_all : (es : Pairs) → filter (λ e. is_inside [] [] e.0) es ≡ es
 filtered_all [] = refl
-filtered_all (e ∷ es) = ap (λ (b : Bool). cond b (e ∷ filter (λ e. is_inside [] [] e.0) es) (filter (λ e. is_inside [] [] e.0) es))
+filtered_all (e ∷ es) =
+    ap (λ (b : Bool). cond b (e ∷ filter (λ e. is_inside [] [] e.0) es)
+    (filter (λ e. is_inside [] [] e.0) es))
     (all_inside e.0) ∙ ap (λ (x : Pairs). e ∷ x) (filtered_all es)
 
 pub all_selected : (m : LeafMap) → selected [] [] m ≡ map entry_of (fin.entries m)
@@ -49,17 +51,21 @@ keys_selected m = ap keys_of (all_selected m) ∙ keys_are (fin.entries m)
 
 -- ---- their keys ascend
 
-below_each : (k : List ℕ) (es : Pairs) (i : ℕ) (f : LeafEntry) → T (below_all key_cmp k es) → slice_get (map entry_of es) i ≡ Some f
+below_each : (k : List ℕ) (es : Pairs) (i : ℕ) (f : LeafEntry) → T (below_all key_cmp k es)
+    → slice_get (map entry_of es) i ≡ Some f
     → key_cmp k f.key ≡ Less
 below_each k [] i f all at = absurd (none-some f at)
-below_each k (e ∷ es) zero f all at = ap (λ (x : LeafEntry). key_cmp k x.key) (sym (same_Some (entry_of e) f at))
+below_each k (e ∷ es) zero f all at =
+    ap (λ (x : LeafEntry). key_cmp k x.key) (sym (same_Some (entry_of e) f at))
     ∙ is_less (key_cmp k e.0) (first_of_both _ _ all)
 below_each k (e ∷ es) (suc i) f all at = below_each k es i f (second_of_both _ _ all) at
 
-ascending : (es : Pairs) → T (fin.is_sorted key_cmp es) → (i : ℕ) (e f : LeafEntry) → slice_get (map entry_of es) i ≡ Some e
+ascending : (es : Pairs) → T (fin.is_sorted key_cmp es) → (i : ℕ) (e f : LeafEntry)
+    → slice_get (map entry_of es) i ≡ Some e
     → slice_get (map entry_of es) (suc i) ≡ Some f → key_cmp e.key f.key ≡ Less
 ascending [] up i e f at next = absurd (none-some e at)
-ascending (x ∷ es) up zero e f at next = ap (λ (y : LeafEntry). key_cmp y.key f.key) (sym (same_Some (entry_of x) e at))
+ascending (x ∷ es) up zero e f at next =
+    ap (λ (y : LeafEntry). key_cmp y.key f.key) (sym (same_Some (entry_of x) e at))
     ∙ below_each x.0 es 0 f (first_of_both _ _ up) next
 ascending (x ∷ es) up (suc i) e f at next = ascending es (second_of_both _ _ up) i e f at next
 
@@ -74,22 +80,28 @@ found_at (e ∷ es) k b is = elim (eq_by_cmp key_cmp k e.0) as (λ t. eq_by_cmp 
       | true ↦ λ same at. (
         0,
         (let this : entry_of e ≡ record { key = k; body = b } =
-            λ i. record { key = sym (same_key k e.0 same) i; body = same_Some e.1 b at i } in ap Some this),
+            λ i. record { key = sym (same_key k e.0 same) i; body = same_Some e.1 b at i } in
+            ap Some this),
       )
       | false ↦ λ _ at. (let later = found_at es k b at in (suc later.0, later.1))
     ] refl is
 
 at_found : (es : Pairs) (k b : List ℕ) (i : ℕ) → T (fin.is_sorted key_cmp es)
-    → slice_get (map entry_of es) i ≡ Some (record { key = k; body = b }) → fin.find key_cmp k es ≡ Some b
+    → slice_get (map entry_of es) i ≡ Some (record { key = k; body = b })
+    → fin.find key_cmp k es ≡ Some b
 at_found [] k b i up at = absurd (none-some (record { key = k; body = b }) at)
 at_found (e ∷ es) k b zero up at =
     let same = same_Some (entry_of e) (record { key = k; body = b }) at in
-    let tie : eq_by_cmp key_cmp k e.0 ≡ true = ap (λ (x : LeafEntry). eq_by_cmp key_cmp k x.key) same ∙ tied k in
-    ap (λ (t : Bool). cond t (Some e.1) (fin.find key_cmp k es)) tie ∙ ap (λ (x : LeafEntry). Some x.body) same
+    let tie : eq_by_cmp key_cmp k e.0 ≡ true =
+    ap (λ (x : LeafEntry). eq_by_cmp key_cmp k x.key) same ∙ tied k in
+    ap (λ (t : Bool). cond t (Some e.1) (fin.find key_cmp k es)) tie
+    ∙ ap (λ (x : LeafEntry). Some x.body) same
 at_found (e ∷ es) k b (suc i) up at =
     let less = below_each e.0 es i (record { key = k; body = b }) (first_of_both _ _ up) at in
-    elim (eq_by_cmp key_cmp k e.0) as (λ t. eq_by_cmp key_cmp k e.0 ≡ t → cond t (Some e.1) (fin.find key_cmp k es) ≡ Some b) [
-      | true ↦ λ same. absurd (not_itself k (ap (λ (x : List ℕ). key_cmp x k) (same_key k e.0 same) ∙ less))
+    elim (eq_by_cmp key_cmp k e.0) as (λ t. eq_by_cmp key_cmp k e.0 ≡ t
+    → cond t (Some e.1) (fin.find key_cmp k es) ≡ Some b) [
+      | true ↦ λ same. absurd
+          (not_itself k (ap (λ (x : List ℕ). key_cmp x k) (same_key k e.0 same) ∙ less))
       | false ↦ λ _. at_found es k b i (second_of_both _ _ up) at
     ] refl
 
@@ -106,19 +118,23 @@ selected_those m k b = (
 fits_of : (es : List Entry) (e : Entry) → All IsFit es → Contains es e → IsFit e
 fits_of es e fit c = subst IsFit c.2 (fit c.0 e c.1)
 
-pub selected_ordered : (ground : Ground) (place : Place) (s : Sheets) (m : LeafMap) → IsIsam ground place s m
+pub selected_ordered : (ground : Ground) (place : Place) (s : Sheets) (m : LeafMap)
+    → IsIsam ground place s m
     → AreOrdered (selected [] [] m)
 selected_ordered ground place s m h = record {
   fit = λ i e at.
       let on = (h.map_is e.key e.body).0 ((selected_those m e.key e.body).1 (i, at)) in
-      let page = linked_page s (first_of (bytes_at s place.root) on.bucket) (h.pages on.bucket) on.on.page
+      let page = linked_page s (first_page_of (bytes_at s place.root) on.bucket)
+      (h.pages on.bucket) on.on.page
       (h.buckets.chains on.bucket on.below).linked on.on.among in
-      fits_of (entries_at s on.on.page) (record { key = e.key; body = e.body }) (page_of (bytes_at s on.on.page) page).page.holds.fit
+      fits_of (entries_at s on.on.page) (record { key = e.key; body = e.body })
+      (page_of (bytes_at s on.on.page) page).page.holds.fit
       on.on.here;
   ascending = λ i e f at next.
       let es = fin.entries m in
       let here = ap (λ (x : List LeafEntry). slice_get x i) (sym (all_selected m)) ∙ at in
       let behind = ap (λ (x : List LeafEntry). slice_get x (suc i)) (sym (all_selected m))
-      ∙ subst (λ n. slice_get (selected [] [] m) n ≡ Some f) (let one : i + 1 ≡ suc i = omega arith in one) next in
+      ∙ subst (λ n. slice_get (selected [] [] m) n ≡ Some f) (let one : i + 1 ≡ suc i =
+      omega arith in one) next in
       ascending es (fin.entries_sorted m) i e f here behind;
 }

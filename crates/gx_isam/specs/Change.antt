@@ -6,7 +6,7 @@ use Rattle.gx_ports.specs.Sheets.{Sheets, Ground, IsPast, IsClaimed, IsOwnedAnew
 use Rattle.gx_slots.specs.Entries.{Entry}
 use Rattle.gx_chain.specs.Chain.{entries_at, next_at}
 use Rattle.gx_chain.specs.Changes.{IsRewritten}
-use Rattle.gx_isam_index.specs.Index.{IsIndexPage, bucket_count, first_of, separators_of}
+use Rattle.gx_isam_index.specs.Index.{IsIndexPage, bucket_count, first_page_of, separators_of}
 
 -- the first page that a number of an index leads to
 abbrev pub IsFirst : Ground → ℕ → Option ℕ → Type 0
@@ -20,9 +20,9 @@ pub record IsIndexWritten (root : ℕ) (index : List ℕ) (bucket first : ℕ)
   pub owners : new.owners ≡ old.owners
   pub is_page : IsIndexPage (bytes_at new root)
   pub count : bucket_count (bytes_at new root) ≡ bucket_count index
-  pub first_is : first_of (bytes_at new root) bucket ≡ first
+  pub first_is : first_page_of (bytes_at new root) bucket ≡ first
   pub firsts : (other : ℕ) → other < bucket_count index → other ≢ bucket
-      → first_of (bytes_at new root) other ≡ first_of index other
+      → first_page_of (bytes_at new root) other ≡ first_page_of index other
   pub separators : separators_of (bytes_at new root) ≡ separators_of index
   pub others : (page : ℕ) → page ≢ root → slice_get new.bytes page ≡ slice_get old.bytes page
 
@@ -33,7 +33,7 @@ pub record IsHungBefore (ground : Ground) (place : Place) (index : List ℕ) (bu
   pub claimed : Sheets
   pub filled : Sheets
   pub claim : IsClaimed fresh place.owner ground old claimed
-  pub page : IsRewritten fresh (first_of index bucket) entries claimed filled
+  pub page : IsRewritten fresh (first_page_of index bucket) entries claimed filled
   pub written : IsIndexWritten place.root index bucket fresh filled new
 
 -- the first page of a chain was left out, and is free

@@ -8,14 +8,14 @@ use Rattle.gx_ports.specs.LeafMaps.{LeafMap}
 use Rattle.gx_ports.specs.Sheets.{Sheets, Ground, bytes_at}
 use Rattle.gx_chain.specs.Chain.{entries_at, IsChain, IsOn}
 use Rattle.gx_chain.specs.Chains.{IsOfChain, IsOnChain}
-use Rattle.gx_isam_index.specs.Index.{IsIndexPage, bucket_count, bucket_of, first_of}
+use Rattle.gx_isam_index.specs.Index.{IsIndexPage, bucket_count, bucket_of, first_page_of}
 
 -- The chain of each bucket of an index begins at its first page, and has no page where there is
 -- none. Each page has an entry, each entry the bucket of its chain.
 pub record AreBuckets (ground : Ground) (owner : ℕ) (sheets : Sheets) (index : List ℕ)
     (pages : ℕ → List ℕ) : Type 0 where
   pub chains : (bucket : ℕ) → bucket < bucket_count index
-      → IsChain ground owner sheets (first_of index bucket) (pages bucket)
+      → IsChain ground owner sheets (first_page_of index bucket) (pages bucket)
   pub filled : (bucket page : ℕ) → bucket < bucket_count index → Contains (pages bucket) page
       → entries_at sheets page ≢ []
   pub placed : (bucket : ℕ) (key body : List ℕ) → bucket < bucket_count index

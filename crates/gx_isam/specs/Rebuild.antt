@@ -10,7 +10,7 @@ use Rattle.gx_ports.specs.Files.{OthersStay, page_count}
 use Rattle.gx_ports.specs.LeafMaps.{LeafMap}
 use Rattle.gx_ports.specs.Sheets.{Sheets, Ground, bytes_at}
 use Rattle.gx_slots.specs.Entries.{Entry}
-use Rattle.gx_isam_index.specs.Index.{bucket_count, bucket_of, first_of, separators_of}
+use Rattle.gx_isam_index.specs.Index.{bucket_count, bucket_of, first_page_of, separators_of}
 use Rattle.gx_isam.specs.Isam.{IsIsam}
 
 -- an entry is one of those from a place up to another
@@ -52,9 +52,9 @@ pub record IsFreed (ground : Ground) (place : Place) (bucket : ℕ) (before inde
   pub small : ground.size < 2 ^ 32
   pub whole : HasIndex ground place new index
   pub count : bucket_count index ≡ bucket_count before
-  pub none : first_of index bucket ≡ NONE
+  pub none : first_page_of index bucket ≡ NONE
   pub firsts : (other : ℕ) → other < bucket_count before → other ≢ bucket
-      → first_of index other ≡ first_of before other
+      → first_page_of index other ≡ first_page_of before other
   pub others : OthersStay ground place.owner old new
 
 -- the owner has the root alone

@@ -6,7 +6,7 @@ use Rattle.gx_ports.specs.Sheets.{Sheets, Ground, bytes_at}
 use Rattle.gx_slots.specs.Page.{IsEntryPage}
 use Rattle.gx_chain.specs.Chain.{entries_at}
 use Rattle.gx_chain.specs.Placed.{HaveBucket, IsPlacedChain, HasPlacedChain, ArePlacedChains}
-use Rattle.gx_isam_index.specs.Index.{bucket_of, first_of}
+use Rattle.gx_isam_index.specs.Index.{bucket_of, first_page_of}
 
 -- the keys of these pages are those of a bucket of the index, and each of the pages has one
 pub record ArePlaced (index : List ℕ) (sheets : Sheets) (bucket : ℕ) (pages : List ℕ) : Type 0 where
@@ -17,17 +17,18 @@ pub record ArePlaced (index : List ℕ) (sheets : Sheets) (bucket : ℕ) (pages 
 -- were marked before.
 abbrev pub IsVisitedBucket : Ground → ℕ → Sheets → List ℕ → ℕ → List Bool → List Bool → Type 0
 IsVisitedBucket the_ground owner sheets index bucket =
-    IsPlacedChain the_ground owner sheets (first_of index bucket) (ArePlaced index sheets bucket)
+    IsPlacedChain the_ground owner sheets (first_page_of index bucket)
+    (ArePlaced index sheets bucket)
 
 -- the pages tell what the device holds, and such a chain stands there of which no page is marked
 abbrev pub HasUnseenBucket : {S : Type 0} → Ghosts S → S → ℕ → List ℕ → ℕ → List Bool → Type 0
 HasUnseenBucket g p owner index bucket =
-    HasPlacedChain g p owner (first_of index bucket) (ArePlaced index (g.working p) bucket)
+    HasPlacedChain g p owner (first_page_of index bucket) (ArePlaced index (g.working p) bucket)
 
 -- the chains of the first buckets were visited, and their pages are marked
 abbrev pub AreVisitedBuckets : Ground → ℕ → Sheets → List ℕ → ℕ → List Bool → Type 0
 AreVisitedBuckets the_ground owner sheets index =
-    ArePlacedChains the_ground owner sheets (first_of index) (ArePlaced index sheets)
+    ArePlacedChains the_ground owner sheets (first_page_of index) (ArePlaced index sheets)
 
 -- the owner has the root, and each other page that it has is marked
 pub record IsRootAndSeen (sheets : Sheets) (owner root : ℕ) (seen : List Bool) : Type 0 where

@@ -9,7 +9,7 @@ ghost use Rattle.gx_ports.specs.PageCalls.{KeepsPages, CountsPageFaults};
 ghost use Rattle.gx_ports.specs.Sheets.{IsPast, bytes_at};
 ghost use Rattle.gx_slots.specs.Page.{IsEntryPage, entries_of};
 ghost use Rattle.gx_chain.specs.Chain.{IsEntryAt};
-ghost use Rattle.gx_isam_index.specs.Index.{IsIndexPage, bucket_count, separators_of, first_of};
+ghost use Rattle.gx_isam_index.specs.Index.{IsIndexPage, bucket_count, separators_of, first_page_of};
 ghost use Rattle.gx_isam.specs.Change.{IsHungBefore, IsLeftOut, IsLeftOutIfEmpty};
 
 use gx_chain::read_entries;
@@ -131,7 +131,7 @@ pub(crate) fn leave_out<P: Pages>(
     ensures index { IsIndexPage index.new }
     ensures count { bucket_count index.new ≡ bucket_count index.old }
     ensures firsts { (other : ℕ) → other < bucket_count index.old → other ≢ bucket →
-        first_of index.new other ≡ first_of index.old other }
+        first_page_of index.new other ≡ first_page_of index.old other }
     ensures keeps { KeepsPages P.PageView pages.old pages.new }
     ensures faults { CountsPageFaults P.PageView pages.old pages.new result }
 {

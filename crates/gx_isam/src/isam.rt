@@ -1,10 +1,11 @@
 // The calls on an indexed sequential file.
-ghost use Rattle.std.specs.Prelude.{◌≡◌, ◌+◌, ◌≤◌, [], length, IfOk, OnOk, IsErrOf};
+ghost use Rattle.std.specs.FinMap.{empty};
+ghost use Rattle.std.specs.Prelude.{◌≡◌, ◌+◌, ◌≤◌, [], length, IfOk, OnOk, IsErrOf, IsTrue};
 ghost use Rattle.gx_values.specs.declared.bytes.TheConstants.{MAX_KEY_LEN};
 ghost use Rattle.gx_ports.specs.declared.leaves.TheConstants.{MAX_ENTRY_LEN};
 ghost use Rattle.gx_ports.specs.declared.kinds.LeafKind.TheVariants.{Isam};
 ghost use Rattle.gx_ports.specs.FileCalls.{MakesFile, PutsInFile, RemovesFromFile, SelectsInFile, ChecksFile};
-ghost use Rattle.gx_ports.specs.Files.{IsPlace, Holds, EndsFile, SparesOthers, IsFull, IsWhole};
+ghost use Rattle.gx_ports.specs.Files.{IsPlace, IsVacant, Holds, EndsFile, SparesOthers, IsFull, IsWhole};
 ghost use Rattle.gx_ports.specs.LeafMaps.{LeafMap, selected};
 ghost use Rattle.gx_ports.specs.PageCalls.{KeepsPages, ReadsPages};
 ghost use Rattle.gx_isam.specs.Fresh.{IsFresh};
@@ -29,8 +30,10 @@ use std::alloc::Global;
 pub fn make<P: Pages>(pages: &mut P, place: &Place) -> Result<(), Failed>
     requires kind { place.now.spec.kind ≡ Isam }
     requires place { IsPlace (P.ground pages.old) place.now }
-    ensures { MakesFile P.PageView (IsIsam (P.ground pages.old) place.now)
+    ensures made { MakesFile P.PageView (IsIsam (P.ground pages.old) place.now)
         place.now pages.old pages.new result }
+    ensures fresh { IsTrue P.tells → IsVacant place.now (P.working pages.old) →
+        OnOk result (IsFresh place.now (P.working pages.new) empty) }
 {
     pages.claim_at(place.root, place.owner)?;
     let mut index = [0; PAGE_LEN];

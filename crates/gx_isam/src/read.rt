@@ -5,7 +5,7 @@ ghost use Rattle.gx_ports.specs.Files.{EndsFile};
 ghost use Rattle.gx_ports.specs.PageCalls.{ReadsPages};
 ghost use Rattle.gx_ports.specs.Sheets.{IsPast, bytes_at};
 ghost use Rattle.gx_chain.specs.Chain.{LeadsOn};
-ghost use Rattle.gx_isam_index.specs.Index.{IsIndexPage, bucket_count, first_of};
+ghost use Rattle.gx_isam_index.specs.Index.{IsIndexPage, bucket_count, first_page_of};
 ghost use Rattle.gx_isam.specs.Isam.{IsIndexAt};
 ghost use Rattle.gx_isam.specs.Change.{IsFirst};
 
@@ -45,9 +45,10 @@ pub(crate) fn first_page<P: Pages>(
     requires root { IsPast (P.ground pages.now) root }
     requires index { IsIndexPage index.now }
     requires bucket { bucket < bucket_count index.now }
-    ensures first { IfOk result (IsFirst (P.ground pages.now) (first_of index.now bucket)) }
+    ensures first { IfOk result (IsFirst (P.ground pages.now) (first_page_of index.now bucket)) }
     ensures small { (P.ground pages.now).size < 2 ^ 32 }
-    ensures ends { EndsFile P.PageView (LeadsOn (P.ground pages.now) (first_of index.now bucket))
+    ensures ends { EndsFile P.PageView
+        (LeadsOn (P.ground pages.now) (first_page_of index.now bucket))
         pages.now pages.now result }
     ensures not_full { ¬ IsErrOf result Stop.Full }
     ensures frugal { ¬ IsErrOf result Stop.NoMemory }

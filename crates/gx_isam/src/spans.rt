@@ -8,7 +8,7 @@ ghost use Rattle.gx_ports.specs.Sheets.{IsPast};
 ghost use Rattle.gx_chain.specs.Chain.{IsChain, HasChain};
 ghost use Rattle.gx_chain.specs.Collect.{inside_on};
 ghost use Rattle.gx_chain.specs.Chains.{AreGathered};
-ghost use Rattle.gx_isam_index.specs.Index.{IsIndexPage, bucket_count, first_of};
+ghost use Rattle.gx_isam_index.specs.Index.{IsIndexPage, bucket_count, first_page_of};
 ghost use Rattle.gx_isam.specs.Isam.{IsIsam};
 
 use crate::read::{first_page, read_index};
@@ -62,11 +62,13 @@ fn gather_bucket<P: Pages>(
     requires index { IsIndexPage index.now }
     requires bucket { bucket < bucket_count index.now }
     ensures found { IsTrue P.tells → (owner : ℕ) (all : List ℕ) →
-        IsChain (P.ground pages.old) owner (P.working pages.old) (first_of index.now bucket) all →
+        IsChain (P.ground pages.old) owner (P.working pages.old)
+        (first_page_of index.now bucket) all →
         OnOk result (found.new.items ≡ found.old.items
         ++ inside_on (P.working pages.old) span.now.lo span.now.hi all) }
     ensures reads { ReadsPages P.PageView pages.old pages.new }
-    ensures ends { EndsFile P.PageView (HasChain P.PageView pages.old (first_of index.now bucket))
+    ensures ends { EndsFile P.PageView
+        (HasChain P.PageView pages.old (first_page_of index.now bucket))
         pages.old pages.new result }
     ensures not_full { ¬ IsErrOf result Stop.Full }
 {

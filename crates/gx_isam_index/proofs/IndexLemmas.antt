@@ -8,13 +8,14 @@ use Rattle.std.proofs.lemmas.List.Sums.{sum_by-cons}
 use Rattle.gx_bytes.specs.Parts.{overwritten}
 use Rattle.gx_bytes.proofs.NumberLemmas.{from_be_bytes-front_4}
 use Rattle.gx_bytes.proofs.RecordLemmas.{count_behind, records-next}
-use Rattle.gx_isam_index.specs.Index.{IsFit, HoldsAscending, HoldsCount, IsIndexPage, behind_firsts, bucket_count, first_of, separator_bytes, separators_in, separators_of}
+use Rattle.gx_isam_index.specs.Index.{IsFitSeparator, HoldsAscending, HoldsCount, IsIndexPage, behind_firsts, bucket_count, first_page_of, separator_bytes, separators_in, separators_of}
 use Rattle.gx_isam_index.proofs.SeparatorLemmas.{separator_format}
 
 -- the separators of an index page
 pub page_holds : (bytes : List ℕ) → IsIndexPage bytes
     → HoldsCount (bucket_count bytes - 1) (behind_firsts bytes)
-page_holds bytes page = record { held = page.separators.held; count = page.separators.count; holds = page.separators.holds }
+page_holds bytes page =
+    record { held = page.separators.held; count = page.separators.count; holds = page.separators.holds }
 
 -- ---- the bucket of a key
 
@@ -51,7 +52,7 @@ tick_small n false is = omega (arith, is)
 
 pub counting_more : (test : List ℕ → Bool) (bytes : List ℕ) (count place : ℕ) (rest : List ℕ)
     (bucket : ℕ) (separator behind : List ℕ) (more : ℕ)
-    → IsCounting test bytes count place rest bucket → place < count → IsFit separator
+    → IsCounting test bytes count place rest bucket → place < count → IsFitSeparator separator
     → rest ≡ separator_bytes separator ++ behind
     → more ≡ tick (test separator) → more ≤ 1
     → IsCounting test bytes count (place + 1) behind (bucket + more)
@@ -61,7 +62,8 @@ counting_more test bytes count place rest bucket separator behind more i less fi
     let counted = i.counted in
     let left : count - place - 1 ≡ count - (place + 1) = omega (arith, less) in
     let next = ap (count_by test)
-    (records-next separator_format (count - place) separator rest behind (omega (arith, less)) fit is) in
+    (records-next separator_format (count - place) separator rest behind (omega (arith, less)) fit
+    is) in
     let here = sum_by-cons (λ (s : List ℕ). tick (test s)) separator
     (separators_in (count - place - 1) behind) in
     let same = ap (λ (n : ℕ). count_by test (separators_in n behind)) left in
@@ -70,7 +72,8 @@ counting_more test bytes count place rest bucket separator behind more i less fi
       high = omega (arith, less);
       few = omega (arith, few, one);
       ahead = subst (λ (n : ℕ). HoldsCount n behind) left
-          (count_behind separator_format (count - place) separator rest behind i.ahead (omega (arith, less)) fit is);
+          (count_behind separator_format (count - place) separator rest behind i.ahead
+          (omega (arith, less)) fit is);
       counted = omega (arith, counted, next, here, same, more_is);
     }
 
@@ -157,7 +160,7 @@ module _ (bytes new : List ℕ) (bucket first at : ℕ) (page : IsIndexPage byte
   pub separators_stay : separators_of new ≡ separators_of bytes
   separators_stay = ap₂ (λ (n : ℕ) (b : List ℕ). separators_in (n - 1) b) count_stays behind_stays
 
-  pub first_is : first_of new bucket ≡ first
+  pub first_is : first_page_of new bucket ≡ first
   first_is =
       let same : drop (4 + 4 * bucket) new ≡ to_be_bytes w32 first ++ drop (at + 4) bytes =
       ap (λ (n : ℕ). drop n new) (sym at_is) ∙ ap (drop at) is
@@ -165,16 +168,18 @@ module _ (bytes new : List ℕ) (bucket first at : ℕ) (page : IsIndexPage byte
       ap (from_be_bytes w32) same ∙ from_be_bytes-front_4 first (drop (at + 4) bytes) fits
 
   pub others_stay : (other : ℕ) → other < bucket_count bytes → other ≢ bucket
-      → first_of new other ≡ first_of bytes other
+      → first_page_of new other ≡ first_page_of bytes other
   others_stay other in' apart =
-      ap (λ (b : List ℕ). first_of b other) is ∙ go (cases_lt other bucket) where
+      ap (λ (b : List ℕ). first_page_of b other) is ∙ go (cases_lt other bucket) where
         go : ((other < bucket) ⊎ (bucket ≤ other))
-            → first_of (overwritten bytes at (to_be_bytes w32 first)) other ≡ first_of bytes other
+            → first_page_of (overwritten bytes at (to_be_bytes w32 first)) other
+            ≡ first_page_of bytes other
         go (inl less) =
             four_before bytes (to_be_bytes w32 first) at room (4 + 4 * other)
             (omega (arith, at_is, less))
         go (inr more) =
-            ap (from_be_bytes w32) (drop_behind bytes (to_be_bytes w32 first) at room (4 + 4 * other)
+            ap (from_be_bytes w32) (drop_behind bytes (to_be_bytes w32 first) at room
+            (4 + 4 * other)
             (omega (arith, at_is, more, apart)))
 
   pub index_stays : IsIndexPage new

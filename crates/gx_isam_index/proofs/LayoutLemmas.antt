@@ -25,7 +25,7 @@ use Rattle.gx_ports.specs.declared.leaves.Entry.{Entry as LeafEntry}
 use Rattle.gx_ports.specs.Keyed.{key_cmp}
 use Rattle.gx_ports.proofs.KeyLemmas.{tied}
 use Rattle.gx_isam_index.specs.Fresh.{HasFreshBuckets, begin_of, fresh_count, longest_of}
-use Rattle.gx_isam_index.specs.Index.{IsFit, AreAscending, IsIndexPage, behind_firsts, bucket_count, first_of, separator_bytes, separators_in, separators_of}
+use Rattle.gx_isam_index.specs.Index.{IsFitSeparator, AreAscending, IsIndexPage, behind_firsts, bucket_count, first_page_of, separator_bytes, separators_in, separators_of}
 use Rattle.gx_isam_index.specs.Layout.{AreOrdered, FitsPage, HasFront, HasSeparators, keys_of}
 use Rattle.gx_isam_index.proofs.IndexLemmas.{get_before}
 use Rattle.gx_isam_index.proofs.SeparatorLemmas.{length-separator_bytes, separator_format}
@@ -86,13 +86,17 @@ pub ordered_more : (es : List LeafEntry) (n : ℕ) (e : LeafEntry) → IsOrdered
     → IsOrderedTo es (n + 1)
 ordered_more es n e o at fits less = record {
   fit = λ i f below is. elim (cases_eq i n) [
-    | inl same ↦ subst FitsPage (same_entry es n e f at (subst (λ (k : ℕ). slice_get es k ≡ Some f) same is)) fits
+    | inl same ↦ subst FitsPage
+        (same_entry es n e f at (subst (λ (k : ℕ). slice_get es k ≡ Some f) same is)) fits
     | inr apart ↦ o.fit i f (omega (arith, below, apart)) is
   ];
   ascending = λ i d f below is next. elim (cases_eq (i + 1) n) [
-    | inl same ↦ (let this = same_entry es n e f at (subst (λ (k : ℕ). slice_get es k ≡ Some f) same next) in
+    | inl same ↦ (let this =
+        same_entry es n e f at (subst (λ (k : ℕ). slice_get es k ≡ Some f) same next) in
         subst (λ (x : LeafEntry). key_cmp d.key x.key ≡ Less) this
-        (less (omega (arith, same)) d (subst (λ (k : ℕ). slice_get es k ≡ Some d) (let s : i ≡ n - 1 = omega (arith, same) in s) is)))
+        (less (omega (arith, same)) d
+        (subst (λ (k : ℕ). slice_get es k ≡ Some d) (let s : i ≡ n - 1 = omega (arith, same) in
+        s) is)))
     | inr apart ↦ o.ascending i d f (omega (arith, below, apart)) is next
   ];
 }
@@ -196,7 +200,7 @@ pub record IsWriting (old bytes : List ℕ) (keys : List (List ℕ)) (count buck
     pub high : bucket ≤ count
     pub separators : List (List ℕ)
     pub number : length separators + 1 ≡ bucket
-    pub fit : All IsFit separators
+    pub fit : All IsFitSeparator separators
     pub rest : List ℕ
     pub behind : drop (4 + 4 * count) bytes ≡ flat_map separator_bytes separators ++ rest
     pub at_is : at ≡ 4 + 4 * count + length (flat_map separator_bytes separators)
@@ -219,7 +223,7 @@ writing_first old keys count at size some most room at_is =
       high = some;
       separators = [];
       number = refl;
-      fit = All-nil IsFit;
+      fit = All-nil IsFitSeparator;
       rest = drop (4 + 4 * count) old;
       behind = refl;
       at_is = omega (arith, at_is);
@@ -271,7 +275,8 @@ writing_more old bytes new keys count bucket at end key w less key_is short is s
     ∙ ap (λ (b : List ℕ). overwritten b (f + length flat) part) (sym (take-append-drop f bytes))
     ∙ overwritten-append (take f bytes) (drop f bytes) part f (length flat) front_len in
     let flat_zero : length flat ≡ length flat + 0 = omega arith in
-    let back : overwritten (drop f bytes) (length flat) part ≡ flat ++ (part ++ drop (length part) w.rest) =
+    let back : overwritten (drop f bytes) (length flat) part ≡ flat
+    ++ (part ++ drop (length part) w.rest) =
     ap (λ (b : List ℕ). overwritten b (length flat) part) w.behind
     ∙ ap (λ (n : ℕ). overwritten (flat ++ w.rest) n part) flat_zero
     ∙ overwritten-append flat w.rest part (length flat) 0 refl
@@ -300,7 +305,8 @@ writing_more old bytes new keys count bucket at end key w less key_is short is s
       high = omega (arith, less);
       separators = w.separators ++ key ∷ [];
       number = omega (arith, number, pushed);
-      fit = All-push IsFit w.separators key w.fit (record { short = omega (arith, short) });
+      fit = All-push IsFitSeparator w.separators key w.fit
+          (record { short = omega (arith, short) });
       rest = drop (length part) w.rest;
       behind =
           ap (drop f) (new_parts ∙ ap (λ (b : List ℕ). take f bytes ++ b) back)
@@ -313,7 +319,8 @@ writing_more old bytes new keys count bucket at end key w less key_is short is s
         | inl e ↦ (let place : b - 1 ≡ length w.separators = omega (arith, number, e) in
             ap (slice_get (w.separators ++ key ∷ [])) place ∙ slice_get_last w.separators key
             ∙ sym (ap (λ (n : ℕ). slice_get keys (begin_of n count (length keys))) e ∙ key_is))
-        | inr d ↦ slice_get_front w.separators key (b - 1) (omega (arith, low, high, d, number)) ∙ w.each b low (omega (arith, high, d))
+        | inr d ↦ slice_get_front w.separators key (b - 1) (omega (arith, low, high, d, number))
+            ∙ w.each b low (omega (arith, high, d))
       ];
     }
 
@@ -346,9 +353,10 @@ module _ (es : List LeafEntry) (ordered : AreOrdered es) (old new : List ℕ) (c
       let same : bucket_count new ≡ bucket_count old = omega (arith, a, b) in
       same ∙ begun.count_is
 
-  holds_new : HoldsRecords separator_bytes IsFit has.separators (behind_firsts new)
+  holds_new : HoldsRecords separator_bytes IsFitSeparator has.separators (behind_firsts new)
   holds_new =
-      subst (λ (m : ℕ). HoldsRecords separator_bytes IsFit has.separators (drop (4 + 4 * m) new))
+      subst (λ (m : ℕ). HoldsRecords separator_bytes IsFitSeparator has.separators
+      (drop (4 + 4 * m) new))
       (sym new_count) has.holds
 
   length_new : length has.separators ≡ bucket_count new - 1
@@ -384,10 +392,12 @@ module _ (es : List LeafEntry) (ordered : AreOrdered es) (old new : List ℕ) (c
       (omega (arith, few (omega (arith, less, below, number)), keys_many)) in
       let at_i : get_or has.separators i d ≡ a.0.key = get_or_from_slice_get has.separators i
       a.0.key d
-      (subst (λ (m : ℕ). slice_get has.separators m ≡ Some a.0.key) (let s : i + 1 - 1 ≡ i = omega arith in s) a.2) in
+      (subst (λ (m : ℕ). slice_get has.separators m ≡ Some a.0.key) (let s : i + 1 - 1 ≡ i =
+      omega arith in s) a.2) in
       let at_j : get_or has.separators j d ≡ b.0.key = get_or_from_slice_get has.separators j
       b.0.key d
-      (subst (λ (m : ℕ). slice_get has.separators m ≡ Some b.0.key) (let s : j + 1 - 1 ≡ j = omega arith in s) b.2) in
+      (subst (λ (m : ℕ). slice_get has.separators m ≡ Some b.0.key) (let s : j + 1 - 1 ≡ j =
+      omega arith in s) b.2) in
       ap₂ key_cmp at_i at_j
       ∙ ascend es ordered (begin_of (i + 1) count n) (begin_of (j + 1) count n) a.0 b.0 up a.1 b.1
 
@@ -439,4 +449,4 @@ pub record IsBlanking (keys : List (List ℕ)) (count : ℕ) (page : List ℕ) (
   pub fresh : HasFreshBuckets page keys
   pub counted : bucket_count page ≡ count
   pub within : bucket ≤ count
-  pub none : (i : ℕ) → i < bucket → first_of page i ≡ NONE
+  pub none : (i : ℕ) → i < bucket → first_page_of page i ≡ NONE

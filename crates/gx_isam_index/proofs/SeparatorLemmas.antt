@@ -4,7 +4,7 @@ use Rattle.std.specs.Int.{w16, to_be_bytes, from_be_bytes}
 use Rattle.std.proofs.lemmas.List.{take_at, length-take-le}
 use Rattle.gx_bytes.proofs.NumberLemmas.{from_be_bytes-front_2, same_front_2, cut_behind}
 use Rattle.gx_bytes.proofs.RecordLemmas.{IsFormat}
-use Rattle.gx_isam_index.specs.Index.{IsFit, separator_bytes, first_separator}
+use Rattle.gx_isam_index.specs.Index.{IsFitSeparator, separator_bytes, first_separator}
 
 -- how many bytes a separator takes
 abbrev pub separator_len : List ℕ → ℕ
@@ -28,7 +28,7 @@ unfolding separator_bytes
 written_parts separator tail = refl
 
 -- a separator that is written is read as it was
-pub first_separator-written : (separator tail : List ℕ) → IsFit separator
+pub first_separator-written : (separator tail : List ℕ) → IsFitSeparator separator
     → first_separator (separator_bytes separator ++ tail) ≡ separator
 unfolding first_separator
 first_separator-written separator tail fit =
@@ -39,11 +39,12 @@ first_separator-written separator tail fit =
     ∙ take_at separator tail (length separator) refl
 
 -- separators are a format of records
-pub separator_format : IsFormat separator_bytes first_separator IsFit separator_len
+pub separator_format : IsFormat separator_bytes first_separator IsFitSeparator separator_len
 separator_format = record { reads = first_separator-written; sizes = length-separator_bytes }
 
 -- bytes too short for a length begin with no separator
-pub none_short : (bytes : List ℕ) → length bytes < 2 → (separator rest : List ℕ) → IsFit separator
+pub none_short : (bytes : List ℕ) → length bytes < 2 → (separator rest : List ℕ)
+    → IsFitSeparator separator
     → bytes ≢ separator_bytes separator ++ rest
 none_short bytes short separator rest fit begins =
     let len = ap length begins ∙ length-append (separator_bytes separator) rest in
@@ -51,7 +52,7 @@ none_short bytes short separator rest fit begins =
 
 -- nor do those whose bytes behind the length are too few
 pub none_unfit : (bytes tail : List ℕ) (len : ℕ) → bytes ≡ to_be_bytes w16 len ++ tail
-    → len < 2 ^ 16 → length tail < len → (separator rest : List ℕ) → IsFit separator
+    → len < 2 ^ 16 → length tail < len → (separator rest : List ℕ) → IsFitSeparator separator
     → bytes ≢ separator_bytes separator ++ rest
 none_unfit bytes tail len is fits few separator rest fit begins =
     let own = same_front_2 len (length separator) tail (separator ++ rest) fits fit.short
@@ -64,7 +65,7 @@ none_unfit bytes tail len is fits few separator rest fit begins =
 pub separator_split : (bytes tail separator behind : List ℕ) (len : ℕ)
     → bytes ≡ to_be_bytes w16 len ++ tail → len < 2 ^ 16 → len ≤ length tail
     → separator ≡ take len tail → behind ≡ drop len tail
-    → IsFit separator × (bytes ≡ separator_bytes separator ++ behind)
+    → IsFitSeparator separator × (bytes ≡ separator_bytes separator ++ behind)
 separator_split bytes tail separator behind len is fits within separator_is behind_is =
     let size : length separator ≡ len = ap length separator_is ∙ length-take-le len tail within in
     let top = cut_behind tail separator behind len within separator_is behind_is in

@@ -17,7 +17,7 @@ unfoldable pub separator_bytes : List ℕ → List ℕ
 separator_bytes separator = to_be_bytes w16 (length separator) ++ separator
 
 -- it may have any length that fits
-pub record IsFit (separator : List ℕ) : Type 0 where
+pub record IsFitSeparator (separator : List ℕ) : Type 0 where
   pub short : length separator < 2 ^ 16
 
 -- the separator that bytes begin with
@@ -30,7 +30,7 @@ separators_in = records separator_bytes first_separator
 
 -- the bytes begin with n separators
 abbrev pub HoldsCount : ℕ → List ℕ → Type 0
-HoldsCount = HoldsRecordCount separator_bytes IsFit
+HoldsCount = HoldsRecordCount separator_bytes IsFitSeparator
 
 -- a separator as it is lent
 abbrev pub lent : Bor (List ℕ) → List ℕ
@@ -42,15 +42,15 @@ AreAscending = AllPairs (λ a b. key_cmp a b ≡ Less)
 
 -- the bytes begin with n separators, which ascend
 abbrev pub HoldsAscending : ℕ → List ℕ → Type 0
-HoldsAscending = HoldsAscendingRecords separator_bytes IsFit (λ separator. separator)
+HoldsAscending = HoldsAscendingRecords separator_bytes IsFitSeparator (λ separator. separator)
 
 -- the number of buckets
 abbrev pub bucket_count : List ℕ → ℕ
 bucket_count bytes = count_of bytes
 
 -- the first page of a bucket, NONE where it has no page
-abbrev pub first_of : List ℕ → ℕ → ℕ
-first_of bytes bucket = from_be_bytes w32 (drop (4 + 4 * bucket) bytes)
+abbrev pub first_page_of : List ℕ → ℕ → ℕ
+first_page_of bytes bucket = from_be_bytes w32 (drop (4 + 4 * bucket) bytes)
 
 -- the bytes behind the first pages
 abbrev pub behind_firsts : List ℕ → List ℕ

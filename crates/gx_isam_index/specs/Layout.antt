@@ -7,7 +7,7 @@ use Rattle.gx_ports.specs.declared.leaves.Entry.{Entry as LeafEntry}
 use Rattle.gx_ports.specs.Keyed.{key_cmp}
 use Rattle.gx_slots.specs.Entries.{IsFit}
 use Rattle.gx_isam_index.specs.Fresh.{begin_of}
-use Rattle.gx_isam_index.specs.Index.{IsFit as IsSeparator, bucket_count, separator_bytes}
+use Rattle.gx_isam_index.specs.Index.{IsFitSeparator as IsSeparator, bucket_count, separator_bytes}
 
 abbrev pub keys_of : List LeafEntry → List (List ℕ)
 keys_of entries = map (λ entry. entry.key) entries

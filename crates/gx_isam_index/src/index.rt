@@ -5,7 +5,7 @@ ghost use Rattle.std.specs.Ordering.{is_le};
 ghost use Rattle.gx_bytes.specs.Records.{SplitsRecord};
 ghost use Rattle.gx_bytes.specs.declared.page.TheConstants.{NONE, PAGE_LEN};
 ghost use Rattle.gx_ports.specs.Keyed.{key_cmp};
-ghost use Rattle.gx_isam_index.specs.Index.{IsFit, HoldsAscending, IsIndexPage, behind_firsts, bucket_count, bucket_of, first_of, last_bucket, lent, part_of, separator_bytes, separators_of};
+ghost use Rattle.gx_isam_index.specs.Index.{IsFitSeparator, HoldsAscending, IsIndexPage, behind_firsts, bucket_count, bucket_of, first_page_of, last_bucket, lent, part_of, separator_bytes, separators_of};
 
 use gx_bytes::{NONE, has_kind, overwrite, record_count, split_u16, split_u32, write_header};
 use gx_order::is_below;
@@ -27,7 +27,7 @@ pub fn clear_index(page: &mut [u8])
     requires { length page.old ≡ PAGE_LEN }
     ensures page { IsIndexPage page.new }
     ensures one { bucket_count page.new ≡ 1 }
-    ensures first { first_of page.new 0 ≡ NONE }
+    ensures first { first_page_of page.new 0 ≡ NONE }
 {
     write_header(page, KIND, 1, NONE);
 }
@@ -58,7 +58,7 @@ pub fn buckets(page: &[u8]) -> u16
 pub fn first(page: &[u8], bucket: u16) -> u32
     requires page { IsIndexPage page.now }
     requires bucket { bucket < bucket_count page.now }
-    ensures { result ≡ first_of page.now bucket }
+    ensures { result ≡ first_page_of page.now bucket }
 {
     let (_, rest) = page.split_at(FIRSTS_AT + FIRST_LEN * usize::from(bucket));
     let (first, _) = split_u32(rest).unwrap();
@@ -71,9 +71,9 @@ pub fn set_first(page: &mut [u8], bucket: u16, first: u32)
     requires bucket { bucket < bucket_count page.old }
     ensures page { IsIndexPage page.new }
     ensures count { bucket_count page.new ≡ bucket_count page.old }
-    ensures first { first_of page.new bucket ≡ first }
+    ensures first { first_page_of page.new bucket ≡ first }
     ensures others { (other : ℕ) → other < bucket_count page.old → other ≢ bucket →
-        first_of page.new other ≡ first_of page.old other }
+        first_page_of page.new other ≡ first_page_of page.old other }
     ensures separators { separators_of page.new ≡ separators_of page.old }
 {
     overwrite(
@@ -135,7 +135,7 @@ fn behind_firsts(page: &[u8], count: u16) -> &[u8]
 // The separator that the bytes begin with, and the bytes behind it. None where they begin with
 // none.
 fn split_separator(bytes: &[u8]) -> Option<(&[u8], &[u8])>
-    ensures { SplitsRecord separator_bytes IsFit lent bytes.now result }
+    ensures { SplitsRecord separator_bytes IsFitSeparator lent bytes.now result }
 {
     let (len, rest) = split_u16(bytes)?;
     let len = usize::from(len);

@@ -4,7 +4,7 @@ ghost use Rattle.gx_bytes.specs.Parts.{overwritten};
 ghost use Rattle.gx_bytes.specs.declared.page.TheConstants.{NONE, PAGE_LEN};
 ghost use Rattle.gx_values.specs.declared.bytes.TheConstants.{MAX_KEY_LEN};
 ghost use Rattle.gx_isam_index.specs.Fresh.{HasFreshBuckets, begin_of, fresh_count, longest_of};
-ghost use Rattle.gx_isam_index.specs.Index.{IsIndexPage, bucket_count, first_of, separator_bytes};
+ghost use Rattle.gx_isam_index.specs.Index.{IsIndexPage, bucket_count, first_page_of, separator_bytes};
 ghost use Rattle.gx_isam_index.specs.Layout.{AreOrdered, FitsPage, HasFront, HasSeparators, keys_of};
 
 use crate::index::{FIRST_LEN, FIRSTS_AT, KIND, MAX_BUCKETS, set_first};
@@ -56,7 +56,7 @@ pub fn write_index(page: &mut [u8], entries: &Entries)
     ensures index { IsIndexPage page.new }
     ensures fresh { HasFreshBuckets page.new (keys_of entries.now) }
     ensures none { (bucket : ℕ) → bucket < bucket_count page.new →
-        first_of page.new bucket ≡ NONE }
+        first_page_of page.new bucket ≡ NONE }
 {
     let count = fresh_count(entries);
     begin_index(page, count);

@@ -31,22 +31,28 @@ prefix_both xs ys p q =
     let less = length-append ys q.0 in
     let up = ap (λ (l : List ℕ). length l) p.1 in
     let down = ap (λ (l : List ℕ). length l) q.1 in
-    p.1 ∙ ap (λ (l : List ℕ). xs ++ l) (none_long p.0 (omega (arith, more, less, up, down))) ∙ append-nil xs
+    p.1 ∙ ap (λ (l : List ℕ). xs ++ l) (none_long p.0 (omega (arith, more, less, up, down)))
+    ∙ append-nil xs
 
 -- slots alone were written
-module _ (P : ℕ) (kept : View) (old mid : Content) (count : length kept.pages ≡ P) (rest : AtRest old.now kept)
+module _ (P : ℕ) (kept : View) (old mid : Content) (count : length kept.pages ≡ P)
+    (rest : AtRest old.now kept)
     (slots : OnlySlots P old mid) where
   still_calm : Calm old kept mid
-  still_calm = slots.calm old kept count (calm_now kept old (rest_own kept old.now rest) (sym rest.fits.shelf))
+  still_calm = slots.calm old kept count
+      (calm_now kept old (rest_own kept old.now rest) (sym rest.fits.shelf))
 
   pub spilled_rest : AtRest mid.now kept
-  spilled_rest = subst (λ (s : List ℕ). AtRest mid.now (with_said kept s)) (slots.outside.said ∙ rest.fits.said) still_calm.now
+  spilled_rest = subst (λ (s : List ℕ). AtRest mid.now (with_said kept s)) (slots.outside.said
+      ∙ rest.fits.said) still_calm.now
 
-  quiet_stands : (image : Image) → IsQuiet (Shows kept.head kept.pages) old.now mid.now.said image → StandsFor kept image
+  quiet_stands : (image : Image) → IsQuiet (Shows kept.head kept.pages) old.now mid.now.said image
+      → StandsFor kept image
   quiet_stands image q = record {
     pages = q.is.replays;
     head = q.is.head_is;
-    said = prefix_both old.now.said image.said q.begins (subst (λ (s : List ℕ). IsPrefix image.said s) slots.outside.said q.goes_on)
+    said = prefix_both old.now.said image.said q.begins
+        (subst (λ (s : List ℕ). IsPrefix image.said s) slots.outside.said q.goes_on)
         ∙ rest.fits.said;
     shelf = q.shelf ∙ rest.fits.shelf;
   }
@@ -54,17 +60,21 @@ module _ (P : ℕ) (kept : View) (old mid : Content) (count : length kept.pages 
   pub spilled_images : LeavesOnly (StandsFor kept) old mid
   spilled_images =
       let q = calm_leaves old kept mid still_calm in
-      weakened (EachImage (IsQuiet (Shows kept.head kept.pages) old.now mid.now.said)) (EachImage (StandsFor kept))
+      weakened (EachImage (IsQuiet (Shows kept.head kept.pages) old.now mid.now.said))
+      (EachImage (StandsFor kept))
       (λ m leaves image is. quiet_stands image (leaves image is)) old mid
       (record { between = q.since; past = q.past; each = q.each; now = q.last })
 
   -- and then each page is as it is stored
-  module _ (tells : Bool) (told : IsTrue tells) (room : 7 + 2 * P ≤ length mid.now.blocks) (was is : List Bool) (rs ss : List Resident)
-      (long : length is ≡ P) (same : SamePages (page_of P old.now.blocks was rs) (page_of P mid.now.blocks is ss))
+  module _ (tells : Bool) (told : IsTrue tells) (room : 7 + 2 * P ≤ length mid.now.blocks)
+      (was is : List Bool) (rs ss : List Resident)
+      (long : length is ≡ P) (same : SamePages (page_of P old.now.blocks was rs)
+      (page_of P mid.now.blocks is ss))
       (at_slot : (q : ℕ) → page_of P mid.now.blocks is ss q ≡ stored P mid.now.blocks is q) where
     pages_long : length (pages_told tells P old was rs) ≡ P
     pages_long =
-        ap (λ (b : Bool). length (pages_told b P old was rs)) told ∙ length-map-range_with_len (page_of P old.now.blocks was rs) 0 P
+        ap (λ (b : Bool). length (pages_told b P old was rs)) told
+        ∙ length-map-range_with_len (page_of P old.now.blocks was rs) 0 P
 
     moved : pages_told tells P mid is ss ≡ pages_told tells P old was rs
     moved = pages_same tells P P old mid was is rs ss refl (λ b. same)
@@ -83,13 +93,15 @@ module _ (P : ℕ) (kept : View) (old mid : Content) (count : length kept.pages 
         (homes_stored tells P mid is ss told at_slot))
 
     pub spilled_held : Holds 7 (pages_told tells P old was rs) is mid.now
-    spilled_held = subst (λ (pages : List (List ℕ)). Holds 7 pages is mid.now) moved (slots_hold tells P mid is ss told at_slot)
+    spilled_held = subst (λ (pages : List (List ℕ)). Holds 7 pages is mid.now) moved
+        (slots_hold tells P mid is ss told at_slot)
 
     -- where nothing was spilled, it is at rest with these pages
     pub none_spilled : (listed : List ℕ) → length listed ≡ 0 → IsListed is listed
         → AtRest mid.now (with_pages kept (pages_told tells P old was rs))
     none_spilled listed empty h =
-        subst (λ (s : List ℕ). AtRest mid.now (with_said (with_pages kept (pages_told tells P old was rs)) s)) spilled_rest.fits.said
+        subst (λ (s : List ℕ). AtRest mid.now
+        (with_said (with_pages kept (pages_told tells P old was rs)) s)) spilled_rest.fits.said
         (rest_new mid.now kept (pages_told tells P old was rs) is spilled_count spilled_same
         (none_left 0 listed is (omega (arith, empty)) h.every) (rest_own kept mid.now spilled_rest))
 
@@ -121,33 +133,44 @@ module _ (P : ℕ) (kept : View) (old mid : Content) (count : length kept.pages 
 
 -- what a commit leaves, in the words of the journal
 module _ (tells : Bool) (told : IsTrue tells) (kept pages : List (List ℕ)) (a b : Content) where
-  shown : (ps : List (List ℕ)) (image : Image) → StandsFor (view_now ps a) image → Shows (head_told tells a) ps image.blocks
+  shown : (ps : List (List ℕ)) (image : Image) → StandsFor (view_now ps a) image
+      → Shows (head_told tells a) ps image.blocks
   shown ps image s = record { replays = s.pages; head_is = s.head ∙ sym (ap (λ (t : Bool). head_told t a) told) }
 
   old_or_new : (image : Image) → Either (view_now kept a) (view_now pages a) image
       → IsOldOrNew (Shows (head_told tells a) kept) (Shows (head_told tells a) pages) a.now image
-  old_or_new image (inl s) = record { is = inl (shown kept image s); said = s.said; shelf = s.shelf }
-  old_or_new image (inr s) = record { is = inr (shown pages image s); said = s.said; shelf = s.shelf }
+  old_or_new image (inl s) =
+      record { is = inl (shown kept image s); said = s.said; shelf = s.shelf }
+  old_or_new image (inr s) =
+      record { is = inr (shown pages image s); said = s.said; shelf = s.shelf }
 
   pub either_images : LeavesOnly (Either (view_now kept a) (view_now pages a)) a b
-      → LeavesOnly (IsOldOrNew (Shows (head_told tells a) kept) (Shows (head_told tells a) pages) a.now) a b
+      → LeavesOnly (IsOldOrNew (Shows (head_told tells a) kept) (Shows (head_told tells a) pages)
+      a.now) a b
   either_images run = weakened (EachImage (Either (view_now kept a) (view_now pages a)))
-      (EachImage (IsOldOrNew (Shows (head_told tells a) kept) (Shows (head_told tells a) pages) a.now))
+      (EachImage (IsOldOrNew (Shows (head_told tells a) kept) (Shows (head_told tells a) pages)
+      a.now))
       (λ m leaves image is. old_or_new image (leaves image is)) a b run
 
-pub pages_many : (tells : Bool) (told : IsTrue tells) (P : ℕ) (c : Content) (spilled : List Bool) (rs : List Resident)
+pub pages_many : (tells : Bool) (told : IsTrue tells) (P : ℕ) (c : Content) (spilled : List Bool)
+    (rs : List Resident)
     → length (pages_told tells P c spilled rs) ≡ P
 pages_many tells told P c spilled rs =
-    ap (λ (b : Bool). length (pages_told b P c spilled rs)) told ∙ length-map-range_with_len (page_of P c.now.blocks spilled rs) 0 P
+    ap (λ (b : Bool). length (pages_told b P c spilled rs)) told
+    ∙ length-map-range_with_len (page_of P c.now.blocks spilled rs) 0 P
 
 -- no commit failed before this one
-pub calm_committed : {T E : Type 0} (r : Result T E) (tells was bad : Bool) (P : ℕ) (c : Content) → was ≡ false → bad ≡ is_err r
+pub calm_committed : {T E : Type 0} (r : Result T E) (tells was bad : Bool) (P : ℕ) (c : Content)
+    → was ≡ false → bad ≡ is_err r
     → OnOk r (CalmSince tells false P c c) → OnOk r (CalmSince tells (was || bad) P c c)
-calm_committed (Ok x) tells was bad P c steady is calm = subst (λ (b : Bool). CalmSince tells b P c c) (sym (λ i. steady i || is i)) calm
+calm_committed (Ok x) tells was bad P c steady is calm =
+    subst (λ (b : Bool). CalmSince tells b P c c) (sym (λ i. steady i || is i)) calm
 calm_committed (Err e) tells was bad P c steady is calm = tt
 
 -- where none failed, this one didn't
-pub committed_still : {T E A : Type 0} (r : Result T E) (was bad : Bool) → bad ≡ is_err r → (was || bad) ≡ false → (was ≡ false → OnOk r A)
+pub committed_still : {T E A : Type 0} (r : Result T E) (was bad : Bool) → bad ≡ is_err r
+    → (was || bad) ≡ false → (was ≡ false → OnOk r A)
     → A
 committed_still (Ok x) was bad is none then = then (or_parts was bad none).0
-committed_still (Err e) was bad is none then = absurd (let f : true ≡ false = sym is ∙ (or_parts was bad none).1 in cc)
+committed_still (Err e) was bad is none then =
+    absurd (let f : true ≡ false = sym is ∙ (or_parts was bad none).1 in cc)

@@ -20,54 +20,70 @@ module _ (P : ℕ) where
     calm = λ start v long calm. then.calm start v long (first.calm start v long calm);
   }
 
-  pub slots_write : (p : ℕ) → p < P → (old new : Content) → Writes (7 + p) old new → OnlySlots P old new
+  pub slots_write : (p : ℕ) → p < P → (old new : Content) → Writes (7 + p) old new
+      → OnlySlots P old new
   slots_write p below old new w = record {
     outside = (outside_write (IsSlot P) (7 + p) old new (omega arith, omega (arith, below)) w).now;
     script = w.script;
     aside = w.aside;
-    calm = λ start v long calm. calm_spill start v (7 + p) old new (omega arith) (omega (arith, long, below)) w calm;
+    calm = λ start v long calm. calm_spill start v (7 + p) old new (omega arith)
+        (omega (arith, long, below)) w calm;
   }
 
   pub slots_read : (old new : Content) → OnlyTime old new → OnlySlots P old new
   slots_read old new r = record {
-    outside = subst (λ (m : Moment). Outside (IsSlot P) old.now m) (sym r.now) (outside_same (IsSlot P) old.now);
+    outside = subst (λ (m : Moment). Outside (IsSlot P) old.now m) (sym r.now)
+        (outside_same (IsSlot P) old.now);
     script = r.script;
     aside = r.aside;
     calm = λ start v long calm. calm_read start v old new r calm;
   }
 
-pub flags_off : (was is : List Bool) (p : ℕ) → is ≡ set was p true → (q : ℕ) → q ≢ p → get_or is q false ≡ get_or was q false
-flags_off was is p e q ne = ap (λ (l : List Bool). get_or l q false) e ∙ get_or-set_other was p q true false ne
+pub flags_off : (was is : List Bool) (p : ℕ) → is ≡ set was p true → (q : ℕ) → q ≢ p
+    → get_or is q false ≡ get_or was q false
+flags_off was is p e q ne = ap (λ (l : List Bool). get_or l q false) e
+    ∙ get_or-set_other was p q true false ne
 
-pub front_found : (p : ℕ) (rs ss : List Resident) → ss ≡ to_front p rs → (q : ℕ) → find_page q ss ≡ find_page q rs
+pub front_found : (p : ℕ) (rs ss : List Resident) → ss ≡ to_front p rs → (q : ℕ)
+    → find_page q ss ≡ find_page q rs
 front_found p rs ss e q = ap (find_page q) e ∙ find_front p q rs
 
 -- a page is written to its slot
-module _ (P p : ℕ) (below : p < P) (old new : Content) (w : Writes (7 + p) old new) (was is : List Bool)
+module _ (P p : ℕ) (below : p < P) (old new : Content) (w : Writes (7 + p) old new)
+    (was is : List Bool)
     (flags : (q : ℕ) → q ≢ p → get_or is q false ≡ get_or was q false) (rs ss : List Resident)
-    (found : (q : ℕ) → find_page q ss ≡ find_page q rs) (r : Resident) (at : find_page p rs ≡ Some r) where
+    (found : (q : ℕ) → find_page q ss ≡ find_page q rs) (r : Resident)
+    (at : find_page p rs ≡ Some r) where
   write_off : (q : ℕ) → q ≢ p → stored P new.now.blocks is q ≡ stored P old.now.blocks was q
   write_off = stored_off P old.now.blocks new.now.blocks was is p below
-      (λ n ne. ap (λ (l : List (List ℕ)). get_or l n []) w.blocks ∙ get_or-set_other old.now.blocks (7 + p) n w.bytes [] ne) flags
+      (λ n ne. ap (λ (l : List (List ℕ)). get_or l n []) w.blocks
+      ∙ get_or-set_other old.now.blocks (7 + p) n w.bytes [] ne) flags
 
   pub write_pages : SamePages (page_of P old.now.blocks was rs) (page_of P new.now.blocks is ss)
   write_pages = rewritten_pages P old.now.blocks new.now.blocks was is rs ss p r at found write_off
 
-  pub write_cached : r.changed ≡ true → IsCached P old.now.blocks was rs → IsCached P new.now.blocks is ss
-  write_cached = rewritten_cached P old.now.blocks new.now.blocks was is rs ss p r at found write_off
+  pub write_cached : r.changed ≡ true → IsCached P old.now.blocks was rs
+      → IsCached P new.now.blocks is ss
+  write_cached = rewritten_cached P old.now.blocks new.now.blocks was is rs ss p r at found
+      write_off
 
-pub written_stored : (P p : ℕ) (bytes : List ℕ) (old new : Content) (was is : List Bool) → p < length was → 7 + p < length old.now.blocks
+pub written_stored : (P p : ℕ) (bytes : List ℕ) (old new : Content) (was is : List Bool)
+    → p < length was → 7 + p < length old.now.blocks
     → is ≡ set was p true → Written (7 + p) bytes old new → stored P new.now.blocks is p ≡ bytes
 written_stored P p bytes old new was is below room e w = stored_slot P new.now.blocks is p bytes
     (ap (λ (l : List Bool). get_or l p false) e ∙ get_or-set_same was p true false below)
-    (ap (λ (l : List (List ℕ)). get_or l (7 + p) []) w.blocks ∙ get_or-set_same old.now.blocks (7 + p) bytes [] room)
+    (ap (λ (l : List (List ℕ)). get_or l (7 + p) []) w.blocks
+    ∙ get_or-set_same old.now.blocks (7 + p) bytes [] room)
 
 -- nothing was said, heard or attached
 pub slots_silent : (P : ℕ) (old new : Content) → OnlySlots P old new → Silent old new
-slots_silent P old new o = record { said = o.outside.said; shelf = o.outside.shelf; script = o.script; aside = o.aside }
+slots_silent P old new o =
+    record { said = o.outside.said; shelf = o.outside.shelf; script = o.script; aside = o.aside }
 
 -- no slot is the gate
-pub slots_gate : (P : ℕ) (old new : Content) → OnlySlots P old new → is_open (block_of old.now 1) ≡ false
+pub slots_gate : (P : ℕ) (old new : Content) → OnlySlots P old new
+    → is_open (block_of old.now 1) ≡ false
     → is_open (block_of new.now 1) ≡ false
 slots_gate P old new o closed =
-    ap is_open (o.outside.blocks 1 (λ (s : IsSlot P 1). (let low = s.0 in absurd (omega (arith, low))))) ∙ closed
+    ap is_open (o.outside.blocks 1
+    (λ (s : IsSlot P 1). (let low = s.0 in absurd (omega (arith, low))))) ∙ closed

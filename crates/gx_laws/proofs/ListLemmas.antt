@@ -7,7 +7,8 @@ use Rattle.std.proofs.lemmas.Option.{none-some, same_Some}
 
 -- ---- places
 
-pub get_or_any : {A : Type 0} (xs : List A) (i : ℕ) (d e : A) → i < length xs → get_or xs i d ≡ get_or xs i e
+pub get_or_any : {A : Type 0} (xs : List A) (i : ℕ) (d e : A) → i < length xs
+    → get_or xs i d ≡ get_or xs i e
 get_or_any [] i d e l = absurd (omega arith)
 get_or_any (x ∷ xs) zero d e l = refl
 get_or_any (x ∷ xs) (suc i) d e l = get_or_any xs i d e (omega arith)
@@ -44,17 +45,21 @@ none_long (x ∷ xs) e = absurd (omega (arith, e))
 
 -- ---- what holds of all
 
-pub all_places : {A : Type 0} (P : A → Type 0) (d : A) (xs : List A) → ((i : ℕ) → i < length xs → P (get_or xs i d)) → AllByRecursion P xs
+pub all_places : {A : Type 0} (P : A → Type 0) (d : A) (xs : List A)
+    → ((i : ℕ) → i < length xs → P (get_or xs i d)) → AllByRecursion P xs
 all_places P d [] h = tt
 all_places P d (x ∷ xs) h = (h 0 (omega arith), all_places P d xs (λ i lt. h (suc i) (omega arith)))
 
-pub all_more : {A : Type 0} (P : A → Type 0) (xs : List A) (x : A) → AllByRecursion P xs → P x → AllByRecursion P (xs ++ x ∷ [])
+pub all_more : {A : Type 0} (P : A → Type 0) (xs : List A) (x : A) → AllByRecursion P xs → P x
+    → AllByRecursion P (xs ++ x ∷ [])
 all_more P [] x all p = (p, tt)
 all_more P (y ∷ xs) x all p = (all.0, all_more P xs x all.1 p)
 
-pub all_filter : {A : Type 0} (P : A → Type 0) (p : A → Bool) (xs : List A) → AllByRecursion P xs → AllByRecursion P (filter p xs)
+pub all_filter : {A : Type 0} (P : A → Type 0) (p : A → Bool) (xs : List A) → AllByRecursion P xs
+    → AllByRecursion P (filter p xs)
 all_filter P p [] h = tt
-all_filter P p (x ∷ xs) h = elim (p x) as (λ b. AllByRecursion P (cond b (x ∷ filter p xs) (filter p xs))) [
-  | true ↦ (h.0, all_filter P p xs h.1)
-  | false ↦ all_filter P p xs h.1
-]
+all_filter P p (x ∷ xs) h =
+    elim (p x) as (λ b. AllByRecursion P (cond b (x ∷ filter p xs) (filter p xs))) [
+      | true ↦ (h.0, all_filter P p xs h.1)
+      | false ↦ all_filter P p xs h.1
+    ]

@@ -12,22 +12,26 @@ silent_twice a b c first then = record {
   aside = then.aside ∙ first.aside;
 }
 
-pub blocks_twice : (free : ℕ → Type 0) (a b c : Content) → OnlyBlocks free a b → OnlyBlocks free b c → OnlyBlocks free a c
+pub blocks_twice : (free : ℕ → Type 0) (a b c : Content) → OnlyBlocks free a b → OnlyBlocks free b c
+    → OnlyBlocks free a c
 blocks_twice free a b c first then = record {
   count = then.count ∙ first.count;
   blocks = λ n taken. then.blocks n taken ∙ first.blocks n taken;
   silent = silent_twice a b c first.silent then.silent;
 }
 
-pub blocks_more : (free more : ℕ → Type 0) → ((n : ℕ) → free n → more n) → (a b : Content) → OnlyBlocks free a b → OnlyBlocks more a b
+pub blocks_more : (free more : ℕ → Type 0) → ((n : ℕ) → free n → more n) → (a b : Content)
+    → OnlyBlocks free a b → OnlyBlocks more a b
 blocks_more free more within a b o =
     record { count = o.count; blocks = λ n taken. o.blocks n (λ is. taken (within n is)); silent = o.silent }
 
-pub blocks_write : (free : ℕ → Type 0) (n : ℕ) (old new : Content) → free n → Writes n old new → OnlyBlocks free old new
+pub blocks_write : (free : ℕ → Type 0) (n : ℕ) (old new : Content) → free n → Writes n old new
+    → OnlyBlocks free old new
 blocks_write free n old new is w = record {
   count = ap (λ (l : List (List ℕ)). length l) w.blocks ∙ length-set old.now.blocks n w.bytes;
   blocks = λ k taken. ap (λ (l : List (List ℕ)). get_or l k []) w.blocks
-      ∙ get_or-set_other old.now.blocks n k w.bytes [] (λ (same : k ≡ n). taken (subst free (sym same) is));
+      ∙ get_or-set_other old.now.blocks n k w.bytes []
+      (λ (same : k ≡ n). taken (subst free (sym same) is));
   silent = record { said = w.said; shelf = w.shelf; script = w.script; aside = w.aside };
 }
 
@@ -38,7 +42,8 @@ blocks_sync free old new s = record {
   silent = record { said = s.said; shelf = s.shelf; script = s.script; aside = s.aside };
 }
 
-pub blocks_read : (free : ℕ → Type 0) (old new : Content) → OnlyTime old new → OnlyBlocks free old new
+pub blocks_read : (free : ℕ → Type 0) (old new : Content) → OnlyTime old new
+    → OnlyBlocks free old new
 blocks_read free old new r = record {
   count = ap (λ (m : Moment). length m.blocks) r.now;
   blocks = λ n taken. ap (λ (m : Moment). get_or m.blocks n []) r.now;

@@ -14,30 +14,39 @@ pub no_sync : (c : Content) → Syncs c c
 no_sync c = record { time = inr refl; blocks = refl; kept = λ n is. is; said = refl; shelf = refl; script = refl; aside = refl }
 
 -- no sync came
-pub unflushed : (free : ℕ → Type 0) (a c : Content) → Through (Outside free a.now) a c → Flushes free a c
+pub unflushed : (free : ℕ → Type 0) (a c : Content) → Through (Outside free a.now) a c
+    → Flushes free a c
 unflushed free a c run = record { written = c; run = run; synced = no_sync c }
 
 same_block : (c d : Content) → Syncs c d → (n : ℕ) → block_of d.now n ≡ block_of c.now n
 same_block c d s n = ap (λ (l : List (List ℕ)). get_or l n []) s.blocks
 
 -- the bitmap is written at rest
-module _ (kept : View) (a d : Content) (rest : AtRest a.now kept) (f : Flushes (λ n. n ≡ 2) a d) where
-  pub bitmap_leaves : LeavesOnly (StandsFor kept) a d
-  bitmap_leaves =
-      let first = guarded (λ n. n ≡ 2) (λ m. AtRest m kept) (StandsFor kept) a f.written (λ m o. rest_bitmap a.now m kept o rest)
-      (λ m r. rest_leaves m kept r) f.run in
-      joined (EachImage (StandsFor kept)) a f.written d first (synced (StandsFor kept) f.written d f.synced first.now)
+module _ (kept : View) (a d : Content) (rest : AtRest a.now kept) (f : Flushes (λ n. n ≡ 2) a d)
+  where
+    pub bitmap_leaves : LeavesOnly (StandsFor kept) a d
+    bitmap_leaves =
+        let first = guarded (λ n. n ≡ 2) (λ m. AtRest m kept) (StandsFor kept) a f.written
+        (λ m o. rest_bitmap a.now m kept o rest)
+        (λ m r. rest_leaves m kept r) f.run in
+        joined (EachImage (StandsFor kept)) a f.written d first
+        (synced (StandsFor kept) f.written d f.synced first.now)
 
-  pub bitmap_ready : (pages : List (List ℕ)) (changed : List Bool) → length kept.pages ≡ length pages → length changed ≡ length pages
-      → SameButChanged changed kept.pages pages → Holds 7 pages changed a.now
-      → NonePending d → Names changed (block_of d.now 2) (length changed) → IsReady d.now kept (with_pages kept pages) changed
-  bitmap_ready pages changed counts flags same held none names =
-      log_ready f.written d f.synced none kept pages changed counts flags (rest_bitmap a.now f.written.now kept f.run.now rest) same
-      (subst (λ (bits : List ℕ). Names changed bits (length changed)) (same_block f.written d f.synced 2) names)
-      (held_past 2 7 pages changed a.now f.written.now (omega arith) f.run.now held)
+    pub bitmap_ready : (pages : List (List ℕ)) (changed : List Bool)
+        → length kept.pages ≡ length pages → length changed ≡ length pages
+        → SameButChanged changed kept.pages pages → Holds 7 pages changed a.now
+        → NonePending d → Names changed (block_of d.now 2) (length changed)
+        → IsReady d.now kept (with_pages kept pages) changed
+    bitmap_ready pages changed counts flags same held none names =
+        log_ready f.written d f.synced none kept pages changed counts flags
+        (rest_bitmap a.now f.written.now kept f.run.now rest) same
+        (subst (λ (bits : List ℕ). Names changed bits (length changed))
+        (same_block f.written d f.synced 2) names)
+        (held_past 2 7 pages changed a.now f.written.now (omega arith) f.run.now held)
 
 -- homes of changed pages are written behind the open gate
-module _ (v : View) (changed : List Bool) (free : ℕ → Type 0) (within : (n : ℕ) → free n → IsIn (7 + length v.pages) changed n)
+module _ (v : View) (changed : List Bool) (free : ℕ → Type 0) (within : (n : ℕ) → free n
+    → IsIn (7 + length v.pages) changed n)
     (a d : Content) (o : IsOpened a.now v changed) (f : Flushes free a d) where
   here : Through (Outside (IsIn (7 + length v.pages) changed) a.now) a f.written
   here = run_more free (IsIn (7 + length v.pages) changed) within a f.written f.run
@@ -45,7 +54,10 @@ module _ (v : View) (changed : List Bool) (free : ℕ → Type 0) (within : (n :
   pub homes_leave : LeavesOnly (StandsFor v) a d
   homes_leave = home_synced v changed a f.written d o here f.synced
 
-  pub homes_flushed : NonePending d → Holds (7 + length v.pages) v.pages changed d.now → IsReady d.now v v changed
+  pub homes_flushed : NonePending d → Holds (7 + length v.pages) v.pages changed d.now
+      → IsReady d.now v v changed
   homes_flushed none held =
-      homes_ready f.written d f.synced none v changed (opened_homes a.now f.written.now v changed here.now o)
-      (λ p below on. sym (same_block f.written d f.synced (7 + length v.pages + p)) ∙ held p below on)
+      homes_ready f.written d f.synced none v changed
+      (opened_homes a.now f.written.now v changed here.now o)
+      (λ p below on. sym (same_block f.written d f.synced (7 + length v.pages + p))
+      ∙ held p below on)

@@ -22,7 +22,8 @@ reads_twice a b c first then = record {
   calm = λ start v calm. then.calm start v (first.calm start v calm);
 }
 
-head_text : (blocks : List (List ℕ)) (k : ℕ) → k < 4 → get_or (head_of blocks) (1 + k) [] ≡ get_or blocks (3 + k) []
+head_text : (blocks : List (List ℕ)) (k : ℕ) → k < 4
+    → get_or (head_of blocks) (1 + k) [] ≡ get_or blocks (3 + k) []
 head_text blocks k below = elim (cases_eq k 0) [
   | inl e ↦ at 0 refl e
   | inr n0 ↦ elim (cases_eq k 1) [
@@ -36,10 +37,12 @@ head_text blocks k below = elim (cases_eq k 0) [
   where
     at : (j : ℕ) → get_or (head_of blocks) (1 + j) [] ≡ get_or blocks (3 + j) [] → k ≡ j
         → get_or (head_of blocks) (1 + k) [] ≡ get_or blocks (3 + k) []
-    at j is e = ap (λ (n : ℕ). get_or (head_of blocks) (1 + n) []) e ∙ is ∙ ap (λ (n : ℕ). get_or blocks (3 + n) []) (sym e)
+    at j is e = ap (λ (n : ℕ). get_or (head_of blocks) (1 + n) []) e ∙ is
+        ∙ ap (λ (n : ℕ). get_or blocks (3 + n) []) (sym e)
 
 -- text block i was read, and stands beside block i of an area
-module _ (m : Moment) (area : List ℕ) (i : ℕ) (below : i < 4) (block part : List ℕ) (block_is : block ≡ block_of m (3 + i))
+module _ (m : Moment) (area : List ℕ) (i : ℕ) (below : i < 4) (block part : List ℕ)
+    (block_is : block ≡ block_of m (3 + i))
     (part_is : part ≡ block_in area i) where
   byte : (k : ℕ) → k < 4096 → text_at (head_of m.blocks) (4096 * i + k) ≡ get_or block k 0
   byte k lt =
@@ -51,10 +54,12 @@ module _ (m : Moment) (area : List ℕ) (i : ℕ) (below : i < 4) (block part : 
 
   other : (k : ℕ) → k < 4096 → get_or area (4096 * i + k) 0 ≡ get_or part k 0
   other k lt =
-      sym (ap (λ (l : List ℕ). get_or l k 0) part_is ∙ get_or-take 4096 (drop (4096 * i) area) k 0 lt ∙ get_or-drop (4096 * i) area k 0)
+      sym (ap (λ (l : List ℕ). get_or l k 0) part_is
+      ∙ get_or-take 4096 (drop (4096 * i) area) k 0 lt ∙ get_or-drop (4096 * i) area k 0)
 
   module _ (so_far : (q : ℕ) → q < 4096 * i → text_at (head_of m.blocks) q ≡ get_or area q 0) where
-    upto : (at : ℕ) → at ≤ 4096 → ((k : ℕ) → k < at → get_or block k 0 ≡ get_or part k 0) → (q : ℕ) → q < 4096 * i + at
+    upto : (at : ℕ) → at ≤ 4096 → ((k : ℕ) → k < at → get_or block k 0 ≡ get_or part k 0) → (q : ℕ)
+        → q < 4096 * i + at
         → text_at (head_of m.blocks) q ≡ get_or area q 0
     upto at within same q lt = elim (cases_lt q (4096 * i)) [
       | inl low ↦ so_far q low
@@ -63,14 +68,17 @@ module _ (m : Moment) (area : List ℕ) (i : ℕ) (below : i < 4) (block part : 
           let here : 4096 * i + k ≡ q = omega (arith, past) in
           let k_at : k < at = omega (arith, past, lt) in
           let k_in : k < 4096 = omega (arith, k_at, within) in
-          subst (λ (n : ℕ). text_at (head_of m.blocks) n ≡ get_or area n 0) here (byte k k_in ∙ same k k_at ∙ sym (other k k_in)))
+          subst (λ (n : ℕ). text_at (head_of m.blocks) n ≡ get_or area n 0) here (byte k k_in
+          ∙ same k k_at ∙ sym (other k k_in)))
     ]
 
-    pub more_same : ((k : ℕ) → k < 4096 → get_or block k 0 ≡ get_or part k 0) → (q : ℕ) → q < 4096 * (i + 1)
+    pub more_same : ((k : ℕ) → k < 4096 → get_or block k 0 ≡ get_or part k 0) → (q : ℕ)
+        → q < 4096 * (i + 1)
         → text_at (head_of m.blocks) q ≡ get_or area q 0
     more_same same q lt = upto 4096 (omega arith) same q (omega (arith, lt))
 
-    pub differ_here : (at : ℕ) → at < 4096 → get_or block at 0 ≢ get_or part at 0 → ((k : ℕ) → k < at → get_or block k 0 ≡ get_or part k 0)
+    pub differ_here : (at : ℕ) → at < 4096 → get_or block at 0 ≢ get_or part at 0
+        → ((k : ℕ) → k < at → get_or block k 0 ≡ get_or part k 0)
         → DifferFirst (text_at (head_of m.blocks)) (λ q. get_or area q 0) (Some (4096 * i + at))
     differ_here at lt off same =
         (omega (arith, lt, below), (λ e. off (sym (byte at lt) ∙ e ∙ other at lt)), upto at (omega (arith, lt)) same)

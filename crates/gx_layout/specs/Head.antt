@@ -20,7 +20,8 @@ written_texts schema equation =
 -- the bytes of the text blocks: the lengths, the texts, and zeros
 abbrev pub text_area : List ℕ → List ℕ → List ℕ
 text_area schema equation =
-    written_texts schema equation ++ replicate (TEXT_AREA_LEN - length (written_texts schema equation)) 0
+    written_texts schema equation
+    ++ replicate (TEXT_AREA_LEN - length (written_texts schema equation)) 0
 
 -- block i of those that hold these bytes
 abbrev pub block_in : List ℕ → ℕ → List ℕ

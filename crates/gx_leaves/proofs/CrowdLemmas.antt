@@ -18,12 +18,18 @@ use Rattle.gx_leaves.proofs.PlaceLemmas.{placed}
 use Rattle.gx_leaves.proofs.FrameLemmas.{laws_at, file_stays, table_stays}
 
 -- the root pages and the entries of all leaves, place by place
-sums : (base : Ground) (places : List Place) (sheets : Sheets) → (root_pages (specs_of places) ≡ sum_by (λ p. roots_of p.spec) places) × (entry_count (maps_of base places sheets) ≡ sum_by (λ p. len (map_in base p sheets)) places)
+sums : (base : Ground) (places : List Place) (sheets : Sheets)
+    → (root_pages (specs_of places) ≡ sum_by (λ p. roots_of p.spec) places)
+    × (entry_count (maps_of base places sheets) ≡ sum_by (λ p. len (map_in base p sheets))
+    places)
 sums base places sheets =
     (sum-map roots_of (specs_of places) ∙ sum_by_map roots_of (λ (p : Place). p.spec) places, sum_by_map len (λ p. map_in base p sheets) places)
 
 -- each page past the table belongs to the place of a leaf
-owner_of : (base : Ground) (places : List Place) → IsLaidOut base places → (sheets : Sheets) → IsTable base (length places) sheets → HasNone base sheets → length sheets.owners ≡ base.size → (page owner : ℕ) → base.tables ≤ page → slice_get sheets.owners page ≡ Some owner → (j : ℕ) × (p : Place) × (slice_get places j ≡ Some p) × (p.owner ≡ owner)
+owner_of : (base : Ground) (places : List Place) → IsLaidOut base places → (sheets : Sheets)
+    → IsTable base (length places) sheets → HasNone base sheets → length sheets.owners ≡ base.size
+    → (page owner : ℕ) → base.tables ≤ page → slice_get sheets.owners page ≡ Some owner
+    → (j : ℕ) × (p : Place) × (slice_get places j ≡ Some p) × (p.owner ≡ owner)
 owner_of base places laid sheets table none many page owner past at =
     let within = slice_get_within sheets.owners page owner at in
     let is : IsPast base page = record { past = past; below = omega (arith, within, many) } in
@@ -34,21 +40,28 @@ owner_of base places laid sheets table none many page owner past at =
     let s = some_at places j (omega (arith, most, one)) in
     (j, s.0, s.1, omega (arith, (placed base places laid j s.0 s.1).number, one))
 
-pub crowded : (base : Ground) (places : List Place) → IsLaidOut base places → (old new : Sheets) (leaf : ℕ) (place : Place) → slice_get places leaf ≡ Some place → OthersStay base place.owner old new → AreLaid base places old → HasNone base new → length new.owners ≡ base.size
-    → ((m : LeafMap) → IsFileAt base place old m → page_count place.owner new ≤ roots_of place.spec + 2 * len m + 1)
+pub crowded : (base : Ground) (places : List Place) → IsLaidOut base places
+    → (old new : Sheets) (leaf : ℕ) (place : Place) → slice_get places leaf ≡ Some place
+    → OthersStay base place.owner old new → AreLaid base places old → HasNone base new
+    → length new.owners ≡ base.size
+    → ((m : LeafMap) → IsFileAt base place old m
+    → page_count place.owner new ≤ roots_of place.spec + 2 * len m + 1)
     → base.size < (limits_of base places).fixed + 2 * entry_count (maps_of base places old) + 2
 crowded base places laid old new leaf place at others whole none many few =
     let table = table_stays base places laid old new leaf place at others whole.table in
-    let all = counted_all (λ (p : Place). p.owner) places base.tables new.owners (owner_of base places laid new table none many) in
+    let all = counted_all (λ (p : Place). p.owner) places base.tables new.owners
+    (owner_of base places laid new table none many) in
     let held = whole.each leaf place at in
     let here = few held.0 held.1 in
     let one = (laws_at base places laid leaf place at).one old held.0 held.1 in
-    let most = sum_least_but (λ (p : Place). page_count p.owner new) (λ p. roots_of p.spec) (λ p. len (map_in base p old)) places leaf place at
+    let most = sum_least_but (λ (p : Place). page_count p.owner new) (λ p. roots_of p.spec)
+    (λ p. len (map_in base p old)) places leaf place at
     (omega (arith, here, ap len one))
     (λ i other differ there. (
     let h = whole.each i other there in
     let laws = laws_at base places laid i other there in
-    let f = laws.few new h.0 (file_stays base places laid old new leaf place at others i other differ there h.0 h.1) in
+    let f = laws.few new h.0
+    (file_stays base places laid old new leaf place at others i other differ there h.0 h.1) in
     omega (arith, f, ap len (laws.one old h.0 h.1)))) in
     let s = sums base places old in
     let pages = many in

@@ -11,20 +11,25 @@ use Rattle.gx_ports.specs.Sheets.{Sheets, Ground}
 use Rattle.gx_leaves.specs.Kinds.{IsFileAt}
 use Rattle.gx_leaves.specs.Wholeness.{AreLaid, AreWhole, IsTable, IsWholeAt}
 
-module _ {S : Type 0} (g : Ghosts S) (places : List Place) (old new : S) (reads : ReadsPages g old new) where
-  file_read : (place : Place) (m : LeafMap) → IsFileAt (g.ground new) place (g.working new) m → IsFileAt (g.ground old) place (g.working old) m
+module _ {S : Type 0} (g : Ghosts S) (places : List Place) (old new : S)
+    (reads : ReadsPages g old new) where
+  file_read : (place : Place) (m : LeafMap) → IsFileAt (g.ground new) place (g.working new) m
+      → IsFileAt (g.ground old) place (g.working old) m
   file_read place m file =
       subst (λ (b : Ground). IsFileAt b place (g.working old) m) reads.keeps.ground
       (subst (λ (s : Sheets). IsFileAt (g.ground new) place s m) reads.working file)
 
-  file_still : (place : Place) (m : LeafMap) → IsFileAt (g.ground old) place (g.working old) m → IsFileAt (g.ground new) place (g.working new) m
+  file_still : (place : Place) (m : LeafMap) → IsFileAt (g.ground old) place (g.working old) m
+      → IsFileAt (g.ground new) place (g.working new) m
   file_still place m file =
       subst (λ (b : Ground). IsFileAt b place (g.working new) m) (sym reads.keeps.ground)
       (subst (λ (s : Sheets). IsFileAt (g.ground old) place s m) (sym reads.working) file)
 
   -- with a table that is whole, a whole file makes its leaf whole
-  pub whole_by : (leaf : ℕ) (place : Place) → slice_get places leaf ≡ Some place → (count : ℕ) → count ≡ length places
-      → IsTable (g.ground old) count (g.working old) → IsWhole g (IsFileAt (g.ground new) place) new → IsWholeAt g.tells (g.ground old) places (g.working old) leaf
+  pub whole_by : (leaf : ℕ) (place : Place) → slice_get places leaf ≡ Some place → (count : ℕ)
+      → count ≡ length places
+      → IsTable (g.ground old) count (g.working old) → IsWhole g (IsFileAt (g.ground new) place) new
+      → IsWholeAt g.tells (g.ground old) places (g.working old) leaf
   whole_by leaf place at count many table file = record {
     told = file.1.told;
     table = subst (λ (n : ℕ). IsTable (g.ground old) n (g.working old)) many table;
@@ -33,12 +38,16 @@ module _ {S : Type 0} (g : Ghosts S) (places : List Place) (old new : S) (reads 
   }
 
   -- the file of a whole leaf is whole
-  pub file_of : (leaf : ℕ) (place : Place) → slice_get places leaf ≡ Some place → IsWholeAt g.tells (g.ground old) places (g.working old) leaf → IsWhole g (IsFileAt (g.ground new) place) new
-  file_of leaf place at whole = let h = whole.held place at in (h.0, record { told = whole.told; file = file_still place h.0 h.1 })
+  pub file_of : (leaf : ℕ) (place : Place) → slice_get places leaf ≡ Some place
+      → IsWholeAt g.tells (g.ground old) places (g.working old) leaf
+      → IsWhole g (IsFileAt (g.ground new) place) new
+  file_of leaf place at whole = let h = whole.held place at in
+      (h.0, record { told = whole.told; file = file_still place h.0 h.1 })
 
   -- leaves that are read stay whole
   pub whole_read : {T E : Type 0} (result : Result T E)
-      → OnOk result (AreWhole g.tells (g.steady old) (g.ground old) places (g.working old) → AreWhole g.tells (g.steady new) (g.ground new) places (g.working new))
+      → OnOk result (AreWhole g.tells (g.steady old) (g.ground old) places (g.working old)
+      → AreWhole g.tells (g.steady new) (g.ground new) places (g.working new))
   whole_read (Ok x) = λ whole. record {
     told = whole.told;
     settled = reads.keeps.steady.0 whole.settled;

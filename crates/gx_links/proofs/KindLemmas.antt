@@ -18,10 +18,12 @@ by_kinds [] (v ∷ vs) fit = absurd fit
 by_kinds (f ∷ fs) [] fit = absurd fit
 by_kinds (f ∷ fs) (v ∷ vs) fit = (fit.0, by_kinds fs vs fit.1)
 
-pub fit_kinds : (fs : List Field) (ks : List Kind) (vs : List Value) → kinds_of fs ≡ ks → AreFit fs vs → AreOfKinds ks vs
+pub fit_kinds : (fs : List Field) (ks : List Kind) (vs : List Value) → kinds_of fs ≡ ks
+    → AreFit fs vs → AreOfKinds ks vs
 fit_kinds fs ks vs is fit = subst (λ kinds. AreOfKinds kinds vs) is (by_fields fs vs fit)
 
-pub fit_fields : (fs : List Field) (ks : List Kind) (vs : List Value) → kinds_of fs ≡ ks → AreOfKinds ks vs → AreFit fs vs
+pub fit_fields : (fs : List Field) (ks : List Kind) (vs : List Value) → kinds_of fs ≡ ks
+    → AreOfKinds ks vs → AreFit fs vs
 fit_fields fs ks vs is fit = by_kinds fs vs (subst (λ kinds. AreOfKinds kinds vs) (sym is) fit)
 
 -- one value for one kind

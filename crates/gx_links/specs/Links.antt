@@ -1,19 +1,12 @@
 -- Links: from each member to its owner.
-use Rattle.std.specs.Prelude.{◌≡◌, ℕ, ◌≤◌, Bool, not, List, [], ◌∷◌, map, filter, length, Some, if◌then◌else◌}
+use Rattle.std.specs.Prelude.{◌≡◌, ℕ, ◌≤◌, not, List, [], ◌∷◌, map, filter, length, Some, if◌then◌else◌}
 use Rattle.std.specs.FinMap as fin
-use Rattle.std.specs.Ordering.{eq_by_cmp, is_lt}
+use Rattle.std.specs.Ordering.{is_lt}
 use Rattle.gx_values.specs.declared.values.Kind.{Kind}
 use Rattle.gx_values.specs.declared.values.Value.{Value}
 use Rattle.gx_values.specs.Values.{value_cmp, Fits}
+pub use Rattle.gx_values.specs.Links.{Link, is_same}
 use Rattle.gx_schema.specs.declared.schema.TheConstants.{MOST_MEMBERS}
-
--- from the key of each member to the key of its owner
-abbrev pub Link : Type 0
-Link = fin.FinMap value_cmp Value
-
--- the values are one
-abbrev pub is_same : Value → Value → Bool
-is_same = eq_by_cmp value_cmp
 
 -- the members of an owner, ascending
 abbrev pub members_of : Link → Value → List Value

@@ -1,6 +1,6 @@
 // One leaf in memory: an ordered map from each key to its cell, and what the open transaction
 // replaced there, so that its end looks no key up that it keeps, and takes no memory.
-ghost use Rattle.std.specs.Prelude.{◌≡◌, ◌≤◌, ◌++◌, [], length, None, true, is_some, OnOk, OnErr};
+ghost use Rattle.std.specs.Prelude.{◌≡◌, ◌++◌, [], None, true, is_some, OnOk, OnErr};
 ghost use Rattle.std.specs.Option.{option_and_then};
 ghost use Rattle.std.specs.FinMap.{insert, remove, get};
 ghost use Rattle.gx_ports.specs.LeafMaps.{selected, Extends};

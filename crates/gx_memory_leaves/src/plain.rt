@@ -1,5 +1,5 @@
 // Leaves in memory, over any device.
-ghost use Rattle.std.specs.Prelude.{◌≡◌, ◌≤◌, ◌<◌, ◌^◌, length, map, replicate, OnOk, OnErr, IfOk, IfErr, vec_len, None};
+ghost use Rattle.std.specs.Prelude.{◌≡◌, ◌<◌, ◌^◌, map, replicate, IfOk, IfErr, vec_len, None};
 ghost use Rattle.std.specs.FinMap.{empty};
 ghost use Rattle.gx_memory_leaves.specs.Cells.{ended};
 ghost use Rattle.gx_memory_leaves.specs.Pairs.{empty_pair};

@@ -1,5 +1,5 @@
 // A few bytes, in the value itself.
-ghost use Rattle.std.specs.Prelude.{◌≡◌, ◌<◌, length, IfSome};
+ghost use Rattle.std.specs.Prelude.{◌≡◌, ◌<◌, ◌≤◌, ◌^◌, length, IfSome, IsSome};
 ghost use Rattle.gx_memory_leaves.specs.Fronts.{padded};
 
 use std::marker::Model;
@@ -23,9 +23,10 @@ impl<const ROOM: usize> Model for Short<ROOM> {
 }
 
 impl<const ROOM: usize> Short<ROOM> {
-    /// A copy of the bytes. None: there are more than `ROOM`.
+    /// A copy of the bytes. None: there are more than `ROOM`, or more than 255.
     pub fn from_slice(bytes: &[u8]) -> Option<Short<ROOM>>
-        ensures { IfSome result (λ short. short ≡ bytes.now) }
+        ensures same { IfSome result (λ short. short ≡ bytes.now) }
+        ensures some { length bytes.now ≤ ROOM → length bytes.now < 2 ^ 8 → IsSome result }
     {
         if bytes.len() > ROOM {
             return None;

@@ -10,13 +10,16 @@ use Rattle.gx_memory_machine.specs.Log.{with_device, blocks_in}
 use Rattle.gx_memory_machine.specs.Trace.{blocks_given, is_there}
 
 -- a call takes its moment, or has none
-pub ticks : (none : Bool) (old new : Content) → new.now ≡ old.now → new.script ≡ old.script → new.aside ≡ old.aside
+pub ticks : (none : Bool) (old new : Content) → new.now ≡ old.now → new.script ≡ old.script
+    → new.aside ≡ old.aside
     → new.past ≡ (if none then old.past else old.past ++ old.now ∷ []) → Ticks old new
-ticks true old new now script aside past = inr (λ i. record { now = now i; script = script i; aside = aside i; past = past i })
+ticks true old new now script aside past =
+    inr (λ i. record { now = now i; script = script i; aside = aside i; past = past i })
 ticks false old new now script aside past = inl past
 
 -- where nothing changes but the clock, a block was written as it is
-pub writes_nothing : (n : ℕ) (old new : Content) → OnlyTime old new → length (block_of old.now n) ≡ 4096 → Writes n old new
+pub writes_nothing : (n : ℕ) (old new : Content) → OnlyTime old new
+    → length (block_of old.now n) ≡ 4096 → Writes n old new
 writes_nothing n old new r whole = record {
   time = r.time;
   bytes = block_of old.now n;
@@ -30,12 +33,14 @@ writes_nothing n old new r whole = record {
   aside = r.aside;
 }
 
-pub on_ok_both : {T E P Q R : Type 0} (r : Result T E) → (P → Q → R) → OnOk r P → OnOk r Q → OnOk r R
+pub on_ok_both : {T E P Q R : Type 0} (r : Result T E) → (P → Q → R) → OnOk r P → OnOk r Q
+    → OnOk r R
 on_ok_both (Ok x) f p q = f p q
 on_ok_both (Err e) f p q = p
 
 -- what a finite map has, and what it hasn't
-some_blocks : (o : Option (List (List ℕ))) → is_some o ≡ true → o ≡ Some (option_map_or (λ (b : List (List ℕ)). b) o [])
+some_blocks : (o : Option (List (List ℕ))) → is_some o ≡ true
+    → o ≡ Some (option_map_or (λ (b : List (List ℕ)). b) o [])
 some_blocks None is = absurd (let e : ◌≡◌ {A = Bool} false true = is in cc)
 some_blocks (Some b) is = refl
 
@@ -44,25 +49,31 @@ no_blocks None is = refl
 no_blocks (Some b) is = absurd (let e : ◌≡◌ {A = Bool} true false = is in cc)
 
 -- a device is attached, where none was
-module _ (old new : Content) (given name : List ℕ) (make : Option ℕ) (before : Moment) (named : given ≡ name) (was : before ≡ old.now)
-    (script : new.script ≡ old.script) (aside : new.aside ≡ old.aside) (none : old.now.shelf.name ≡ None)
+module _ (old new : Content) (given name : List ℕ) (make : Option ℕ) (before : Moment)
+    (named : given ≡ name) (was : before ≡ old.now)
+    (script : new.script ≡ old.script) (aside : new.aside ≡ old.aside)
+    (none : old.now.shelf.name ≡ None)
     (now : new.now ≡ with_device before given (blocks_given before.shelf.devices given make))
     (there : is_there before.shelf.devices given ≡ is_none make) where
   after : new.now ≡ with_device old.now name (blocks_given old.now.shelf.devices name make)
-  after = now ∙ (λ i. with_device (was i) (named i) (blocks_given (was i).shelf.devices (named i) make))
+  after = now ∙ (λ i. with_device (was i) (named i)
+      (blocks_given (was i).shelf.devices (named i) make))
 
   was_there : is_there old.now.shelf.devices name ≡ is_none make
   was_there = sym (λ i. is_there (was i).shelf.devices (named i)) ∙ there
 
-  all_devices : with_named old.now.shelf.name old.now.blocks old.now.shelf.devices ≡ old.now.shelf.devices
+  all_devices : with_named old.now.shelf.name old.now.blocks old.now.shelf.devices
+      ≡ old.now.shelf.devices
   all_devices = ap (λ (n : Option (List ℕ)). with_named n old.now.blocks old.now.shelf.devices) none
 
-  is_attached : (blocks : List (List ℕ)) → blocks_given old.now.shelf.devices name make ≡ blocks → IsAttached name blocks old new
+  is_attached : (blocks : List (List ℕ)) → blocks_given old.now.shelf.devices name make ≡ blocks
+      → IsAttached name blocks old new
   is_attached blocks is =
       let end = after ∙ ap (with_device old.now name) is in
       record {
         blocks_are = ap (λ (m : Moment). m.blocks) end;
-        none_pending = λ n. ap (λ (m : Moment). get_or m.pending n false) end ∙ no_flag (length blocks) n;
+        none_pending = λ n. ap (λ (m : Moment). get_or m.pending n false) end
+            ∙ no_flag (length blocks) n;
         named = ap (λ (m : Moment). m.shelf.name) end;
         others = ap (λ (m : Moment). m.shelf.devices) end;
         said = ap (λ (m : Moment). m.said) end;
@@ -73,9 +84,11 @@ module _ (old new : Content) (given name : List ℕ) (make : Option ℕ) (before
   pub is_opened : make ≡ None → IsOpened name old new
   is_opened opens = record {
     blocks = blocks_in old.now.shelf.devices name;
-    was = ap (λ (d : Devices). get d name) all_devices ∙ some_blocks (get old.now.shelf.devices name)
+    was = ap (λ (d : Devices). get d name) all_devices
+        ∙ some_blocks (get old.now.shelf.devices name)
         (was_there ∙ ap (λ (o : Option ℕ). is_none o) opens);
-    attached = is_attached (blocks_in old.now.shelf.devices name) (ap (blocks_given old.now.shelf.devices name) opens);
+    attached = is_attached (blocks_in old.now.shelf.devices name)
+        (ap (blocks_given old.now.shelf.devices name) opens);
   }
 
   pub is_made : (n : ℕ) → make ≡ Some n → IsMade n name old new

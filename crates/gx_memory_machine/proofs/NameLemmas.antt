@@ -17,11 +17,13 @@ name_cmp = slice_cmp nat_cmp
 
 module _ {A : Type 0} where
   -- a look-up in the ordered map finds what the finite map has
-  pub get_named : (es : List (Vec ℕ × Vec A)) (q : List ℕ) → fin.get (by_name es) q ≡ option_map (λ v. v.items)
+  pub get_named : (es : List (Vec ℕ × Vec A)) (q : List ℕ)
+      → fin.get (by_name es) q ≡ option_map (λ v. v.items)
       (lookup (is_at (λ k. name_cmp q k.items)) es)
   get_named es q = fin.get-from_entries nat_list_cmp_total (map named_entry es) q ∙ found es
     where
-      found : (fs : List (Vec ℕ × Vec A)) → fin.find name_cmp q (map named_entry fs) ≡ option_map (λ v. v.items)
+      found : (fs : List (Vec ℕ × Vec A))
+          → fin.find name_cmp q (map named_entry fs) ≡ option_map (λ v. v.items)
           (lookup (is_at (λ k. name_cmp q k.items)) fs)
       found [] = refl
       found (f ∷ fs) = elim (eq_by_cmp name_cmp q f.0.items) as (λ b. cond b (Some f.1.items)
@@ -32,12 +34,15 @@ module _ {A : Type 0} where
           ]
 
   put_entry : (es : List (Vec ℕ × Vec A)) (k : Vec ℕ) (v : Vec A)
-      → map named_entry (insert_entry (λ x y. name_cmp x.items y.items) es k v) ≡ fin.put name_cmp k.items v.items (map named_entry es)
+      → map named_entry (insert_entry (λ x y. name_cmp x.items y.items) es k v)
+      ≡ fin.put name_cmp k.items v.items (map named_entry es)
   put_entry [] k v = refl
   put_entry (e ∷ es) k v =
-      elim (name_cmp k.items e.0.items) as (λ r. map named_entry (match_ordering r ((k, v) ∷ e ∷ es) ((e.0, v) ∷ es)
+      elim (name_cmp k.items e.0.items) as
+      (λ r. map named_entry (match_ordering r ((k, v) ∷ e ∷ es) ((e.0, v) ∷ es)
       (e ∷ insert_entry (λ x y. name_cmp x.items y.items) es k v)) ≡ by_order r
-      ((k.items, v.items) ∷ named_entry e ∷ map named_entry es) ((e.0.items, v.items) ∷ map named_entry es)
+      ((k.items, v.items) ∷ named_entry e ∷ map named_entry es)
+      ((e.0.items, v.items) ∷ map named_entry es)
       (named_entry e ∷ fin.put name_cmp k.items v.items (map named_entry es))) [
         | Less ↦ refl
         | Equal ↦ refl
@@ -46,10 +51,14 @@ module _ {A : Type 0} where
 
   -- something is set under a name
   pub set_named : (es : List (Vec ℕ × Vec A)) (k : Vec ℕ) (v : Vec A)
-      → by_name (insert_entry (λ x y. name_cmp x.items y.items) es k v) ≡ fin.insert (by_name es) k.items v.items
-  set_named es k v = fin.same_map nat_list_cmp_total (fin.slice_cmp-IsAntisymmetric fin.nat_cmp-IsAntisymmetric) _ _ (λ q.
-      fin.get-from_entries nat_list_cmp_total (map named_entry (insert_entry (λ x y. name_cmp x.items y.items) es k v)) q
+      → by_name (insert_entry (λ x y. name_cmp x.items y.items) es k v) ≡ fin.insert
+      (by_name es) k.items v.items
+  set_named es k v = fin.same_map nat_list_cmp_total
+      (fin.slice_cmp-IsAntisymmetric fin.nat_cmp-IsAntisymmetric) _ _ (λ q.
+      fin.get-from_entries nat_list_cmp_total
+      (map named_entry (insert_entry (λ x y. name_cmp x.items y.items) es k v)) q
       ∙ ap (fin.find name_cmp q) (put_entry es k v)
       ∙ find-put name_cmp nat_list_cmp_total q k.items v.items (map named_entry es)
       ∙ sym (fin.get-insert nat_list_cmp_total (by_name es) k.items v.items q
-      ∙ ap (cond (eq_by_cmp name_cmp q k.items) (Some v.items)) (fin.get-from_entries nat_list_cmp_total (map named_entry es) q)))
+      ∙ ap (cond (eq_by_cmp name_cmp q k.items) (Some v.items))
+      (fin.get-from_entries nat_list_cmp_total (map named_entry es) q)))

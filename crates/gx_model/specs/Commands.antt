@@ -104,12 +104,12 @@ inserted f [] = f
 inserted f (key ∷ values) = fin.insert f key values
 
 -- the named fields are replaced; the key is field 0 and is never named
-abbrev pub changed : List Value → List Change → List Value
-changed values [] = values
-changed values (c ∷ cs) = changed (slice_set values (c.field - 1) c.value) cs
+abbrev pub with_changes : List Value → List Change → List Value
+with_changes values [] = values
+with_changes values (c ∷ cs) = with_changes (slice_set values (c.field - 1) c.value) cs
 
 abbrev pub updated : File → Value → List Change → File
-updated f key changes = fin.insert f key (changed (unwrap_or (fin.get f key) []) changes)
+updated f key changes = fin.insert f key (with_changes (unwrap_or (fin.get f key) []) changes)
 
 abbrev pub state_after : State → Command → State
 state_after s (command.Insert file values) = with_file s file (inserted (file_in s file) values)

@@ -45,19 +45,19 @@ with_working p s =
     { earlier = p.earlier; kept = p.kept; working = working_after p.working s; commits = p.commits }
 
 -- what comes after a command
-abbrev pub next_of : Schema → Playing → Command → Playing
-next_of schema p command.Begin =
+abbrev pub after_command : Schema → Playing → Command → Playing
+after_command schema p command.Begin =
     record { earlier = p.earlier; kept = p.kept; working = Some p.kept; commits = p.commits }
-next_of schema p command.Commit =
+after_command schema p command.Commit =
     record {
       earlier = p.earlier ++ p.kept ∷ [];
       kept = seen_state p;
       working = None;
       commits = next_count p.commits;
     }
-next_of schema p command.Abort =
+after_command schema p command.Abort =
     record { earlier = p.earlier; kept = p.kept; working = None; commits = p.commits }
-next_of schema p c = with_working p (next_state schema (seen_state p) c)
+after_command schema p c = with_working p (next_state schema (seen_state p) c)
 
 -- the text is the answer of a command
 abbrev pub IsAnswered : Schema → Playing → Command → List ℕ → Type 0

@@ -7,7 +7,7 @@ use Rattle.gx_commands.specs.Commands.{place_reason}
 use Rattle.gx_script.specs.Grammar.{IsLineOf}
 use Rattle.gx_commands.specs.Lines.{Lines, script_lines}
 use Rattle.gx_script.specs.Reading.{IsReading}
-use Rattle.gx_model.specs.Play.{Playing, End, stopped, end_at, end_text, is_inside, next_of, IsAnswered}
+use Rattle.gx_model.specs.Play.{Playing, End, stopped, end_at, end_text, is_inside, after_command, IsAnswered}
 
 -- a good line that may stand where the play is: the command that it means, its answer, and the play
 -- after it
@@ -17,7 +17,7 @@ pub record Step (schema : Schema) (p : Playing) (line answer : List ℕ)
   pub means : IsLineOf schema line command
   pub allowed : place_reason (is_inside p) command ≡ None
   pub answered : IsAnswered schema p command answer
-  pub next_is : next ≡ next_of schema p command
+  pub next_is : next ≡ after_command schema p command
 
 -- steps one after another: all their answers, and the play after the last
 abbrev pub Runs : Schema → Playing → List (List ℕ) → List ℕ → Playing → Type 0

@@ -1,10 +1,10 @@
 -- States: a finite map for each file and each link of a schema.
-use Rattle.std.specs.Prelude.{◌≡◌, ℕ, ◌<◌, ◌≤◌, List, length, filter, replicate, slice_index_or, Bool, is_some, IsTrue}
+use Rattle.std.specs.Prelude.{◌≡◌, ℕ, ◌<◌, ◌≤◌, List, length, filter, replicate, slice_index_or, is_some, IsTrue}
 use Rattle.std.specs.List.{AllByRecursion}
 use Rattle.std.specs.FinMap as fin
-use Rattle.std.specs.Ordering.{eq_by_cmp}
 use Rattle.gx_values.specs.declared.values.Value.{Value}
 use Rattle.gx_values.specs.Values.{value_cmp, Fits, AreFit}
+pub use Rattle.gx_values.specs.Links.{Link, is_same}
 use Rattle.gx_schema.specs.declared.schema.FileDef.{FileDef}
 use Rattle.gx_schema.specs.declared.schema.LinkDef.{LinkDef}
 use Rattle.gx_schema.specs.declared.schema.Schema.{Schema}
@@ -14,10 +14,6 @@ use Rattle.gx_schema.specs.Lookups.{file_at, link_at, key_kind, data_fields}
 -- a file: from the key of each record to its other values, in the order of the fields
 abbrev pub File : Type 0
 File = fin.FinMap value_cmp (List Value)
-
--- a link: from the key of each member to the key of its owner
-abbrev pub Link : Type 0
-Link = fin.FinMap value_cmp Value
 
 -- the files and the links of a schema, in its order
 pub record State : Type 0 where
@@ -41,10 +37,6 @@ empty_state schema =
       links = replicate (length schema.links) fin.empty;
     }
 
--- the values are one
-abbrev pub is_same : Value → Value → Bool
-is_same = eq_by_cmp value_cmp
-
 -- the pairs of member and owner with this owner
 abbrev pub pairs_of : Link → Value → List (Value × Value)
 pairs_of link owner = filter (λ pair. is_same pair.1 owner) (fin.entries link)
@@ -59,8 +51,8 @@ most_members = MOST_MEMBERS
 abbrev pub IsRowOf : FileDef → Row → Type 0
 IsRowOf file r = Fits (key_kind file) r.0 × AreFit (data_fields file) r.1
 
-abbrev pub IsFileOf : FileDef → File → Type 0
-IsFileOf file f = AllByRecursion (IsRowOf file) (fin.entries f)
+abbrev pub HasRowsOf : FileDef → File → Type 0
+HasRowsOf file f = AllByRecursion (IsRowOf file) (fin.entries f)
 
 -- both ends of each pair are records, and no owner has too many members
 pub record IsLinkOf (s : State) (def : LinkDef) (link : Link) : Type 0 where
@@ -73,5 +65,5 @@ pub record IsLinkOf (s : State) (def : LinkDef) (link : Link) : Type 0 where
 pub record IsValid (schema : Schema) (s : State) : Type 0 where
   pub files_many : length s.files ≡ length schema.files
   pub links_many : length s.links ≡ length schema.links
-  pub files : (i : ℕ) → i < length schema.files → IsFileOf (file_at schema i) (file_in s i)
+  pub files : (i : ℕ) → i < length schema.files → HasRowsOf (file_at schema i) (file_in s i)
   pub links : (i : ℕ) → i < length schema.links → IsLinkOf s (link_at schema i) (link_in s i)

@@ -9,9 +9,11 @@ use Rattle.gx_ports.specs.Keyed.{key_cmp}
 use Rattle.gx_ports.proofs.KeyLemmas.{same_key}
 
 -- they don't stand on the attached one
-off_name : (m : Moment) (name other : List ℕ) → m.shelf.name ≡ Some name → other ≢ name → device_at m other ≡ fin.get m.shelf.devices other
+off_name : (m : Moment) (name other : List ℕ) → m.shelf.name ≡ Some name → other ≢ name
+    → device_at m other ≡ fin.get m.shelf.devices other
 off_name m name other named differ =
-    let off : eq_by_cmp key_cmp other name ≡ false = false_from_ne_true (eq_by_cmp key_cmp other name)
+    let off : eq_by_cmp key_cmp other name ≡ false =
+    false_from_ne_true (eq_by_cmp key_cmp other name)
     (λ e. differ (same_key other name e)) in
     ap (λ n. fin.get (with_named n m.blocks m.shelf.devices) other) named
     ∙ fin.get-insert nat_list_cmp_total m.shelf.devices name m.blocks other

@@ -23,17 +23,22 @@ scaled m (suc q) (suc p) r s lt below =
 -- a digit in front of what is below the unit
 step : (m q r p s : ℕ) → r < m → s < m
     → nat_cmp (q * m + r) (p * m + s) ≡ ordering_then (nat_cmp q p) (nat_cmp r s)
-step m q r p s below under = elim (nat_cmp q p) as (λ o. o ≡ nat_cmp q p → nat_cmp (q * m + r) (p * m + s) ≡ ordering_then o (nat_cmp r s)) [
-  | Less ↦ λ e. cmp_less (q * m + r) (p * m + s) (scaled m q p r s (ranked q p Less e) below)
-  | Equal ↦ λ e. ap (λ n. nat_cmp (n * m + r) (p * m + s)) (ranked q p Equal e) ∙ same (p * m) r s
-  | Greater ↦ λ e. cmp_greater (q * m + r) (p * m + s) (scaled m p q s r (ranked q p Greater e) under)
-] refl
+step m q r p s below under =
+    elim (nat_cmp q p) as (λ o. o ≡ nat_cmp q p
+    → nat_cmp (q * m + r) (p * m + s) ≡ ordering_then o (nat_cmp r s)) [
+      | Less ↦ λ e. cmp_less (q * m + r) (p * m + s) (scaled m q p r s (ranked q p Less e) below)
+      | Equal ↦ λ e. ap (λ n. nat_cmp (n * m + r) (p * m + s)) (ranked q p Equal e)
+          ∙ same (p * m) r s
+      | Greater ↦ λ e. cmp_greater (q * m + r) (p * m + s)
+          (scaled m p q s r (ranked q p Greater e) under)
+    ] refl
   where
     same : (n r s : ℕ) → nat_cmp (n + r) (n + s) ≡ nat_cmp r s
     same n r s = elim (nat_cmp r s) as (λ o. o ≡ nat_cmp r s → nat_cmp (n + r) (n + s) ≡ o) [
       | Less ↦ λ e. let h : r < s = ranked r s Less e in cmp_less (n + r) (n + s) (omega arith)
       | Equal ↦ λ e. let h : r ≡ s = ranked r s Equal e in cmp_equal (n + r) (n + s) (omega arith)
-      | Greater ↦ λ e. let h : s < r = ranked r s Greater e in cmp_greater (n + r) (n + s) (omega arith)
+      | Greater ↦ λ e. let h : s < r = ranked r s Greater e in
+          cmp_greater (n + r) (n + s) (omega arith)
     ] refl
 
 grow : (m a b qa qb ra rb A B : ℕ) (o : Ordering) → o ≡ nat_cmp ra rb → ra < m → rb < m
@@ -76,11 +81,13 @@ pub front_order : (a b x y : List ℕ) → length a ≡ length b
 front_order [] [] x y e = refl
 front_order [] (d ∷ b) x y e = absurd (omega (arith, e))
 front_order (c ∷ a) [] x y e = absurd (omega (arith, e))
-front_order (c ∷ a) (d ∷ b) x y e = elim (nat_cmp c d) as (λ o. ordering_then o (slice_cmp nat_cmp (a ++ x) (b ++ y)) ≡ ordering_then (ordering_then o (slice_cmp nat_cmp a b)) (slice_cmp nat_cmp x y)) [
-  | Less ↦ refl
-  | Equal ↦ front_order a b x y (omega (arith, e))
-  | Greater ↦ refl
-]
+front_order (c ∷ a) (d ∷ b) x y e =
+    elim (nat_cmp c d) as (λ o. ordering_then o (slice_cmp nat_cmp (a ++ x) (b ++ y))
+    ≡ ordering_then (ordering_then o (slice_cmp nat_cmp a b)) (slice_cmp nat_cmp x y)) [
+      | Less ↦ refl
+      | Equal ↦ front_order a b x y (omega (arith, e))
+      | Greater ↦ refl
+    ]
 
 pub first_bytes : (n : ℕ) (l : List ℕ) → ((i : ℕ) → get_or l i 0 < 256) → (i : ℕ)
     → get_or (take n l) i 0 < 256

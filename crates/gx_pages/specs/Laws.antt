@@ -12,10 +12,10 @@ use Rattle.gx_journal.specs.State.{pages_told}
 use Rattle.gx_journal.specs.StateLaws.{calm_shows, calm_again}
 use Rattle.gx_journal.specs.declared.journal.Journal.{Journal}
 use Rattle.gx_journal.specs.Journal.{size_of, working_of, kept_of, content_of, head_blocks, IsCalm}
-use Rattle.gx_pages.specs.Owners.{owner_at, owners_of}
+use Rattle.gx_pages.specs.Owners.{owner_at, page_owners}
 use Rattle.gx_pages.specs.Paged.{StandsFor, kept_sheets}
 
-pub count_owners : (pages : List (List ℕ)) → length (owners_of pages) ≡ length pages
+pub count_owners : (pages : List (List ℕ)) → length (page_owners pages) ≡ length pages
 count_owners pages = length-map-range_with_len (owner_at pages) 0 (length pages)
 
 module _ {D : Type 0} {g : device.Ghosts D} where
@@ -34,7 +34,7 @@ module _ {D : Type 0} {g : device.Ghosts D} where
 
   -- each page has an owner and bytes
   pub many_pages : (j : Journal D g)
-      → (length (owners_of (working_of j)) ≡ size_of j) × (length (working_of j) ≡ size_of j)
+      → (length (page_owners (working_of j)) ≡ size_of j) × (length (working_of j) ≡ size_of j)
   many_pages j = (count_owners (working_of j) ∙ count_pages j, count_pages j)
 
   -- what calm means for blocks

@@ -7,7 +7,7 @@ use Rattle.gx_layout.specs.Layout.{Shows}
 use Rattle.gx_ports.specs.Sheets.{Sheets, Ground}
 use Rattle.gx_journal.specs.declared.journal.Journal.{Journal}
 use Rattle.gx_journal.specs.Journal.{device_of, content_of, size_of, working_of, kept_of, head_blocks, Keeps}
-use Rattle.gx_pages.specs.Owners.{owners_of, sheets_of}
+use Rattle.gx_pages.specs.Owners.{page_owners, sheets_of}
 use Rattle.gx_ports.specs.declared.pages.TheConstants.{TABLE_PAGES}
 use Rattle.gx_layout.specs.declared.formatting.TheConstants.{HEAD_BLOCKS}
 
@@ -15,7 +15,7 @@ use Rattle.gx_layout.specs.declared.formatting.TheConstants.{HEAD_BLOCKS}
 pub record StandsFor (head : List (List ℕ)) (sheets : Sheets)
     (blocks : List (List ℕ)) : Type 0 where
   pub shows : Shows head sheets.bytes blocks
-  pub owners : sheets.owners ≡ owners_of sheets.bytes
+  pub owners : sheets.owners ≡ page_owners sheets.bytes
 
 module _ {D : Type 0} {g : device.Ghosts D} where
   abbrev pub working_sheets : Journal D g → Sheets

@@ -4,7 +4,7 @@ ghost use Rattle.std.specs.Int.{w16, to_be_bytes};
 ghost use Rattle.gx_bytes.specs.Parts.{overwritten};
 ghost use Rattle.gx_bytes.specs.declared.page.TheConstants.{PAGE_LEN};
 ghost use Rattle.gx_ports.specs.declared.pages.TheConstants.{OWNERS};
-ghost use Rattle.gx_pages.specs.Owners.{number_of, IsFreeBetween, IsClear};
+ghost use Rattle.gx_pages.specs.Owners.{owner_number, IsFreeBetween, IsClear};
 
 use gx_bytes::overwrite;
 use gx_ports::{OWNERS, PAGE_LEN, TABLE_PAGES};
@@ -30,7 +30,7 @@ fn place_of(page: u32) -> usize
 /// The number of a page.
 pub(crate) fn number(table: &[u8], page: u32) -> u16
     requires { length table.now ≡ PAGE_LEN }
-    ensures { result ≡ number_of table.now page }
+    ensures { result ≡ owner_number table.now page }
 {
     let place = place_of(page);
     u16::from_be_bytes([table[place], table[place + 1]])
@@ -40,7 +40,8 @@ pub(crate) fn number(table: &[u8], page: u32) -> u16
 pub(crate) fn read_numbers(table: &[u8], into: &mut [u16])
     requires table { length table.now ≡ PAGE_LEN }
     requires count { length into.old ≡ OWNERS }
-    ensures numbers { (i : ℕ) → i < OWNERS → slice_get into.new i ≡ Some (number_of table.now i) }
+    ensures numbers { (i : ℕ) → i < OWNERS →
+        slice_get into.new i ≡ Some (owner_number table.now i) }
     ensures count { length into.new ≡ OWNERS }
 {
     for page in 0..NUMBERS {

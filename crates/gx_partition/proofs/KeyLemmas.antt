@@ -9,18 +9,21 @@ use Rattle.std.specs.Cmp.Lexicographic.{slice_cmp}
 use Rattle.gx_laws.proofs.OrderingLemmas.{cmp_less}
 use Rattle.gx_order.proofs.OrderLemmas.{bytes_order, front_order}
 
-then_then : (a b c : Ordering) → ordering_then a (ordering_then b c) ≡ ordering_then (ordering_then a b) c
+then_then : (a b c : Ordering)
+    → ordering_then a (ordering_then b c) ≡ ordering_then (ordering_then a b) c
 then_then Less b c = refl
 then_then Equal b c = refl
 then_then Greater b c = refl
 
 -- two lists are compared with a third one after the other
 pub joined_cmp : (a b c : List ℕ) → slice_cmp nat_cmp (a ++ b) c
-    ≡ ordering_then (slice_cmp nat_cmp a (take (length a) c)) (slice_cmp nat_cmp b (drop (length a) c))
+    ≡ ordering_then (slice_cmp nat_cmp a (take (length a) c))
+    (slice_cmp nat_cmp b (drop (length a) c))
 joined_cmp [] b c = refl
 joined_cmp (x ∷ a) b [] = refl
 joined_cmp (x ∷ a) b (y ∷ c) = ap (ordering_then (nat_cmp x y)) (joined_cmp a b c)
-    ∙ then_then (nat_cmp x y) (slice_cmp nat_cmp a (take (length a) c)) (slice_cmp nat_cmp b (drop (length a) c))
+    ∙ then_then (nat_cmp x y) (slice_cmp nat_cmp a (take (length a) c))
+    (slice_cmp nat_cmp b (drop (length a) c))
 
 -- the front of a list that is no longer than the first part
 pub front_of_first : (n : ℕ) (a b : List ℕ) → n ≤ length a → take n (a ++ b) ≡ take n a
@@ -52,9 +55,12 @@ least_drop zero (suc m) (x ∷ xs) e = absurd (omega (arith, e))
 least_drop (suc n) (suc m) (x ∷ xs) e = least_drop n m xs (omega (arith, e))
 
 -- a text and the 0 behind it, one after the other
-pub text_cmp : (text bytes : List ℕ) (n : ℕ) → n ≡ min (length text) (length bytes) → ordering_then (slice_cmp nat_cmp text (take n bytes)) (slice_cmp nat_cmp (0 ∷ []) (drop n bytes)) ≡ slice_cmp nat_cmp (text ++ 0 ∷ []) bytes
+pub text_cmp : (text bytes : List ℕ) (n : ℕ) → n ≡ min (length text) (length bytes)
+    → ordering_then (slice_cmp nat_cmp text (take n bytes))
+    (slice_cmp nat_cmp (0 ∷ []) (drop n bytes)) ≡ slice_cmp nat_cmp (text ++ 0 ∷ []) bytes
 text_cmp text bytes n least =
-    (λ i. ordering_then (slice_cmp nat_cmp text (least_take n (length text) bytes least i)) (slice_cmp nat_cmp (0 ∷ []) (least_drop n (length text) bytes least i)))
+    (λ i. ordering_then (slice_cmp nat_cmp text (least_take n (length text) bytes least i))
+    (slice_cmp nat_cmp (0 ∷ []) (least_drop n (length text) bytes least i)))
     ∙ sym (joined_cmp text (0 ∷ []) bytes)
 
 pub first_counts : (o p : Ordering) → (o ≡ Equal → ⊥) → o ≡ ordering_then o p
@@ -73,6 +79,7 @@ pub number_cmp : (n m : ℕ) (bytes rest : List ℕ) → n < 2 ^ 64 → m < 2 ^ 
     ≡ slice_cmp nat_cmp (to_be_bytes w64 n) bytes
 number_cmp n m bytes rest small below is =
     sym (ap (slice_cmp nat_cmp (to_be_bytes w64 n)) is
-    ∙ ap (λ (l : List ℕ). slice_cmp nat_cmp l (to_be_bytes w64 m ++ rest)) (sym (append-nil (to_be_bytes w64 n)))
+    ∙ ap (λ (l : List ℕ). slice_cmp nat_cmp l (to_be_bytes w64 m ++ rest))
+    (sym (append-nil (to_be_bytes w64 n)))
     ∙ front_order (to_be_bytes w64 n) (to_be_bytes w64 m) [] rest refl
     ∙ (λ i. ordering_then (bytes_order n m small below i) (no_bytes rest i)))

@@ -24,17 +24,23 @@ module _ {A : Type 0} (p : A → Bool) where
   passing : Bool → A → List A → ℕ
   passing b x xs = length (cond b (x ∷ filter p xs) (filter p xs))
 
-  pub count_is : (xs : List A) (i : ℕ) → i ≤ length xs → IsPartitionPoint (λ y. p y ≡ true) (λ y. p y ≡ false) xs i → length (filter p xs) ≡ i
+  pub count_is : (xs : List A) (i : ℕ) → i ≤ length xs
+      → IsPartitionPoint (λ y. p y ≡ true) (λ y. p y ≡ false) xs i → length (filter p xs) ≡ i
   unfolding passing
   count_is [] i le point = omega arith
   count_is (x ∷ xs) zero le point =
       let first : p x ≡ false = point.1 0 x (omega arith) (omega arith) in
-      ap (λ b. passing b x xs) first ∙ count_is xs zero (omega arith) ((λ k d low high. absurd (omega arith)), (λ k d low high. point.1 (suc k) d (omega arith) (omega arith)))
+      ap (λ b. passing b x xs) first
+      ∙ count_is xs zero (omega arith)
+      ((λ k d low high. absurd (omega arith)), (λ k d low high. point.1 (suc k) d (omega arith) (omega arith)))
   count_is (x ∷ xs) (suc i) le point =
       let first : p x ≡ true = point.0 0 x (omega arith) (omega arith) in
-      ap (λ b. passing b x xs) first ∙ ap suc (count_is xs i (omega arith) ((λ k d low high. point.0 (suc k) d (omega arith) (omega arith)), (λ k d low high. point.1 (suc k) d (omega arith) (omega arith))))
+      ap (λ b. passing b x xs) first
+      ∙ ap suc (count_is xs i (omega arith)
+      ((λ k d low high. point.0 (suc k) d (omega arith) (omega arith)), (λ k d low high. point.1 (suc k) d (omega arith) (omega arith))))
 
-at_most : (x y v : Value) → value_cmp x y ≡ Less → is_le (value_cmp y v) ≡ true → is_le (value_cmp x v) ≡ true
+at_most : (x y v : Value) → value_cmp x y ≡ Less → is_le (value_cmp y v) ≡ true
+    → is_le (value_cmp x v) ≡ true
 at_most x y v less le = by_order (value_cmp y v) refl le
   where
     by_order : (o : Ordering) → o ≡ value_cmp y v → is_le o ≡ true → is_le (value_cmp x v) ≡ true
@@ -42,18 +48,23 @@ at_most x y v less le = by_order (value_cmp y v) refl le
     by_order Equal is e = ap is_le (ap (value_cmp x) (sym (value_cmp_same y v (sym is))) ∙ less)
     by_order Greater is e = cc
 
-pub each_at : {A : Type 0} (P : A → Type 0) (xs : List A) (i : ℕ) (d : A) → AllByRecursion P xs → i < length xs → P (get_or xs i d)
+pub each_at : {A : Type 0} (P : A → Type 0) (xs : List A) (i : ℕ) (d : A) → AllByRecursion P xs
+    → i < length xs → P (get_or xs i d)
 each_at P [] i d all lt = absurd (omega arith)
 each_at P (x ∷ xs) zero d all lt = all.0
 each_at P (x ∷ xs) (suc i) d all lt = each_at P xs i d all.1 (omega arith)
 
-pub parted : (bounds : List Value) (v : Value) → IsStrictlySortedBy value_cmp bounds → IsPartitionedBy (λ bound. is_le (value_cmp bound v)) bounds
+pub parted : (bounds : List Value) (v : Value) → IsStrictlySortedBy value_cmp bounds
+    → IsPartitionedBy (λ bound. is_le (value_cmp bound v)) bounds
 unfolding IsStrictlySortedBy
 parted [] v sorted i j d le lt up = absurd (omega arith)
 parted (x ∷ xs) v sorted zero zero d le lt up = up
-parted (x ∷ xs) v sorted zero (suc j) d le lt up = at_most x (get_or xs j d) v (each_at (λ y. value_cmp x y ≡ Less) xs j d sorted.0 (omega arith)) up
+parted (x ∷ xs) v sorted zero (suc j) d le lt up =
+    at_most x (get_or xs j d) v (each_at (λ y. value_cmp x y ≡ Less) xs j d sorted.0 (omega arith))
+    up
 parted (x ∷ xs) v sorted (suc i) zero d le lt up = absurd (omega arith)
-parted (x ∷ xs) v sorted (suc i) (suc j) d le lt up = parted xs v sorted.1 i j d (omega arith) (omega arith) up
+parted (x ∷ xs) v sorted (suc i) (suc j) d le lt up =
+    parted xs v sorted.1 i j d (omega arith) (omega arith) up
 
 -- ---- records
 
@@ -61,6 +72,8 @@ pub all_sized : (k : Kind) (vs : List Value) → AllByRecursion (Fits k) vs → 
 all_sized k [] all = tt
 all_sized k (v ∷ vs) all = (fit_sized k v all.0, all_sized k vs all.1)
 
-pub in_record : (at : Where) (form : Form) (r : Rec) → IsPlace at form → IsOf form r → IsInRecord at r
+pub in_record : (at : Where) (form : Form) (r : Rec) → IsPlace at form → IsOf form r
+    → IsInRecord at r
 in_record (Key i) form r place is = omega (arith, place, values_count form.keys r.key is.key)
-in_record (Rest i) form r place is = omega (arith, place, values_count form.fields r.fields is.fields)
+in_record (Rest i) form r place is =
+    omega (arith, place, values_count form.fields r.fields is.fields)

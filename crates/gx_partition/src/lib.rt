@@ -1,5 +1,5 @@
-//! The transformation `partition`: each record goes whole to one of several children, by the value
-//! of one field.
+//! The layer `partition`: each record goes whole to one of several children, by the value of one
+//! field.
 #![tactic(auto)]
 
 mod layer;

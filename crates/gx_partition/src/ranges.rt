@@ -5,11 +5,11 @@ ghost use Rattle.std.specs.Ordering.{nat_cmp, is_le};
 ghost use Rattle.std.specs.Cmp.Lexicographic.{slice_cmp};
 ghost use Rattle.std.specs.List.Sorted.{IsStrictlySortedBy, IsPartitionedBy, IsPartitionPoint};
 ghost use Rattle.gx_values.specs.Values.{value_cmp};
-ghost use Rattle.gx_values.specs.Keys.{bytes_of, rank_of};
+ghost use Rattle.gx_values.specs.Keys.{bytes_of};
 ghost use Rattle.gx_partition.specs.Bounds.{child_of, lower_of, upper_of, ends_before, begins_after};
 
 use gx_order::compare_bytes;
-use gx_values::{KeyBuf, Value, Values, compare};
+use gx_values::{KeyBuf, Value, Values, compare, rank};
 use std::cmp::Ordering;
 
 /// The child of the records with this value: how many bounds are at or below it.
@@ -174,13 +174,3 @@ fn compare_text_front(text: &[u8], bytes: &[u8]) -> Ordering
 
 // How many bytes the key of an int has.
 const INT_BYTES: usize = 8;
-
-// How many ints are below 0.
-const HALF: u64 = 1 << 63;
-
-// How many ints are below this one.
-fn rank(n: i64) -> u64
-    ensures { result ≡ rank_of n }
-{
-    n.cast_unsigned().wrapping_add(HALF)
-}

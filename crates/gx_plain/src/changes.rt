@@ -4,7 +4,7 @@ ghost use Rattle.gx_values.specs.Values.{AreSized, IsSized};
 ghost use Rattle.gx_schema.specs.WellFormed.{IsWellFormed};
 ghost use Rattle.gx_commands.specs.Commands.{IsOfSchema};
 ghost use Rattle.gx_commands.specs.declared.command.Command.TheVariants as command;
-ghost use Rattle.gx_model.specs.Commands.{changed, next_state, state_after};
+ghost use Rattle.gx_model.specs.Commands.{with_changes, next_state, state_after};
 ghost use Rattle.gx_plain.specs.Plain.{HasParts, AreSizedChanges};
 
 use crate::refusals::refusal;
@@ -107,7 +107,7 @@ fn update(
 fn changed_values(alloc: Global, values: Values, changes: &[Change]) -> Result<Values, NoMemory>
     requires values { AreSized values }
     requires changes { AreSizedChanges changes.now }
-    ensures changed { IfOk result (λ after. after ≡ changed values changes.now) }
+    ensures changed { IfOk result (λ after. after ≡ with_changes values changes.now) }
     ensures sized { IfOk result AreSized }
 {
     let mut values = values.0;

@@ -6,7 +6,7 @@ ghost use Rattle.gx_commands.specs.declared.command.NoCommand.TheVariants.{Bad};
 ghost use Rattle.gx_commands.specs.Commands.{IsOfSchema, place_reason};
 ghost use Rattle.gx_script.specs.Grammar.{IsLineOf};
 ghost use Rattle.gx_model.specs.Commands.{IsAnswer, next_state};
-ghost use Rattle.gx_model.specs.Play.{Playing, IsAnswered, end_at, end_text, next_of, seen_state, start_at, with_working};
+ghost use Rattle.gx_model.specs.Play.{Playing, IsAnswered, end_at, end_text, after_command, seen_state, start_at, with_working};
 ghost use Rattle.gx_model.specs.Runs.{IsBadLine, IsPlayTextFrom};
 ghost use Rattle.gx_model.specs.States.{empty_state};
 ghost use Rattle.gx_plain.specs.Plain.{IsMoment, IsOf, IsLineDone, IsPlayedOut, end_of};
@@ -171,7 +171,7 @@ fn step(
     ensures answered { (p : Playing) → IsMoment moment.old p →
         IfOk result (IsAnswered schema.now p command.now) }
     ensures at { (p : Playing) → IsMoment moment.old p →
-        OnOk result (IsMoment moment.new (next_of schema.now p command.now)) }
+        OnOk result (IsMoment moment.new (after_command schema.now p command.now)) }
     ensures of_schema { OnOk result (IsOf schema.now moment.new) }
 {
     match command {

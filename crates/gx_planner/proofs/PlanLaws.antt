@@ -14,7 +14,7 @@ use Rattle.gx_commands.specs.declared.command.Cond.{Cond}
 use Rattle.gx_commands.specs.declared.command.Find.{Find}
 use Rattle.gx_planner.specs.declared.plans.Plan.{Plan}
 use Rattle.gx_planner.specs.declared.plans.Plan.TheVariants.{Key, Link, Index, KeyRange, IndexRange, Scan}
-use Rattle.gx_planner.specs.Plans.{rank_of, first_of, by_or, plan_by_condition, plan_rank, number_of, HasRank, Applies, IsLeast}
+use Rattle.gx_planner.specs.Plans.{condition_rank, first_of, by_or, plan_by_condition, plan_rank, number_of, HasRank, Applies, IsLeast}
 
 some_cond : Cond
 some_cond = record { field = 0; op = op.Equal; bound = value.Int (pos 0) }
@@ -26,24 +26,31 @@ not_some o e h = cc
 
 module _ (q : Find) (indexed : List Bool) (rank : ℕ) where
   abbrev has : Cond → Bool
-  has c = eqb (rank_of indexed c) rank
+  has c = eqb (condition_rank indexed c) rank
 
   -- where a condition has the rank, it passes the test
-  passes : (k : ℕ) (d : Cond) → k < length q.conds → HasRank q indexed rank k → has (get_or q.conds k d) ≡ true
+  passes : (k : ℕ) (d : Cond) → k < length q.conds → HasRank q indexed rank k
+      → has (get_or q.conds k d) ≡ true
   passes k d lt h =
-      let same : Some (rank_of indexed (get_or q.conds k d)) ≡ Some rank = sym (ap (option_map (rank_of indexed)) (slice_get-get_or q.conds k d lt)) ∙ h in
-      eq-eqb (rank_of indexed (get_or q.conds k d)) rank (same_Some (rank_of indexed (get_or q.conds k d)) rank same)
+      let same : Some (condition_rank indexed (get_or q.conds k d)) ≡ Some rank =
+      sym (ap (option_map (condition_rank indexed)) (slice_get-get_or q.conds k d lt)) ∙ h in
+      eq-eqb (condition_rank indexed (get_or q.conds k d)) rank
+      (same_Some (condition_rank indexed (get_or q.conds k d)) rank same)
 
   pub first_has : (n : ℕ) → first_of rank indexed q.conds ≡ Some n → HasRank q indexed rank n
   first_has n e =
       let p = position-Some has q.conds n some_cond e in
-      ap (option_map (rank_of indexed)) (slice_get-get_or q.conds n some_cond p.0) ∙ ap (λ (r : ℕ). Some r) (eqb-true (rank_of indexed (get_or q.conds n some_cond)) rank p.1)
+      ap (option_map (condition_rank indexed)) (slice_get-get_or q.conds n some_cond p.0)
+      ∙ ap (λ (r : ℕ). Some r)
+      (eqb-true (condition_rank indexed (get_or q.conds n some_cond)) rank p.1)
 
-  pub first_before : (n : ℕ) → first_of rank indexed q.conds ≡ Some n → (k : ℕ) → HasRank q indexed rank k → n ≤ k
+  pub first_before : (n : ℕ) → first_of rank indexed q.conds ≡ Some n → (k : ℕ)
+      → HasRank q indexed rank k → n ≤ k
   first_before n e k h =
       let p = position-Some has q.conds n some_cond e in
       elim (cases_lt k n) [
-        | inl lt ↦ let t = passes k some_cond (omega (arith, p.0)) h in let f = p.2 k lt in absurd cc
+        | inl lt ↦ let t = passes k some_cond (omega (arith, p.0)) h in let f = p.2 k lt in
+            absurd cc
         | inr le ↦ le
       ]
 
@@ -52,7 +59,8 @@ module _ (q : Find) (indexed : List Bool) (rank : ℕ) where
     | inl w ↦
         let t = passes k some_cond w.1 h in
         let f = fails_before_first has q.conds k some_cond (omega (arith, w.1)) in cc
-    | inr w ↦ let none : None ≡ Some rank = sym (ap (option_map (rank_of indexed)) w.1) ∙ h in cc
+    | inr w ↦ let none : None ≡ Some rank = sym (ap (option_map (condition_rank indexed)) w.1)
+        ∙ h in cc
   ]
 
   none_past : position has q.conds ≡ None → length q.conds ≤ position_or_len has q.conds
@@ -86,7 +94,8 @@ module _ (q : Find) (indexed : List Bool) where
   from_2 no_key (IndexRange m) h = omega arith
   from_2 no_key Scan h = omega arith
 
-  from_3 : Lacks 1 → (IsSome q.of → ⊥) → (other : Plan) → Applies q indexed other → 3 ≤ plan_rank other
+  from_3 : Lacks 1 → (IsSome q.of → ⊥) → (other : Plan) → Applies q indexed other
+      → 3 ≤ plan_rank other
   from_3 no_key no_of (Key m) h = absurd (no_key m h)
   from_3 no_key no_of Link h = absurd (no_of h)
   from_3 no_key no_of (Index m) h = omega arith
@@ -94,7 +103,8 @@ module _ (q : Find) (indexed : List Bool) where
   from_3 no_key no_of (IndexRange m) h = omega arith
   from_3 no_key no_of Scan h = omega arith
 
-  from_4 : Lacks 1 → (IsSome q.of → ⊥) → Lacks 3 → (other : Plan) → Applies q indexed other → 4 ≤ plan_rank other
+  from_4 : Lacks 1 → (IsSome q.of → ⊥) → Lacks 3 → (other : Plan) → Applies q indexed other
+      → 4 ≤ plan_rank other
   from_4 no_key no_of no_index (Key m) h = absurd (no_key m h)
   from_4 no_key no_of no_index Link h = absurd (no_of h)
   from_4 no_key no_of no_index (Index m) h = absurd (no_index m h)
@@ -102,7 +112,8 @@ module _ (q : Find) (indexed : List Bool) where
   from_4 no_key no_of no_index (IndexRange m) h = omega arith
   from_4 no_key no_of no_index Scan h = omega arith
 
-  from_5 : Lacks 1 → (IsSome q.of → ⊥) → Lacks 3 → Lacks 4 → (other : Plan) → Applies q indexed other → 5 ≤ plan_rank other
+  from_5 : Lacks 1 → (IsSome q.of → ⊥) → Lacks 3 → Lacks 4 → (other : Plan)
+      → Applies q indexed other → 5 ≤ plan_rank other
   from_5 no_key no_of no_index no_range (Key m) h = absurd (no_key m h)
   from_5 no_key no_of no_index no_range Link h = absurd (no_of h)
   from_5 no_key no_of no_index no_range (Index m) h = absurd (no_index m h)
@@ -110,7 +121,8 @@ module _ (q : Find) (indexed : List Bool) where
   from_5 no_key no_of no_index no_range (IndexRange m) h = omega arith
   from_5 no_key no_of no_index no_range Scan h = omega arith
 
-  from_6 : Lacks 1 → (IsSome q.of → ⊥) → Lacks 3 → Lacks 4 → Lacks 5 → (other : Plan) → Applies q indexed other → 6 ≤ plan_rank other
+  from_6 : Lacks 1 → (IsSome q.of → ⊥) → Lacks 3 → Lacks 4 → Lacks 5 → (other : Plan)
+      → Applies q indexed other → 6 ≤ plan_rank other
   from_6 no_key no_of no_index no_range no_other (Key m) h = absurd (no_key m h)
   from_6 no_key no_of no_index no_range no_other Link h = absurd (no_of h)
   from_6 no_key no_of no_index no_range no_other (Index m) h = absurd (no_index m h)
@@ -118,7 +130,8 @@ module _ (q : Find) (indexed : List Bool) where
   from_6 no_key no_of no_index no_range no_other (IndexRange m) h = absurd (no_other m h)
   from_6 no_key no_of no_index no_range no_other Scan h = omega arith
 
-  key_first : (n : ℕ) → IsFirst 1 n → (other : Plan) → Applies q indexed other → plan_rank other ≡ 1 → n ≤ number_of other
+  key_first : (n : ℕ) → IsFirst 1 n → (other : Plan) → Applies q indexed other → plan_rank other ≡ 1
+      → n ≤ number_of other
   key_first n first (Key m) h e = first m h
   key_first n first Link h e = absurd (omega arith)
   key_first n first (Index m) h e = absurd (omega arith)
@@ -126,7 +139,8 @@ module _ (q : Find) (indexed : List Bool) where
   key_first n first (IndexRange m) h e = absurd (omega arith)
   key_first n first Scan h e = absurd (omega arith)
 
-  index_first : (n : ℕ) → IsFirst 3 n → (other : Plan) → Applies q indexed other → plan_rank other ≡ 3 → n ≤ number_of other
+  index_first : (n : ℕ) → IsFirst 3 n → (other : Plan) → Applies q indexed other
+      → plan_rank other ≡ 3 → n ≤ number_of other
   index_first n first (Index m) h e = first m h
   index_first n first (Key m) h e = absurd (omega arith)
   index_first n first Link h e = absurd (omega arith)
@@ -134,7 +148,8 @@ module _ (q : Find) (indexed : List Bool) where
   index_first n first (IndexRange m) h e = absurd (omega arith)
   index_first n first Scan h e = absurd (omega arith)
 
-  range_first : (n : ℕ) → IsFirst 4 n → (other : Plan) → Applies q indexed other → plan_rank other ≡ 4 → n ≤ number_of other
+  range_first : (n : ℕ) → IsFirst 4 n → (other : Plan) → Applies q indexed other
+      → plan_rank other ≡ 4 → n ≤ number_of other
   range_first n first (KeyRange m) h e = first m h
   range_first n first (Key m) h e = absurd (omega arith)
   range_first n first Link h e = absurd (omega arith)
@@ -142,7 +157,8 @@ module _ (q : Find) (indexed : List Bool) where
   range_first n first (IndexRange m) h e = absurd (omega arith)
   range_first n first Scan h e = absurd (omega arith)
 
-  index_range_first : (n : ℕ) → IsFirst 5 n → (other : Plan) → Applies q indexed other → plan_rank other ≡ 5 → n ≤ number_of other
+  index_range_first : (n : ℕ) → IsFirst 5 n → (other : Plan) → Applies q indexed other
+      → plan_rank other ≡ 5 → n ≤ number_of other
   index_range_first n first (IndexRange m) h e = first m h
   index_range_first n first (Key m) h e = absurd (omega arith)
   index_range_first n first Link h e = absurd (omega arith)
@@ -165,7 +181,8 @@ module _ (q : Find) (indexed : List Bool) where
     abbrev lacks_key : Lacks 1
     lacks_key = none_has q indexed 1 no_key
 
-    by_index_range : first_of 3 indexed q.conds ≡ None → first_of 4 indexed q.conds ≡ None → (o : Option ℕ) → first_of 5 indexed q.conds ≡ o → IsGood (by_or IndexRange o Scan)
+    by_index_range : first_of 3 indexed q.conds ≡ None → first_of 4 indexed q.conds ≡ None
+        → (o : Option ℕ) → first_of 5 indexed q.conds ≡ o → IsGood (by_or IndexRange o Scan)
     by_index_range c d (Some n) e = record {
       applies = first_has q indexed 5 n e;
       least = record { rank = from_5 lacks_key no_of (none_has q indexed 3 c) (none_has q indexed 4 d); number = index_range_first n (first_before q indexed 5 n e) };
@@ -175,14 +192,18 @@ module _ (q : Find) (indexed : List Bool) where
       least = record { rank = from_6 lacks_key no_of (none_has q indexed 3 c) (none_has q indexed 4 d) (none_has q indexed 5 e); number = λ other h same. omega arith };
     }
 
-    by_range : first_of 3 indexed q.conds ≡ None → (o : Option ℕ) → first_of 4 indexed q.conds ≡ o → IsGood (by_or KeyRange o (by_or IndexRange (first_of 5 indexed q.conds) Scan))
+    by_range : first_of 3 indexed q.conds ≡ None → (o : Option ℕ) → first_of 4 indexed q.conds ≡ o
+        → IsGood (by_or KeyRange o (by_or IndexRange (first_of 5 indexed q.conds) Scan))
     by_range c (Some n) e = record {
       applies = first_has q indexed 4 n e;
       least = record { rank = from_4 lacks_key no_of (none_has q indexed 3 c); number = range_first n (first_before q indexed 4 n e) };
     }
     by_range c None e = by_index_range c e (first_of 5 indexed q.conds) refl
 
-    by_index : (o : Option ℕ) → first_of 3 indexed q.conds ≡ o → IsGood (by_or Index o (by_or KeyRange (first_of 4 indexed q.conds) (by_or IndexRange (first_of 5 indexed q.conds) Scan)))
+    by_index : (o : Option ℕ) → first_of 3 indexed q.conds ≡ o
+        → IsGood (by_or Index o
+        (by_or KeyRange (first_of 4 indexed q.conds)
+        (by_or IndexRange (first_of 5 indexed q.conds) Scan)))
     by_index (Some n) e = record {
       applies = first_has q indexed 3 n e;
       least = record { rank = from_3 lacks_key no_of; number = index_first n (first_before q indexed 3 n e) };

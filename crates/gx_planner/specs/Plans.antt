@@ -24,8 +24,8 @@ abbrev pub is_indexed : List Bool → ℕ → Bool
 is_indexed indexed field = unwrap_or (slice_get indexed field) false
 
 -- the rank of the plan by a condition, where these fields are indexed; field 0 is the key
-abbrev pub rank_of : List Bool → Cond → ℕ
-rank_of indexed c =
+abbrev pub condition_rank : List Bool → Cond → ℕ
+condition_rank indexed c =
     if c.field == 0 then rank_by 1 4 c.op
     else if is_indexed indexed c.field then rank_by 3 5 c.op
     else 6
@@ -34,7 +34,7 @@ rank_of indexed c =
 
 -- the number of the first condition of this rank
 abbrev pub first_of : ℕ → List Bool → List Cond → Option ℕ
-first_of rank indexed conds = position (λ c. rank_of indexed c == rank) conds
+first_of rank indexed conds = position (λ c. condition_rank indexed c == rank) conds
 
 -- the plan by this condition, or else another one
 abbrev pub by_or : (ℕ → Plan) → Option ℕ → Plan → Plan
@@ -72,7 +72,8 @@ number_of _ = 0
 
 -- the condition of this number has this rank
 abbrev pub HasRank : Find → List Bool → ℕ → ℕ → Type 0
-HasRank q indexed rank number = option_map (rank_of indexed) (slice_get q.conds number) ≡ Some rank
+HasRank q indexed rank number =
+    option_map (condition_rank indexed) (slice_get q.conds number) ≡ Some rank
 
 -- the plan can be followed
 abbrev pub Applies : Find → List Bool → Plan → Type 0

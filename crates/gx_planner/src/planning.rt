@@ -1,7 +1,7 @@
 // The plan of a `find`.
 ghost use Rattle.std.specs.Prelude.{◌≡◌, ◌^◌, ◌<◌, length, IfSome};
 ghost use Rattle.std.specs.List.{position};
-ghost use Rattle.gx_planner.specs.Plans.{rank_of, is_indexed, rank_by, plan_by_condition, first_of, least_plan, Applies, IsLeast};
+ghost use Rattle.gx_planner.specs.Plans.{condition_rank, is_indexed, rank_by, plan_by_condition, first_of, least_plan, Applies, IsLeast};
 
 use crate::plans::Plan;
 use gx_commands::{Cond, Find};
@@ -76,7 +76,7 @@ fn place_of(rank: u8, conds: &[Cond], indexed: &[bool]) -> Option<usize>
 
 // The rank of the plan by a condition.
 fn rank_of(cond: &Cond, indexed: &[bool]) -> u8
-    ensures { result ≡ rank_of indexed.now cond.now }
+    ensures { result ≡ condition_rank indexed.now cond.now }
 {
     if cond.field == 0 {
         return rank_by(cond.op, KEY, KEY_RANGE);

@@ -22,17 +22,22 @@ use Rattle.gx_play.specs.Plays.{IsCommandPlayed, IsLinePlayed, IsCommandGivenUp,
 use Rattle.gx_device.proofs.PrefixLemmas.{prefix_same, prefix_twice}
 
 -- the engine stands so with answers beside it
-pub at_beside : {S : Type 0} (g : Ghosts S) (to : Answers) (p : Playing) (e : Engine S) (out : List ℕ)
+pub at_beside : {S : Type 0} (g : Ghosts S) (to : Answers) (p : Playing) (e : Engine S)
+    (out : List ℕ)
     → IsAt g p e → IsAt (beside g to) p (with_answers e out)
-at_beside g to p e out at = record { stands = at.stands; whole_is = at.whole_is; kept_whole_is = at.kept_whole_is }
+at_beside g to p e out at =
+    record { stands = at.stands; whole_is = at.whole_is; kept_whole_is = at.kept_whole_is }
 
-pub at_alone : {S : Type 0} (g : Ghosts S) (to : Answers) (p : Playing) (e : Engine S) (out : List ℕ)
+pub at_alone : {S : Type 0} (g : Ghosts S) (to : Answers) (p : Playing) (e : Engine S)
+    (out : List ℕ)
     → IsAt (beside g to) p (with_answers e out) → IsAt g p e
-at_alone g to p e out at = record { stands = at.stands; whole_is = at.whole_is; kept_whole_is = at.kept_whole_is }
+at_alone g to p e out at =
+    record { stands = at.stands; whole_is = at.whole_is; kept_whole_is = at.kept_whole_is }
 
 -- ---- what stays of the engine
 
-pub keeps_same : {S : Type 0} (g : Ghosts S) (to : Answers) (e : Engine S) → IsReady g e → KeepsPlayed g to e e
+pub keeps_same : {S : Type 0} (g : Ghosts S) (to : Answers) (e : Engine S) → IsReady g e
+    → KeepsPlayed g to e e
 keeps_same g to e ready = record {
   schema = refl;
   built = refl;
@@ -44,7 +49,8 @@ keeps_same g to e ready = record {
   silent = λ kept. record { said = refl; shelf = refl; script = refl; aside = refl };
 }
 
-pub keeps_then : {S : Type 0} (g : Ghosts S) (to : Answers) (a b c : Engine S) → KeepsPlayed g to a b
+pub keeps_then : {S : Type 0} (g : Ghosts S) (to : Answers) (a b c : Engine S)
+    → KeepsPlayed g to a b
     → KeepsPlayed g to b c → KeepsPlayed g to a c
 keeps_then g to a b c p q = record {
   schema = q.schema ∙ p.schema;
@@ -62,8 +68,10 @@ keeps_then g to a b c p q = record {
 
 -- ---- the line of the command
 
-pub line_played : {S : Type 0} (g : Ghosts S) (to : Answers) (p : Playing) (line : List ℕ) (c : Command)
-    (old new : Engine S) (out now : List ℕ) → IsAt g p old → IsLineOf (schema_of old) line c → IsDue old c
+pub line_played : {S : Type 0} (g : Ghosts S) (to : Answers) (p : Playing) (line : List ℕ)
+    (c : Command)
+    (old new : Engine S) (out now : List ℕ) → IsAt g p old → IsLineOf (schema_of old) line c
+    → IsDue old c
     → IsCommandPlayed (beside g to) p c (with_answers old out) (with_answers new now)
     → IsLinePlayed (beside g to) p line (with_answers old out) (with_answers new now)
 line_played g to p line c old new out now at means due played = record {
@@ -73,12 +81,16 @@ line_played g to p line c old new out now at means due played = record {
   played = played;
 }
 
-pub line_given_up : {S : Type 0} (g : Ghosts S) (to : Answers) (p : Playing) (line : List ℕ) (c : Command)
-    (old new : Engine S) (out now : List ℕ) (why : Stop) → IsAt g p old → IsLineOf (schema_of old) line c
-    → IsDue old c → IsCommandGivenUp (beside g to) p c (with_answers old out) (with_answers new now) why
+pub line_given_up : {S : Type 0} (g : Ghosts S) (to : Answers) (p : Playing) (line : List ℕ)
+    (c : Command)
+    (old new : Engine S) (out now : List ℕ) (why : Stop) → IsAt g p old
+    → IsLineOf (schema_of old) line c
+    → IsDue old c → IsCommandGivenUp (beside g to) p c (with_answers old out)
+    (with_answers new now) why
     → IsGivenUp (beside g to) p line (with_answers old out) (with_answers new now) why
 line_given_up g to p line c old new out now why at means due up =
-    let placed : place_reason (is_inside p) c ≡ None = subst (λ (b : Bool). place_reason b c ≡ None) at.stands.inside_same due.allowed in
+    let placed : place_reason (is_inside p) c ≡ None =
+    subst (λ (b : Bool). place_reason b c ≡ None) at.stands.inside_same due.allowed in
     record {
       unsaid = up.unsaid;
       cut = inr (c, means, placed, up.cut);
@@ -108,8 +120,10 @@ stop_same a b e = ap stop_in e
     stop_in (play_end.Line number reason) = a
 
 -- a line for which there was no memory
-pub unread_given_up : {S : Type 0} (g : Ghosts S) (to : Answers) (p : Playing) (line : List ℕ) (e : Engine S)
-    (out : List ℕ) (why : Stop) → why ≡ stop.NoMemory → IsGivenUp (beside g to) p line (with_answers e out) (with_answers e out) why
+pub unread_given_up : {S : Type 0} (g : Ghosts S) (to : Answers) (p : Playing) (line : List ℕ)
+    (e : Engine S)
+    (out : List ℕ) (why : Stop) → why ≡ stop.NoMemory
+    → IsGivenUp (beside g to) p line (with_answers e out) (with_answers e out) why
 unread_given_up g to p line e out why is = record {
   unsaid = λ other. refl;
   cut = inl refl;
@@ -127,8 +141,10 @@ unread_given_up g to p line e out why is = record {
 
 -- ---- what the machine said, alone
 
-up_alone : {S : Type 0} (g : Ghosts S) (p : Playing) (lines : Lines) (old new : Engine S) (out now : List ℕ)
-    (end : End) → IsPlayedUp (beside g answers.Said) p lines (with_answers old out) (with_answers new now) end
+up_alone : {S : Type 0} (g : Ghosts S) (p : Playing) (lines : Lines) (old new : Engine S)
+    (out now : List ℕ)
+    (end : End) → IsPlayedUp (beside g answers.Said) p lines (with_answers old out)
+    (with_answers new now) end
     → IsPlayedUp g p lines old new end
 up_alone g p lines old new out now end up = record {
   text = up.text;
@@ -141,9 +157,11 @@ up_alone g p lines old new out now end up = record {
 -- the play of lines whose answers were said
 pub played_aloud : {S : Type 0} (g : Ghosts S) (p : Playing) (lines : Lines) (old new : Engine S)
     (out now : List ℕ) (result : Result (Unit {0}) PlayEnd)
-    → IsPlayedTo (beside g answers.Said) p lines (with_answers old out) (with_answers new now) result → IsPlayedTo g p lines old new result
+    → IsPlayedTo (beside g answers.Said) p lines (with_answers old out)
+    (with_answers new now) result → IsPlayedTo g p lines old new result
 played_aloud g p lines old new out now (Ok x) up = up_alone g p lines old new out now good up
-played_aloud g p lines old new out now (Err (play_end.Line number why)) up = up_alone g p lines old new out now (stopped number why) up
+played_aloud g p lines old new out now (Err (play_end.Line number why)) up =
+    up_alone g p lines old new out now (stopped number why) up
 played_aloud g p lines old new out now (Err (play_end.Stop why)) part = record {
   ran = part.ran;
   later = part.later;
@@ -151,34 +169,39 @@ played_aloud g p lines old new out now (Err (play_end.Stop why)) part = record {
   text = part.text;
   final = part.final;
   runs = part.runs;
-  front = part.front;
+  up_to = part.up_to;
   whole = part.whole;
   kept = part.kept;
   failed = λ fault. stands_alone (part.failed fault);
   short = part.short;
 }
   where
-    stands_alone : {B : Type 0} → IsAt (beside g answers.Said) part.final (with_answers new now) ⊎ B → IsAt g part.final new ⊎ B
+    stands_alone : {B : Type 0} → IsAt (beside g answers.Said) part.final (with_answers new now) ⊎ B
+        → IsAt g part.final new ⊎ B
     stands_alone (inl at) = inl (at_alone g answers.Said part.final new now at)
     stands_alone (inr b) = inr b
 
 -- ---- how failures are counted where a play ends a request
 
 pub none_failed : (before now : ℕ) → now ≡ before → CountsFailed before now false
-none_failed before now same = record { later = omega (arith, same); rose = λ e. absurd (never e); counted = λ e. same }
+none_failed before now same =
+    record { later = omega (arith, same); rose = λ e. absurd (never e); counted = λ e. same }
   where
     never : ◌≡◌ {A = Bool} false true → ⊥
     never e = cc
 
-outside_end : (U : Type 0) (end : PlayEnd) → is_outside (ending_of end) ≡ is_play_fault {T = U} (Err end)
+outside_end : (U : Type 0) (end : PlayEnd)
+    → is_outside (ending_of end) ≡ is_play_fault {T = U} (Err end)
 outside_end U (play_end.Line number why) = refl
 outside_end U (play_end.Stop stop.Fault) = refl
 outside_end U (play_end.Stop stop.Full) = refl
 outside_end U (play_end.Stop stop.NoMemory) = refl
 outside_end U (play_end.Stop (stop.Damaged block)) = refl
 
-pub failed_end : {T : Type 0} (U : Type 0) (before mid now : ℕ) (end : PlayEnd) (result : Result T Ending)
-    → mid ≡ before → result ≡ Err (ending_of end) → CountsFailed mid now (is_play_fault {T = U} (Err end))
+pub failed_end : {T : Type 0} (U : Type 0) (before mid now : ℕ) (end : PlayEnd)
+    (result : Result T Ending)
+    → mid ≡ before → result ≡ Err (ending_of end)
+    → CountsFailed mid now (is_play_fault {T = U} (Err end))
     → CountsFailed before now (is_fault result)
 failed_end {T = T} U before mid now end result same is counts =
     subst (λ (r : Result T Ending). CountsFailed before now (is_fault r)) (sym is)

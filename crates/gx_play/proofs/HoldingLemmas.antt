@@ -12,7 +12,8 @@ use Rattle.gx_engine.specs.Steps.{StandsFor, IsAt, leaves_of}
 use Rattle.gx_play.specs.Plays.{IsHolding, KeepsState}
 
 -- to hear changes nothing of them
-pub holding_after : {S : Type 0} (g : Ghosts S) (schema : Schema) (built : Built) (s : State) (a b : S)
+pub holding_after : {S : Type 0} (g : Ghosts S) (schema : Schema) (built : Built) (s : State)
+    (a b : S)
     → Talks g a b → IsHolding g schema built s a → IsHolding g schema built s b
 holding_after g schema built s a b talks h = record {
   working_is = subst (λ maps. AreInternal schema built maps s) (sym talks.working) h.working_is;
@@ -22,7 +23,8 @@ holding_after g schema built s a b talks h = record {
 }
 
 -- nor of what they keep
-pub kept_in : {S : Type 0} (g : Ghosts S) (schema : Schema) (built : Built) (s : State) (a b : S) → Talks g a b
+pub kept_in : {S : Type 0} (g : Ghosts S) (schema : Schema) (built : Built) (s : State) (a b : S)
+    → Talks g a b
     → IsHolding g schema built s a → KeepsState g schema built b s
 kept_in g schema built s a b talks h = (
   subst (λ maps. AreInternal schema built maps s) (sym (talks.kept ∙ h.kept_same)) h.working_is,
@@ -30,8 +32,10 @@ kept_in g schema built s a b talks h = (
 )
 
 -- the engine stands for the start of a play
-pub at_first : {S : Type 0} (g : Ghosts S) (schema : Schema) (built : Built) (s : State) (leaves : S)
-    (e : Engine S) → IsHolding g schema built s leaves → leaves_of e ≡ leaves → StandsFor g e (start_at s) → IsAt g (start_at s) e
+pub at_first : {S : Type 0} (g : Ghosts S) (schema : Schema) (built : Built) (s : State)
+    (leaves : S)
+    (e : Engine S) → IsHolding g schema built s leaves → leaves_of e ≡ leaves
+    → StandsFor g e (start_at s) → IsAt g (start_at s) e
 at_first g schema built s leaves e h leaves_are stands = record {
   stands = stands;
   whole_is = subst g.whole (sym leaves_are) h.whole_is;

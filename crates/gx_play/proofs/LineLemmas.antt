@@ -22,7 +22,8 @@ number_of d (Ok c) = d
 -- a line that means a command which may not stand there
 pub bad_line : (schema : Schema) (inside : Bool) (number n : ℕ) (line : List ℕ) (command : Command)
     (given why : LineWhy) → IsLineOf schema line command → Some given ≡ place_reason inside command
-    → ◌≡◌ {A = Result Command PlayEnd} (Err (play_end.Line number given)) (Err (play_end.Line n why))
+    → ◌≡◌ {A = Result Command PlayEnd} (Err (play_end.Line number given))
+    (Err (play_end.Line n why))
     → IsBadAt schema inside number line n why
 bad_line schema inside number n line command given why means placed e = (
   sym (ap (number_of number) e),

@@ -27,26 +27,33 @@ use Rattle.gx_play.specs.declared.play.PlayEnd.{PlayEnd}
 use Rattle.gx_play.specs.declared.play.PlayEnd.TheVariants as play_end
 use Rattle.gx_play.specs.Endings.{ending_of, is_fault, IsOutside, IsPlayEnding}
 use Rattle.gx_play.specs.Played.{AreFirst}
-use Rattle.gx_play.specs.Plays.{IsPlayedUp, IsPlayedPart, IsPlayedTo, IsPlayedOut, IsPlayedFirst, IsPlayedFull, IsPlayedFront, IsPlayedAs, IsEndingOf, IsCommitLine, KeepsState, IsHeard, is_play_fault}
+use Rattle.gx_play.specs.Plays.{AreSaidUpTo, IsPlayedUp, IsPlayedPart, IsPlayedTo, IsPlayedOut, IsPlayedFirst, IsPlayedFull, IsPlayedFront, IsPlayedAs, IsEndingOf, IsCommitLine, KeepsState, IsHeard, is_play_fault}
 use Rattle.gx_play.proofs.PlayLemmas.{kept_at}
 
 -- what was heard has the lines of the whole script
-heard_long : (heard left : List ℕ) → 16777216 < length heard → script_lines heard ≡ script_lines (heard ++ left)
+heard_long : (heard left : List ℕ) → 16777216 < length heard
+    → script_lines heard ≡ script_lines (heard ++ left)
 unfolding longest_script
 heard_long heard left long =
     sym (enough_lines longest_script heard) ∙ ap script_lines
-    (sym (take-append-le (longest_script + 1) heard left (omega arith))) ∙ enough_lines longest_script (heard ++ left)
+    (sym (take-append-le (longest_script + 1) heard left (omega arith)))
+    ∙ enough_lines longest_script (heard ++ left)
 
-heard_by_end : (script left heard : List ℕ) → script ≡ heard ++ left → ((left ≡ []) ⊎ (16777216 < length heard))
+heard_by_end : (script left heard : List ℕ) → script ≡ heard ++ left
+    → ((left ≡ []) ⊎ (16777216 < length heard))
     → script_lines heard ≡ script_lines script
-heard_by_end script left heard front (inl none) = ap script_lines (sym (append-nil heard) ∙ ap (λ t. heard ++ t) (sym none) ∙ sym front)
-heard_by_end script left heard front (inr long) = heard_long heard left long ∙ ap script_lines (sym front)
+heard_by_end script left heard front (inl none) =
+    ap script_lines (sym (append-nil heard) ∙ ap (λ t. heard ++ t) (sym none) ∙ sym front)
+heard_by_end script left heard front (inr long) = heard_long heard left long
+    ∙ ap script_lines (sym front)
 
-pub heard_lines : (script left heard : List ℕ) → IsHeard script left heard → script_lines heard ≡ script_lines script
+pub heard_lines : (script left heard : List ℕ) → IsHeard script left heard
+    → script_lines heard ≡ script_lines script
 heard_lines script left heard is = heard_by_end script left heard is.front is.end
 
 -- the play of what was heard is the play of the script
-module _ {S : Type 0} (g : Ghosts S) (start : State) (script left heard before : List ℕ) (e f : Engine S)
+module _ {S : Type 0} (g : Ghosts S) (start : State) (script left heard before : List ℕ)
+    (e f : Engine S)
     (unsaid : (g.content (leaves_of e)).now.said ≡ before) (schema_is : schema_of f ≡ schema_of e)
     (built_is : built_of f ≡ built_of e) (is : IsHeard script left heard) where
   abbrev Kept : State → Type 0
@@ -67,11 +74,14 @@ module _ {S : Type 0} (g : Ghosts S) (start : State) (script left heard before :
   }
 
   -- the same of the first lines
-  parts_of_script : (why : Stop) → (part : IsPlayedPart g (start_at start) (script_lines heard) e f why)
+  parts_of_script : (why : Stop)
+      → (part : IsPlayedPart g (start_at start) (script_lines heard) e f why)
       → (script_lines script).lines ≡ part.ran ++ part.later
-  parts_of_script why part = ap (λ (ls : Lines). ls.lines) (sym (heard_lines script left heard is)) ∙ part.parts
+  parts_of_script why part = ap (λ (ls : Lines). ls.lines) (sym (heard_lines script left heard is))
+      ∙ part.parts
 
-  abbrev first_answers : (why : Stop) → (part : IsPlayedPart g (start_at start) (script_lines heard) e f why)
+  abbrev first_answers : (why : Stop)
+      → (part : IsPlayedPart g (start_at start) (script_lines heard) e f why)
       → AreFirst (schema_of e) start script part.text
   first_answers why part = record {
     ran = part.ran;
@@ -81,7 +91,8 @@ module _ {S : Type 0} (g : Ghosts S) (start : State) (script left heard before :
     runs = part.runs;
   }
 
-  first_whole : (why : Stop) → why ≢ stop.Fault → IsPlayedPart g (start_at start) (script_lines heard) e f why
+  first_whole : (why : Stop) → why ≢ stop.Fault
+      → IsPlayedPart g (start_at start) (script_lines heard) e f why
       → IsPlayedFirst (schema_of e) start Kept script before Spoken
   first_whole why other part = record {
     answers = part.text;
@@ -91,7 +102,8 @@ module _ {S : Type 0} (g : Ghosts S) (start : State) (script left heard before :
   }
 
   first_full : IsPlayedPart g (start_at start) (script_lines heard) e f stop.Full
-      → IsPlayedFull (schema_of e) (built_of e) (g.limit (leaves_of e)) start Kept script before Spoken
+      → IsPlayedFull (schema_of e) (built_of e) (g.limit (leaves_of e)) start Kept script before
+      Spoken
   first_full part = record {
     answers = part.text;
     final = part.final;
@@ -111,14 +123,16 @@ module _ {S : Type 0} (g : Ghosts S) (start : State) (script left heard before :
   first_front part = record {
     answers = part.text;
     first = first_answers stop.Fault part;
-    count = part.front.0;
-    said = part.front.1 ∙ ap (λ t. t ++ take part.front.0 part.text) unsaid;
+    up_to = subst (λ t. AreSaidUpTo (schema_of e) (start_at start) part.ran part.text t Spoken)
+        unsaid part.up_to;
     holds = kept_or_commit (part.failed refl);
   }
     where
-      kept_or_commit : (IsAt g part.final f ⊎ ((Spoken ≡ (g.content (leaves_of e)).now.said ++ part.text)
+      kept_or_commit : (IsAt g part.final f
+          ⊎ ((Spoken ≡ (g.content (leaves_of e)).now.said ++ part.text)
           × (Kept part.final.kept ⊎ IsCommitLine (schema_of e) part.later)))
-          → Kept part.final.kept ⊎ ((Spoken ≡ before ++ part.text) × IsCommitLine (schema_of e) part.later)
+          → Kept part.final.kept ⊎ ((Spoken ≡ before ++ part.text)
+          × IsCommitLine (schema_of e) part.later)
       kept_or_commit (inl at) = inl (kept_at g part.final e f schema_is built_is at)
       kept_or_commit (inr (said, inl kept)) = inl kept
       kept_or_commit (inr (said, inr commit)) = inr (said ∙ ap (λ t. t ++ part.text) unsaid, commit)
@@ -128,37 +142,51 @@ module _ {S : Type 0} (g : Ghosts S) (start : State) (script left heard before :
 
   -- no damage is found there
   pub played_as : (played : Result (Unit {0}) PlayEnd) (result : Result (Unit {0}) Ending)
-      → IsEndingOf played result → ((block : ℕ) → played ≡ Err (play_end.Stop (stop.Damaged block)) → ⊥)
+      → IsEndingOf played result
+      → ((block : ℕ) → played ≡ Err (play_end.Stop (stop.Damaged block)) → ⊥)
       → IsPlayedTo g (start_at start) (script_lines heard) e f played → As result
   played_as (Ok x) result result_is sound to = subst As (sym result_is) (played_out good to)
-  played_as (Err (play_end.Line number why)) result result_is sound to = subst As (sym result_is) (played_out (stopped number why) to)
+  played_as (Err (play_end.Line number why)) result result_is sound to =
+      subst As (sym result_is) (played_out (stopped number why) to)
   played_as (Err (play_end.Stop stop.NoMemory)) result result_is sound to =
       subst As (sym result_is) (first_whole stop.NoMemory (λ f. cc) to)
-  played_as (Err (play_end.Stop stop.Fault)) result result_is sound to = subst As (sym result_is) (first_front to)
-  played_as (Err (play_end.Stop stop.Full)) result result_is sound to = subst As (sym result_is) (first_full to)
-  played_as (Err (play_end.Stop (stop.Damaged block))) result result_is sound to = absurd (sound block refl)
+  played_as (Err (play_end.Stop stop.Fault)) result result_is sound to =
+      subst As (sym result_is) (first_front to)
+  played_as (Err (play_end.Stop stop.Full)) result result_is sound to =
+      subst As (sym result_is) (first_full to)
+  played_as (Err (play_end.Stop (stop.Damaged block))) result result_is sound to =
+      absurd (sound block refl)
 
 -- the same of the leaves that the engine was started on, and that it hands back
 pub played_over : {S : Type 0} (g : Ghosts S) (schema : Schema) (built : Built) (start : State)
     (script before : List ℕ) (e f : Engine S) (leaves left : S) (result : Result (Unit {0}) Ending)
-    → schema_of e ≡ schema → built_of e ≡ built → g.limit (leaves_of e) ≡ g.limit leaves → left ≡ leaves_of f
+    → schema_of e ≡ schema → built_of e ≡ built → g.limit (leaves_of e) ≡ g.limit leaves
+    → left ≡ leaves_of f
     → IsPlayedAs (schema_of e) (built_of e) (g.limit (leaves_of e)) start
-    (KeepsState g (schema_of e) (built_of e) (leaves_of f)) script before (g.content (leaves_of f)).now.said result
-    → IsPlayedAs schema built (g.limit leaves) start (KeepsState g schema built left) script before (g.content left).now.said result
-played_over {S = S} g schema built start script before e f leaves left result schema_is built_is limit_is left_is is =
-    subst (λ (l : S). IsPlayedAs schema built (g.limit leaves) start (KeepsState g schema built l) script before
+    (KeepsState g (schema_of e) (built_of e) (leaves_of f)) script before
+    (g.content (leaves_of f)).now.said result
+    → IsPlayedAs schema built (g.limit leaves) start (KeepsState g schema built left) script before
+    (g.content left).now.said result
+played_over {S = S} g schema built start script before e f leaves left result schema_is built_is
+    limit_is left_is is =
+    subst (λ (l : S). IsPlayedAs schema built (g.limit leaves) start (KeepsState g schema built l)
+    script before
     (g.content l).now.said result) (sym left_is)
     (subst (λ (k : Schema). IsPlayedAs k built (g.limit leaves) start
-    (KeepsState g k built (leaves_of f)) script before (g.content (leaves_of f)).now.said result) schema_is
+    (KeepsState g k built (leaves_of f)) script before (g.content (leaves_of f)).now.said result)
+    schema_is
     (subst (λ (b : Built). IsPlayedAs (schema_of e) b (g.limit leaves) start
-    (KeepsState g (schema_of e) b (leaves_of f)) script before (g.content (leaves_of f)).now.said result) built_is
+    (KeepsState g (schema_of e) b (leaves_of f)) script before (g.content (leaves_of f)).now.said
+    result) built_is
     (subst (λ (l : Option Limits). IsPlayedAs (schema_of e) (built_of e) l start
-    (KeepsState g (schema_of e) (built_of e) (leaves_of f)) script before (g.content (leaves_of f)).now.said result) limit_is is)))
+    (KeepsState g (schema_of e) (built_of e) (leaves_of f)) script before
+    (g.content (leaves_of f)).now.said result) limit_is is)))
 
 -- what is held of a state means another thing of it
 pub held_as : (schema : Schema) (built : Built) (limit : Option Limits) (start : State)
     (Holds Other : State → Type 0) (script before now : List ℕ) (result : Result (Unit {0}) Ending)
-    → ((s : State) → Holds s → Other s) → IsPlayedAs schema built limit start Holds script before now result
+    → ((s : State) → Holds s → Other s)
+    → IsPlayedAs schema built limit start Holds script before now result
     → IsPlayedAs schema built limit start Other script before now result
 held_as schema built limit start Holds Other script before now
     (Ok x) other is = record {
@@ -192,25 +220,38 @@ held_as schema built limit start Holds Other script before now
       holds = other is.final.kept is.holds;
     }
 held_as schema built limit start Holds Other script before now
-    (Err ending.Fault) other is = record { answers = is.answers; first = is.first; count = is.count; said = is.said; holds = left is.holds }
+    (Err ending.Fault) other is =
+    record { answers = is.answers; first = is.first; up_to = is.up_to; holds = left is.holds }
   where
-    left : (Holds is.first.final.kept ⊎ ((now ≡ before ++ is.answers) × IsCommitLine schema is.first.later))
-        → Other is.first.final.kept ⊎ ((now ≡ before ++ is.answers) × IsCommitLine schema is.first.later)
+    left : (Holds is.first.final.kept
+        ⊎ ((now ≡ before ++ is.answers) × IsCommitLine schema is.first.later))
+        → Other is.first.final.kept
+        ⊎ ((now ≡ before ++ is.answers) × IsCommitLine schema is.first.later)
     left (inl held) = inl (other is.first.final.kept held)
     left (inr commit) = inr commit
 held_as schema built limit start Holds Other script before now (Err ending.Words) other is = is
-held_as schema built limit start Holds Other script before now (Err (ending.Missing name)) other is = is
-held_as schema built limit start Holds Other script before now (Err (ending.TooLong name)) other is = is
-held_as schema built limit start Holds Other script before now (Err (ending.Schema line why)) other is = is
-held_as schema built limit start Holds Other script before now (Err (ending.Equation line why)) other is = is
-held_as schema built limit start Holds Other script before now (Err (ending.Type line why)) other is = is
-held_as schema built limit start Holds Other script before now (Err ending.TextsTooLong) other is = is
-held_as schema built limit start Holds Other script before now (Err (ending.Accepted summary)) other is = is
-held_as schema built limit start Holds Other script before now (Err (ending.Device wrong)) other is = is
-held_as schema built limit start Holds Other script before now (Err (ending.Made blocks pages)) other is = is
+held_as schema built limit start Holds Other script before now (Err (ending.Missing name)) other
+    is = is
+held_as schema built limit start Holds Other script before now (Err (ending.TooLong name)) other
+    is = is
+held_as schema built limit start Holds Other script before now (Err (ending.Schema line why)) other
+    is = is
+held_as schema built limit start Holds Other script before now (Err (ending.Equation line why))
+    other is = is
+held_as schema built limit start Holds Other script before now (Err (ending.Type line why)) other
+    is = is
+held_as schema built limit start Holds Other script before now (Err ending.TextsTooLong) other is =
+    is
+held_as schema built limit start Holds Other script before now (Err (ending.Accepted summary)) other
+    is = is
+held_as schema built limit start Holds Other script before now (Err (ending.Device wrong)) other
+    is = is
+held_as schema built limit start Holds Other script before now (Err (ending.Made blocks pages))
+    other is = is
 
 -- before a line is played
-abbrev none_played : (schema : Schema) (start : State) (script : List ℕ) → AreFirst schema start script []
+abbrev none_played : (schema : Schema) (start : State) (script : List ℕ)
+    → AreFirst schema start script []
 none_played schema start script = record {
   ran = [];
   later = (script_lines script).lines;
@@ -219,37 +260,61 @@ none_played schema start script = record {
   runs = (refl, refl);
 }
 
-pub unheard : (schema : Schema) (built : Built) (limit : Option Limits) (start : State) (Holds : State → Type 0)
-    (script before said : List ℕ) (low high : ℕ) (why : Ending) → said ≡ before → IsOutside low high why
+pub unheard : (schema : Schema) (built : Built) (limit : Option Limits) (start : State)
+    (Holds : State → Type 0)
+    (script before said : List ℕ) (low high : ℕ) (why : Ending) → said ≡ before
+    → IsOutside low high why
     → Holds start → IsPlayedAs schema built limit start Holds script before said (Err why)
 unheard schema built limit start Holds script before said low high ending.Fault unsaid is
     holds = record {
       answers = [];
       first = none_played schema start script;
-      count = 0;
-      said = unsaid
-          ∙ sym (append-nil before);
+      up_to = record {
+        first = [];
+        last = [];
+        one = omega arith;
+        ran_are = refl;
+        whole = [];
+        cut = [];
+        text_is = refl;
+        middle = start_at start;
+        runs = (none_played schema start script).runs;
+        count = 0;
+        said = unsaid ∙ sym (append-nil before);
+      };
       holds = inl holds;
     }
 unheard schema built limit start Holds script before said low high ending.NoMemory unsaid is
     holds = record { answers = []; first = none_played schema start script; said = unsaid ∙ sym (append-nil before); holds = holds }
 unheard schema built limit start Holds script before said low high ending.Words unsaid is holds = is
-unheard schema built limit start Holds script before said low high (ending.Missing name) unsaid is holds = is
-unheard schema built limit start Holds script before said low high (ending.TooLong name) unsaid is holds = is
-unheard schema built limit start Holds script before said low high (ending.Schema line why) unsaid is holds = is
-unheard schema built limit start Holds script before said low high (ending.Equation line why) unsaid is holds = is
-unheard schema built limit start Holds script before said low high (ending.Type line why) unsaid is holds = is
-unheard schema built limit start Holds script before said low high ending.TextsTooLong unsaid is holds = is
-unheard schema built limit start Holds script before said low high (ending.Accepted summary) unsaid is holds = is
-unheard schema built limit start Holds script before said low high ending.Full unsaid is holds = absurd is
-unheard schema built limit start Holds script before said low high (ending.Device wrong) unsaid is holds = is
-unheard schema built limit start Holds script before said low high (ending.Made blocks pages) unsaid is holds = is
-unheard schema built limit start Holds script before said low high (ending.Line number why) unsaid is holds = absurd is
+unheard schema built limit start Holds script before said low high (ending.Missing name) unsaid is
+    holds = is
+unheard schema built limit start Holds script before said low high (ending.TooLong name) unsaid is
+    holds = is
+unheard schema built limit start Holds script before said low high (ending.Schema line why) unsaid
+    is holds = is
+unheard schema built limit start Holds script before said low high (ending.Equation line why) unsaid
+    is holds = is
+unheard schema built limit start Holds script before said low high (ending.Type line why) unsaid is
+    holds = is
+unheard schema built limit start Holds script before said low high ending.TextsTooLong unsaid is
+    holds = is
+unheard schema built limit start Holds script before said low high (ending.Accepted summary) unsaid
+    is holds = is
+unheard schema built limit start Holds script before said low high ending.Full unsaid is holds =
+    absurd is
+unheard schema built limit start Holds script before said low high (ending.Device wrong) unsaid is
+    holds = is
+unheard schema built limit start Holds script before said low high (ending.Made blocks pages) unsaid
+    is holds = is
+unheard schema built limit start Holds script before said low high (ending.Line number why) unsaid
+    is holds = absurd is
 
 -- ---- a play that ends at no line had all lines, and the whole script was heard
 
 good_lines : (schema : Schema) (final : Playing) (all : Lines) (ran : List (List ℕ))
-    (next : Result (Option (List ℕ)) LineWhy) (n : ℕ) → AreFirstLines all ran next → IsEnd schema final n next good → all.stop ≡ None
+    (next : Result (Option (List ℕ)) LineWhy) (n : ℕ) → AreFirstLines all ran next
+    → IsEnd schema final n next good → all.stop ≡ None
 good_lines schema final all ran (Ok None) n first ends = first.1
 good_lines schema final all ran (Ok (Some line)) n first ends = absurd (not_good ends.2)
   where
@@ -260,7 +325,8 @@ good_lines schema final all ran (Err why) n first ends = absurd (not_good ends)
     not_good : ◌≡◌ {A = End} good (stopped (n + 1) why) → ⊥
     not_good e = cc
 
-stop_or : (t : Bool) (a c : Lines) → a.stop ≢ None → c.stop ≢ None → (if t then a else c).stop ≢ None
+stop_or : (t : Bool) (a c : Lines) → a.stop ≢ None → c.stop ≢ None
+    → (if t then a else c).stop ≢ None
 stop_or true a c x y = x
 stop_or false a c x y = y
 
@@ -273,20 +339,26 @@ longer_stops [] rest =
     (some_stop why.TooLong) (some_stop why.ScriptTooLong)
 longer_stops (line ∷ lines) rest =
     stop_or (nat_lt longest_line (length line)) (stopped_lines why.TooLong)
-    (with_line (without_cr line) (up_to_limit lines rest true)) (some_stop why.TooLong) (longer_stops lines rest)
+    (with_line (without_cr line) (up_to_limit lines rest true)) (some_stop why.TooLong)
+    (longer_stops lines rest)
 
-pub long_stops : (script : List ℕ) → longest_script < length script → (script_lines script).stop ≢ None
+pub long_stops : (script : List ℕ) → longest_script < length script
+    → (script_lines script).stop ≢ None
 unfolding lines_within
 long_stops script long =
     subst (λ b. (up_to_limit (parts_of (take longest_script script)).ended
-    (parts_of (take longest_script script)).rest b).stop ≢ None) (is_longer longest_script (length script) long)
-    (longer_stops (parts_of (take longest_script script)).ended (parts_of (take longest_script script)).rest)
+    (parts_of (take longest_script script)).rest b).stop ≢ None)
+    (is_longer longest_script (length script) long)
+    (longer_stops (parts_of (take longest_script script)).ended
+    (parts_of (take longest_script script)).rest)
   where
     is_longer : (a b : ℕ) → a < b → true ≡ nat_lt a b
     is_longer a b lt = grind (arith, nat_tests)
 
-heard_all : {S : Type 0} (g : Ghosts S) (start : State) (e f : Engine S) (script left heard : List ℕ)
-    → IsHeard script left heard → IsPlayedUp g (start_at start) (script_lines heard) e f good → left ≡ []
+heard_all : {S : Type 0} (g : Ghosts S) (start : State) (e f : Engine S)
+    (script left heard : List ℕ)
+    → IsHeard script left heard → IsPlayedUp g (start_at start) (script_lines heard) e f good
+    → left ≡ []
 unfolding longest_script
 heard_all g start e f script left heard is played = by_end is.end
   where
@@ -294,7 +366,8 @@ heard_all g start e f script left heard is played = by_end is.end
     by_end (inl none) = none
     by_end (inr long) =
         absurd (long_stops heard long (good_lines (schema_of e) played.final
-        (script_lines heard) played.played.ran played.played.next (length played.played.ran) played.played.first played.played.ends))
+        (script_lines heard) played.played.ran played.played.next (length played.played.ran)
+        played.played.first played.played.ends))
 
 not_ok : (result : Result (Unit {0}) Ending) (why : Ending) → result ≡ Err why → result ≡ Ok tt → ⊥
 not_ok result why is e = never (sym is ∙ e)
@@ -302,11 +375,16 @@ not_ok result why is e = never (sym is ∙ e)
     never : ◌≡◌ {A = Result (Unit {0}) Ending} (Err why) (Ok tt) → ⊥
     never f = cc
 
-pub heard_to_end : {S : Type 0} (g : Ghosts S) (start : State) (e f : Engine S) (script left heard : List ℕ)
-    (played : Result (Unit {0}) PlayEnd) (result : Result (Unit {0}) Ending) → IsHeard script left heard
-    → IsEndingOf played result → IsPlayedTo g (start_at start) (script_lines heard) e f played → result ≡ Ok tt → left ≡ []
-heard_to_end g start e f script left heard (Ok x) result is result_is to ok = heard_all g start e f script left heard is to
-heard_to_end g start e f script left heard (Err end) result is result_is to ok = absurd (not_ok result (ending_of end) result_is ok)
+pub heard_to_end : {S : Type 0} (g : Ghosts S) (start : State) (e f : Engine S)
+    (script left heard : List ℕ)
+    (played : Result (Unit {0}) PlayEnd) (result : Result (Unit {0}) Ending)
+    → IsHeard script left heard
+    → IsEndingOf played result → IsPlayedTo g (start_at start) (script_lines heard) e f played
+    → result ≡ Ok tt → left ≡ []
+heard_to_end g start e f script left heard (Ok x) result is result_is to ok =
+    heard_all g start e f script left heard is to
+heard_to_end g start e f script left heard (Err end) result is result_is to ok =
+    absurd (not_ok result (ending_of end) result_is ok)
 
 -- ---- how a play ends for the request
 
@@ -319,8 +397,10 @@ is_play_ending (play_end.Stop (stop.Damaged block)) = tt
 
 pub play_ending : (played : Result (Unit {0}) PlayEnd) (result : Result (Unit {0}) Ending)
     → IsEndingOf played result → IfErr result IsPlayEnding
-play_ending (Ok x) result is = subst (λ (r : Result (Unit {0}) Ending). IfErr r IsPlayEnding) (sym is) tt
-play_ending (Err end) result is = subst (λ (r : Result (Unit {0}) Ending). IfErr r IsPlayEnding) (sym is) (is_play_ending end)
+play_ending (Ok x) result is =
+    subst (λ (r : Result (Unit {0}) Ending). IfErr r IsPlayEnding) (sym is) tt
+play_ending (Err end) result is =
+    subst (λ (r : Result (Unit {0}) Ending). IfErr r IsPlayEnding) (sym is) (is_play_ending end)
 
 pub outside_ending : (before now : ℕ) (why : Ending) → IsOutside before now why → IsPlayEnding why
 outside_ending before now ending.Fault is = tt
@@ -362,26 +442,34 @@ stop_is (play_end.Stop s) why given is e = ap play_end.Stop (same s given (is �
     stop_back stop.NoMemory = refl
     stop_back (stop.Damaged block) = refl
 
-    same : (s given : Stop) → ending_of (play_end.Stop s) ≡ ending_of (play_end.Stop given) → s ≡ given
+    same : (s given : Stop) → ending_of (play_end.Stop s) ≡ ending_of (play_end.Stop given)
+        → s ≡ given
     same s given e = sym (stop_back s) ∙ ap stop_at e ∙ stop_back given
 
 abbrev ending_in : Result (Unit {0}) Ending → Ending
 ending_in (Err why) = why
 ending_in (Ok x) = ending.NoMemory
 
-pub stop_of_ending : (played : Result (Unit {0}) PlayEnd) (result : Result (Unit {0}) Ending) (given : Stop)
-    → IsEndingOf played result → IsErrOf result (ending_of (play_end.Stop given)) → played ≡ Err (play_end.Stop given)
-stop_of_ending (Ok x) result given is e = absurd (not_ok result (ending_of (play_end.Stop given)) e is)
-stop_of_ending (Err end) result given is e = ap Err (stop_is end (ending_of end) given refl (ap ending_in (sym is ∙ e)))
+pub stop_of_ending : (played : Result (Unit {0}) PlayEnd) (result : Result (Unit {0}) Ending)
+    (given : Stop)
+    → IsEndingOf played result → IsErrOf result (ending_of (play_end.Stop given))
+    → played ≡ Err (play_end.Stop given)
+stop_of_ending (Ok x) result given is e =
+    absurd (not_ok result (ending_of (play_end.Stop given)) e is)
+stop_of_ending (Err end) result given is e =
+    ap Err (stop_is end (ending_of end) given refl (ap ending_in (sym is ∙ e)))
 
 -- a device isn't wrong but where damage was found
-pub wrong_device : (played : Result (Unit {0}) PlayEnd) (result : Result (Unit {0}) Ending) (wrong : DeviceWhy)
-    → IsEndingOf played result → IsErrOf result (ending.Device wrong) → (block : ℕ) × (played ≡ Err (play_end.Stop (stop.Damaged block)))
+pub wrong_device : (played : Result (Unit {0}) PlayEnd) (result : Result (Unit {0}) Ending)
+    (wrong : DeviceWhy)
+    → IsEndingOf played result → IsErrOf result (ending.Device wrong)
+    → (block : ℕ) × (played ≡ Err (play_end.Stop (stop.Damaged block)))
 wrong_device (Ok x) result wrong is e = absurd (not_ok result (ending.Device wrong) e is)
 wrong_device (Err end) result wrong is e = by_end end (ap ending_in (sym is ∙ e))
   where
     by_end : (end : PlayEnd) → ending_of end ≡ ending.Device wrong
-        → (block : ℕ) × (◌≡◌ {A = Result (Unit {0}) PlayEnd} (Err end) (Err (play_end.Stop (stop.Damaged block))))
+        → (block : ℕ) × (◌≡◌ {A = Result (Unit {0}) PlayEnd} (Err end)
+        (Err (play_end.Stop (stop.Damaged block))))
     by_end (play_end.Line number reason) f = absurd (never f)
       where
         never : ending.Line number reason ≡ ending.Device wrong → ⊥
@@ -411,5 +499,6 @@ goes_on (Err (play_end.Stop (stop.Damaged block))) result is e = refl
 goes_on (Err (play_end.Stop stop.Fault)) result is e =
     sym (ap (λ (r : Result (Unit {0}) Ending). is_fault r) is) ∙ e
 
-pub rose_before : (start before now end : ℕ) → start ≤ before → now ≡ end → Rose before now → Rose start end
+pub rose_before : (start before now end : ℕ) → start ≤ before → now ≡ end → Rose before now
+    → Rose start end
 rose_before start before now end le is rose = omega (arith, rose)

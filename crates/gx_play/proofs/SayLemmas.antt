@@ -11,24 +11,30 @@ take_add : (a b : ℕ) (xs : List ℕ) → take a xs ++ take b (drop a xs) ≡ t
 take_add zero b xs = ap (λ k. take k xs) (let e : b ≡ 0 + b = omega arith in e)
 take_add (suc a) b [] = take_all b [] (omega arith) ∙ sym (take_all (suc a + b) [] (omega arith))
 take_add (suc a) b (x ∷ xs) =
-    ap (λ (ys : List ℕ). x ∷ ys) (take_add a b xs) ∙ ap (λ k. take k (x ∷ xs)) (let e : suc (a + b) ≡ suc a + b = omega arith in e)
+    ap (λ (ys : List ℕ). x ∷ ys) (take_add a b xs)
+    ∙ ap (λ k. take k (x ∷ xs)) (let e : suc (a + b) ≡ suc a + b = omega arith in e)
 
 -- what is said so far, after the next part
 pub said_more : (piece rest old mid new : List ℕ) (done n : ℕ) → rest ≡ drop done piece
     → mid ≡ old ++ take done piece → new ≡ mid ++ take n rest → new ≡ old ++ take (done + n) piece
 said_more piece rest old mid new done n is so_far next =
-    next ∙ (λ i. so_far i ++ take n (is i)) ∙ append_assoc old (take done piece) (take n (drop done piece))
+    next ∙ (λ i. so_far i ++ take n (is i))
+    ∙ append_assoc old (take done piece) (take n (drop done piece))
     ∙ ap (λ (p : List ℕ). old ++ p) (take_add done n piece)
 
-pub rest_more : (piece rest : List ℕ) (done n : ℕ) → rest ≡ drop done piece → take (length rest - n) (drop n rest) ≡ drop (done + n) piece
+pub rest_more : (piece rest : List ℕ) (done n : ℕ) → rest ≡ drop done piece
+    → take (length rest - n) (drop n rest) ≡ drop (done + n) piece
 rest_more piece rest done n is =
-    take_all (length rest - n) (drop n rest) (omega (arith, length-drop n rest)) ∙ ap (drop n) is ∙ drop-drop n done piece
+    take_all (length rest - n) (drop n rest) (omega (arith, length-drop n rest)) ∙ ap (drop n) is
+    ∙ drop-drop n done piece
 
 -- ---- what was said before stays in front
 
 -- a front of a piece was said behind it
-pub begins_front : (xs ys zs piece : List ℕ) → ys ≡ xs → ((n : ℕ) × (zs ≡ ys ++ take n piece)) → IsPrefix xs zs
-begins_front xs ys zs piece same said = (take said.0 piece, said.1 ∙ ap (λ (t : List ℕ). t ++ take said.0 piece) same)
+pub begins_front : (xs ys zs piece : List ℕ) → ys ≡ xs → ((n : ℕ) × (zs ≡ ys ++ take n piece))
+    → IsPrefix xs zs
+begins_front xs ys zs piece same said =
+    (take said.0 piece, said.1 ∙ ap (λ (t : List ℕ). t ++ take said.0 piece) same)
 
 -- ---- what `hear` and `say` keep, once and one after the other
 
@@ -62,7 +68,8 @@ talks_joined g a b c p q = record {
 }
 
 -- what stays the same twice stays the same
-pub same_again : {S : Type 0} (g : Ghosts S) (a b c : Engine S) → IsSame g a b → IsSame g b c → IsSame g a c
+pub same_again : {S : Type 0} (g : Ghosts S) (a b c : Engine S) → IsSame g a b → IsSame g b c
+    → IsSame g a c
 same_again g a b c p q = record {
   talks = talks_joined g (leaves_of a) (leaves_of b) (leaves_of c) p.talks q.talks;
   schema = q.schema ∙ p.schema;

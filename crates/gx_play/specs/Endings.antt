@@ -42,25 +42,25 @@ made_line blocks pages =
     codes "made: " ++ decimal blocks ++ codes " blocks, " ++ decimal pages ++ codes " pages\n"
 
 -- the line that is said of an ending; after a failed call nothing is said
-abbrev pub line_of : Ending → List ℕ
-line_of ending.Words = codes "refused: words\n"
-line_of (ending.Missing name) = codes "refused: missing " ++ name.now ++ codes "\n"
-line_of (ending.TooLong name) = codes "refused: too long " ++ name.now ++ codes "\n"
-line_of (ending.Schema line why) =
+abbrev pub ending_line : Ending → List ℕ
+ending_line ending.Words = codes "refused: words\n"
+ending_line (ending.Missing name) = codes "refused: missing " ++ name.now ++ codes "\n"
+ending_line (ending.TooLong name) = codes "refused: too long " ++ name.now ++ codes "\n"
+ending_line (ending.Schema line why) =
     codes "refused: schema line " ++ decimal line ++ codes ": " ++ why_word why ++ codes "\n"
-line_of (ending.Equation line why) =
+ending_line (ending.Equation line why) =
     codes "refused: equation line " ++ decimal line ++ codes ": " ++ why_word why ++ codes "\n"
-line_of (ending.Type line why) =
+ending_line (ending.Type line why) =
     codes "refused: type line " ++ decimal line ++ codes ": " ++ type_words why ++ codes "\n"
-line_of ending.TextsTooLong = codes "refused: texts too long\n"
-line_of (ending.Accepted summary) = accepted_line summary
-line_of (ending.Line number why) =
+ending_line ending.TextsTooLong = codes "refused: texts too long\n"
+ending_line (ending.Accepted summary) = accepted_line summary
+ending_line (ending.Line number why) =
     codes "stopped at line " ++ decimal number ++ codes ": " ++ line_word why ++ codes "\n"
-line_of ending.Full = full_line
-line_of (ending.Device why) = device_line why
-line_of (ending.Made blocks pages) = made_line blocks pages
-line_of ending.Fault = []
-line_of ending.NoMemory = memory_line
+ending_line ending.Full = full_line
+ending_line (ending.Device why) = device_line why
+ending_line (ending.Made blocks pages) = made_line blocks pages
+ending_line ending.Fault = []
+ending_line ending.NoMemory = memory_line
 
 -- how the request ends where its play does
 abbrev pub ending_of : PlayEnd → Ending
@@ -131,9 +131,9 @@ IsPlayEnding _ = ⊥
 -- what was said of it, and the status that it gave
 pub record IsEnded (why : Ending) (old new : Content) (s : Status) : Type 0 where
   pub status_is : s ≢ status.Outside → s ≢ status.Memory → s ≡ status_of why
-  pub said : s ≢ status.Outside → s ≢ status.Memory → new.now.said ≡ old.now.said ++ line_of why
+  pub said : s ≢ status.Outside → s ≢ status.Memory → new.now.said ≡ old.now.said ++ ending_line why
   pub memory : s ≡ status.Memory → new.now.said ≡ old.now.said ++ memory_line
-  pub cut : s ≡ status.Outside → IsCut (line_of why) memory_line old new
+  pub cut : s ≡ status.Outside → IsCut (ending_line why) memory_line old new
   pub fault : why ≡ ending.Fault → s ≡ status.Outside
   pub silent : why ≡ ending.Fault → new.now.said ≡ old.now.said
   pub script : new.script ≡ old.script

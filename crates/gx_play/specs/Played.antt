@@ -11,7 +11,7 @@ use Rattle.gx_commands.specs.Lines.{script_lines}
 use Rattle.gx_equation.specs.Trees.{DefinitionTree}
 use Rattle.gx_types.specs.declared.built.Built.{Built}
 use Rattle.gx_model.specs.States.{State}
-use Rattle.gx_model.specs.Play.{Playing, End, stopped, start_at, end_text, seen_state, is_inside, next_of}
+use Rattle.gx_model.specs.Play.{Playing, End, stopped, start_at, end_text, seen_state, is_inside, after_command}
 use Rattle.gx_model.specs.Runs.{Runs, IsPlayFrom, AreFirstAnswersFrom}
 use Rattle.gx_states.specs.Internal.{AreInternal, state_entries}
 use Rattle.gx_engine.specs.Moments.{MayWantRoom}
@@ -88,7 +88,7 @@ pub record IsShortWith (schema : Schema) (built : Built) (limit : Option Limits)
   pub placed : place_reason (is_inside p) command ≡ None
   pub wants : MayWantRoom schema p command
   pub short : IsCrowdedBy limit
-      (entries + state_entries built (seen_state (next_of schema p command)))
+      (entries + state_entries built (seen_state (after_command schema p command)))
 
 -- the same of the entries of the state before it
 abbrev pub IsShort : Schema → Built → Option Limits → Playing → List (List ℕ) → Type 0

@@ -18,7 +18,7 @@ use Rattle.gx_ports.specs.Stops.{is_outside}
 use Rattle.gx_ports.specs.declared.stop.Stop.{Stop}
 use Rattle.gx_ports.specs.declared.stop.Stop.TheVariants as stop
 use Rattle.gx_model.specs.States.{State}
-use Rattle.gx_model.specs.Play.{Playing, End, good, stopped, is_inside, next_of, IsAnswered}
+use Rattle.gx_model.specs.Play.{Playing, End, good, stopped, is_inside, after_command, start_at, IsAnswered}
 use Rattle.gx_types.specs.declared.built.Built.{Built}
 use Rattle.gx_model.specs.Runs.{Runs, IsBadLine, IsPlayFrom}
 use Rattle.gx_engine.specs.declared.engine.Engine.{Engine}
@@ -39,7 +39,7 @@ pub record IsCommandPlayed {S : Type 0} (g : Ghosts S) (p : Playing) (command : 
     (old new : Engine S) : Type 0 where
   pub answer : List ℕ
   pub answered : IsAnswered (schema_of old) p command answer
-  pub at : IsAt g (next_of (schema_of old) p command) new
+  pub at : IsAt g (after_command (schema_of old) p command) new
   pub said : IsTrue g.tells
       → (g.content (leaves_of new)).now.said ≡ (g.content (leaves_of old)).now.said ++ answer
 
@@ -60,7 +60,7 @@ IsCommandUnsaid g command old new =
 -- a command was carried out, and a front of its answer was said
 abbrev pub IsAnswerCut : {S : Type 0} → Ghosts S → Playing → Command → Engine S → Engine S → Type 0
 IsAnswerCut g p command old new =
-    IsAt g (next_of (schema_of old) p command) new
+    IsAt g (after_command (schema_of old) p command) new
     × ((answer : List ℕ) × IsAnswered (schema_of old) p command answer
     × ((count : ℕ) × ((g.content (leaves_of new)).now.said
     ≡ (g.content (leaves_of old)).now.said ++ take count answer)))
@@ -174,10 +174,26 @@ IsCommitLine schema lines =
     (line : List ℕ) × (later : List (List ℕ)) × (lines ≡ line ∷ later)
     × IsLineOf schema line command.Commit
 
--- The first lines ran from a moment on, and a front of their answers was said. Unless a call below
--- failed, all of them was, and the last kept state is theirs. After a failed call the engine stands
--- behind them; or all of their answers was said, and the last kept state is theirs unless the next
--- line is a commit.
+-- The answers of these lines from a moment on were said, but perhaps for an end of the last one's:
+-- whole those of the first lines, and a front of the answer of the last.
+pub record AreSaidUpTo (schema : Schema) (p : Playing) (ran : List (List ℕ))
+    (text before now : List ℕ) : Type 0 where
+  pub first : List (List ℕ)
+  pub last : List (List ℕ)
+  pub one : length last ≤ 1
+  pub ran_are : ran ≡ first ++ last
+  pub whole : List ℕ
+  pub cut : List ℕ
+  pub text_is : text ≡ whole ++ cut
+  pub middle : Playing
+  pub runs : Runs schema p first whole middle
+  pub count : ℕ
+  pub said : now ≡ before ++ (whole ++ take count cut)
+
+-- The first lines ran from a moment on, and their answers were said, but perhaps for an end of the
+-- last one. Unless a call below failed, all of them was, and the last kept state is theirs. After a
+-- failed call the engine stands behind them; or all of their answers was said, and the last kept
+-- state is theirs unless the next line is a commit.
 pub record IsPlayedPart {S : Type 0} (g : Ghosts S) (p : Playing) (lines : Lines)
     (old new : Engine S) (why : Stop) : Type 0 where
   pub ran : List (List ℕ)
@@ -186,8 +202,8 @@ pub record IsPlayedPart {S : Type 0} (g : Ghosts S) (p : Playing) (lines : Lines
   pub text : List ℕ
   pub final : Playing
   pub runs : Runs (schema_of old) p ran text final
-  pub front : (n : ℕ) × ((g.content (leaves_of new)).now.said
-      ≡ (g.content (leaves_of old)).now.said ++ take n text)
+  pub up_to : AreSaidUpTo (schema_of old) p ran text (g.content (leaves_of old)).now.said
+      (g.content (leaves_of new)).now.said
   pub whole : why ≢ stop.Fault
       → (g.content (leaves_of new)).now.said ≡ (g.content (leaves_of old)).now.said ++ text
   pub kept : why ≢ stop.Fault
@@ -271,14 +287,13 @@ pub record IsPlayedFull (schema : Schema) (built : Built) (limit : Option Limits
   pub said : now ≡ before ++ answers
   pub holds : Holds final.kept
 
--- A front of the answers of its first lines was said. The last state that these lines kept is held;
--- or all of their answers was said, and the next line is a commit.
+-- The answers of its first lines were said, but perhaps for an end of the last one. The last state
+-- that these lines kept is held; or all of their answers was said, and the next line is a commit.
 pub record IsPlayedFront (schema : Schema) (start : State) (Holds : State → Type 0)
     (script before now : List ℕ) : Type 0 where
   pub answers : List ℕ
   pub first : AreFirst schema start script answers
-  pub count : ℕ
-  pub said : now ≡ before ++ take count answers
+  pub up_to : AreSaidUpTo schema (start_at start) first.ran answers before now
   pub holds : Holds first.final.kept ⊎ ((now ≡ before ++ answers) × IsCommitLine schema first.later)
 
 -- how the play of a script ended, before the line of the end is said

@@ -3,7 +3,7 @@ ghost use Rattle.std.specs.Prelude.{◌≡◌, ◌≢◌, ◌++◌, ◌≤◌, �
 ghost use Rattle.std.specs.Fmt.{decimal};
 ghost use Rattle.gx_device.specs.Faults.{Rose};
 ghost use Rattle.gx_play.specs.Summaries.{accepted_line};
-ghost use Rattle.gx_play.specs.Endings.{line_of, status_of, device_line, made_line, IsEnded};
+ghost use Rattle.gx_play.specs.Endings.{ending_line, status_of, device_line, made_line, IsEnded};
 ghost use Rattle.gx_play.specs.Say.{OnlySays, SameDevices};
 
 use crate::play::PlayEnd;
@@ -173,7 +173,7 @@ fn status(ending: Ending<'_>) -> Status
 
 // The line of an ending, with its LF.
 fn line(alloc: Global, ending: Ending<'_>) -> Result<Vec<u8>, NoMemory>
-    ensures line { IfOk result (λ line. line.items ≡ line_of ending.entry) }
+    ensures line { IfOk result (λ line. line.items ≡ ending_line ending.entry) }
     ensures fault { ending.entry ≡ Ending.Fault → IsOk result }
 {
     match ending {

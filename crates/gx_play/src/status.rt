@@ -9,7 +9,7 @@ pub enum Status {
     Refused,
     /// A line ended the script early. The last line said is `stopped at line N: WHY`.
     Script,
-    /// A call of the machine failed. Nothing was said after that.
+    /// A call of the machine failed. No line says so.
     Outside,
     /// The pages may be too few for a command. The last line said is `stopped: full`.
     Full,

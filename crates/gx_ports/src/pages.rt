@@ -1,7 +1,7 @@
 // Pages: each has 4,096 bytes and an owner, as it is and as it was last committed.
-ghost use Rattle.std.specs.Prelude.{◌≡◌, ◌↔◌, ℕ, ◌*◌, ◌≤◌, ◌<◌, length, slice_get, slice_set, Some, IsTrue, IfOk, OnOk, IsErrOf};
+ghost use Rattle.std.specs.Prelude.{◌≡◌, ◌↔◌, ◌*◌, ◌≤◌, ◌<◌, length, slice_get, slice_set, Some, IsTrue, IfOk, OnOk, IsErrOf};
 ghost use Rattle.gx_device.specs.Content.{Content};
-ghost use Rattle.gx_ports.specs.Sheets.{Sheets, IsPast, IsHomeOf, IsClaimed, IsOwnedAnew, AreOwnersOn, HasNone};
+ghost use Rattle.gx_ports.specs.Sheets.{IsPast, IsHomeOf, IsClaimed, IsOwnedAnew, AreOwnersOn, HasNone};
 ghost use Rattle.gx_ports.specs.PageCalls.{KeepsPages, ReadsPages, TalksPages, SettlesPages, CountsPageFaults, PagesHear, PagesSay};
 ghost use Rattle.gx_ports.specs.Stops.{HasStopCause};
 ghost use Rattle.gx_device.specs.Quiet.{QuietSince};

@@ -1,8 +1,8 @@
 // Canonical texts.
-ghost use Rattle.std.specs.Prelude.{◌≡◌, ◌++◌, ◌∷◌, [], codes, List, ℕ, IfOk, OnOk};
+ghost use Rattle.std.specs.Prelude.{◌≡◌, ◌++◌, ◌∷◌, [], List, ℕ, IfOk, OnOk};
 ghost use Rattle.std.specs.Fmt.{decimal, signed_decimal};
 ghost use Rattle.gx_equation.specs.declared.heads.Head.TheVariants as heads;
-ghost use Rattle.gx_equation.specs.Printing.{bound_text, spaced, names_text, head_text, term_text, list_text, more_text, side_text, definition_text, equation_text, AreWritten};
+ghost use Rattle.gx_equation.specs.Printing.{bound_text, spaced, names_text, head_text, term_text, list_text, side_text, definition_text, equation_text, AreWritten};
 ghost use Rattle.gx_equation.specs.Grammar.{Means};
 ghost use Rattle.gx_equation.specs.Seen.{tree_of, trees_of, side_of, definition_of, definitions_of};
 ghost use Rattle.gx_equation.specs.Trees.{head_of, kids_from};

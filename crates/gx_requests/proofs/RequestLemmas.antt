@@ -37,7 +37,8 @@ two_counted (running device) is = is
 two_counted (inspecting device) is = is
 two_counted (working device blocks records) is = absurd is
 
-two_there : (a : Action) (texts : Texts) (name text : List ℕ) → IsCountedOfTwo a → IsText texts name text → IsSchemaOf a texts name text
+two_there : (a : Action) (texts : Texts) (name text : List ℕ) → IsCountedOfTwo a
+    → IsText texts name text → IsSchemaOf a texts name text
 two_there checking texts name text two is = is
 two_there trying texts name text two is = is
 two_there explaining texts name text two is = is
@@ -57,7 +58,8 @@ one_counted (making device blocks) is = absurd is
 one_counted (running device) is = absurd is
 one_counted (inspecting device) is = absurd is
 
-one_there : (a : Action) (texts : Texts) (name : List ℕ) → IsCountedOfOne a → IsSchemaOf a texts name schema_lines
+one_there : (a : Action) (texts : Texts) (name : List ℕ) → IsCountedOfOne a
+    → IsSchemaOf a texts name schema_lines
 one_there (working device blocks records) texts name is = refl
 one_there checking texts name is = absurd is
 one_there trying texts name is = absurd is
@@ -201,12 +203,16 @@ asked_of_one words texts a equation_name equation asks there = record {
 pub few_leaves : (s e : List ℕ) (schema : Schema) (ds : List DefinitionTree) (typing : Typing)
     → AreAccepted s e schema ds typing → length typing.specs ≤ 255
 few_leaves s e schema ds typing is =
-    subst (λ (t : Typing). length t.specs ≤ 255) (sym is.leaves_are) (omega (arith, is.typed.few, length-map (leaves schema ds) spec_of))
+    subst (λ (t : Typing). length t.specs ≤ 255) (sym is.leaves_are)
+    (omega (arith, is.typed.few, length-map (leaves schema ds) spec_of))
 
-unaccepted : (words : List (List ℕ)) (texts : Texts) (before now : ℕ) (a : Action) (s e : List ℕ) (why : Ending)
+unaccepted : (words : List (List ℕ)) (texts : Texts) (before now : ℕ) (a : Action) (s e : List ℕ)
+    (why : Ending)
     → IsAsked words texts a s e → AreUnchecked s e why → IsUnprepared words texts before now why
-unaccepted words texts before now a s e (ending.Schema line reason) asked h = inl (a, s, e, asked, h)
-unaccepted words texts before now a s e (ending.Equation line reason) asked h = inl (a, s, e, asked, h)
+unaccepted words texts before now a s e (ending.Schema line reason) asked h =
+    inl (a, s, e, asked, h)
+unaccepted words texts before now a s e (ending.Equation line reason) asked h =
+    inl (a, s, e, asked, h)
 unaccepted words texts before now a s e (ending.Type line reason) asked h = inl (a, s, e, asked, h)
 unaccepted words texts before now a s e ending.TextsTooLong asked h = inl (a, s, e, asked, h)
 unaccepted words texts before now a s e ending.NoMemory asked h = inr tt
@@ -221,21 +227,26 @@ unaccepted words texts before now a s e (ending.Line number reason) asked h = ab
 unaccepted words texts before now a s e ending.Fault asked h = absurd h
 
 -- the same for what a call answers
-all_unaccepted : (words : List (List ℕ)) (texts : Texts) (before now : ℕ) (a : Action) (s e : List ℕ)
+all_unaccepted : (words : List (List ℕ)) (texts : Texts) (before now : ℕ) (a : Action)
+    (s e : List ℕ)
     (result : Result Checked Ending) → IsAsked words texts a s e → IfErr result (AreUnchecked s e)
     → IfErr result (IsUnprepared words texts before now)
 all_unaccepted words texts before now a s e (Ok c) asked h = tt
-all_unaccepted words texts before now a s e (Err why) asked h = unaccepted words texts before now a s e why asked h
+all_unaccepted words texts before now a s e (Err why) asked h =
+    unaccepted words texts before now a s e why asked h
 
 all_accepted : (words : List (List ℕ)) (texts : Texts) (a : Action) (s e : List ℕ)
-    (result : Result Checked Ending) → IsAsked words texts a s e → IfOk result (AreChecked s e) → IfOk result (IsAcceptedAs words texts a)
+    (result : Result Checked Ending) → IsAsked words texts a s e → IfOk result (AreChecked s e)
+    → IfOk result (IsAcceptedAs words texts a)
 all_accepted words texts a s e (Ok c) asked h = (s, e, asked, h)
 all_accepted words texts a s e (Err why) asked h = tt
 
 -- what the checker says of them
 pub summary : (words : List (List ℕ)) (texts : Texts) (c : Checked) (given : Summary)
-    → IsAcceptedAs words texts checking c → given ≡ summary_of c.typing.specs → IsSummary words texts given
-summary words texts c given is same = (c.schema, definitions_of c.equation.definitions, c.typing, is, same)
+    → IsAcceptedAs words texts checking c → given ≡ summary_of c.typing.specs
+    → IsSummary words texts given
+summary words texts c given is same =
+    (c.schema, definitions_of c.equation.definitions, c.typing, is, same)
 
 -- what the checker says of the texts that are asked for is what is prepared
 pub all_checked : (Asks : List (List ℕ) → Action → Type 0) (texts : Texts) (before now : ℕ)
@@ -265,7 +276,8 @@ passed_on Asks Given texts before now why (Err e) un is = record {
 
 -- ---- what is built of them
 
-pub all_built : (words : List (List ℕ)) (texts : Texts) (a : Action) (c : Checked) (x : Schema × Built)
+pub all_built : (words : List (List ℕ)) (texts : Texts) (a : Action) (c : Checked) (x : Schema
+    × Built)
     → IsAcceptedAs words texts a c → IsBuiltFor c x → IsPrepared words texts a x
 all_built words texts a c x is h =
     let ds = definitions_of c.equation.definitions in
@@ -283,7 +295,8 @@ all_stored words texts a c x is h =
     record {
       definitions = ds;
       typing = c.typing;
-      accepted = subst (λ (k : Schema). IsAccepted words texts a k ds c.typing) (sym h.schema_is) is;
+      accepted = subst (λ (k : Schema). IsAccepted words texts a k ds c.typing)
+          (sym h.schema_is) is;
       specs_are = h.specs_are;
       owners_are = h.owners_are;
       trees = subst (λ (k : Schema). IsBuiltOf k ds x.built) (sym h.schema_is) h.trees;

@@ -4,7 +4,7 @@ use Rattle.std.specs.FinMap.{get}
 use Rattle.gx_device.specs.Content.{Content, Texts}
 use Rattle.gx_tokens.specs.declared.why.Unread.{Unread}
 use Rattle.gx_tokens.specs.declared.why.Unread.TheVariants as unread
-use Rattle.gx_tokens.specs.Reading.{map_ok, with_line}
+use Rattle.gx_tokens.specs.Reading.{map_ok, with_fault_line}
 use Rattle.gx_schema.specs.declared.schema.Schema.{Schema}
 use Rattle.gx_schema.specs.Grammar.{IsSchemaText}
 use Rattle.gx_schema.specs.Reading.{schema_of}
@@ -74,7 +74,7 @@ pub record IsNamed (words : List (List ℕ)) (texts : Texts) (name : List ℕ) :
 -- what reading an equation gives: its definitions and the lines of their places, or the line of the
 -- first fault and its reason
 abbrev pub equation_of : List ℕ → Result (List DefinitionTree × List ℕ) Unread
-equation_of text = with_line text (map_ok (with_lines text) (equation_at text))
+equation_of text = with_fault_line text (map_ok (with_lines text) (equation_at text))
 
 -- the two texts mean a schema and definitions
 pub record AreRead (schema_text equation_text : List ℕ) (schema : Schema) (ds : List DefinitionTree)

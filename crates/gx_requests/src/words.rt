@@ -3,6 +3,7 @@ ghost use Rattle.std.specs.Prelude.{◌≡◌, ◌≢◌, ◌∷◌, [], ◌<◌
 ghost use Rattle.gx_requests.specs.Words.{Action, texts_of, request_words, IsCount, IsCounted, IsRecordCount, NoCounts, AreNoCounts, IsRequest, has_sign};
 
 use gx_tokens::signed_number;
+use gx_work::MOST_RECORDS;
 
 /// What is asked for, with the names of a schema and of an equation.
 #[derive(Clone, Copy, Debug)]
@@ -53,9 +54,6 @@ pub enum Request<'a> {
 
 // The most digits of a number of blocks or of records.
 const MOST_DIGITS: usize = 10;
-
-// The most records of a workload.
-const MOST_RECORDS: u32 = 10_000;
 
 /// The request that the words mean: `check SCHEMA EQUATION`, `try SCHEMA EQUATION`,
 /// `explain SCHEMA EQUATION`, `make SCHEMA EQUATION DEVICE BLOCKS`, `run SCHEMA EQUATION DEVICE`,

@@ -193,7 +193,8 @@ module _ (file : FileDef) (t : Tree AnyMapping) (g : Groups) (leaves : ℕ) (map
         nothing (fin.get f k) none_found
       where
         nothing : (o : Option (List Value))
-            → length {A = Row} (list_of_one (option_map (λ (values : List Value). (k, values)) o)) ≡ 0
+            → length {A = Row} (list_of_one (option_map (λ (values : List Value). (k, values)) o))
+            ≡ 0
             → None ≡ o
         nothing None none = refl
         nothing (Some values) none = absurd (omega (arith, none))

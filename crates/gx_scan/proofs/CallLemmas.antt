@@ -11,11 +11,13 @@ use Rattle.gx_stack.proofs.PassLemmas.{Passes}
 use Rattle.gx_types.specs.declared.any.AnyMapping.{AnyMapping}
 use Rattle.gx_scan.specs.Files.{IsInternal, HasFile}
 
-pub ok_both : {A E : Type 0} (r : Result A E) (P Q R : A → Type 0) → IfOk r P → IfOk r Q → ((x : A) → P x → Q x → R x) → IfOk r R
+pub ok_both : {A E : Type 0} (r : Result A E) (P Q R : A → Type 0) → IfOk r P → IfOk r Q
+    → ((x : A) → P x → Q x → R x) → IfOk r R
 ok_both (Ok x) P Q R p q more = more x p q
 ok_both (Err e) P Q R p q more = tt
 
-pub ok_one : {A E : Type 0} (r : Result A E) (P R : A → Type 0) → IfOk r P → ((x : A) → P x → R x) → IfOk r R
+pub ok_one : {A E : Type 0} (r : Result A E) (P R : A → Type 0) → IfOk r P → ((x : A) → P x → R x)
+    → IfOk r R
 ok_one (Ok x) P R p more = more x p
 ok_one (Err e) P R p more = tt
 
@@ -24,7 +26,9 @@ ok_alone (Ok x) P R p more = more p
 ok_alone (Err e) P R p more = tt
 
 -- how a call ends is told of another sound state
-pub ends_so : {S T : Type 0} (g : Ghosts S) (known sound : Type 0) (old new : S) (result : Result T Stop) → (sound → known) → Ends g known old new result → Ends g sound old new result
+pub ends_so : {S T : Type 0} (g : Ghosts S) (known sound : Type 0) (old new : S)
+    (result : Result T Stop) → (sound → known) → Ends g known old new result
+    → Ends g sound old new result
 ends_so g known sound old new result more ends = record {
   whole = ends.whole;
   later = ends.later;
@@ -34,7 +38,8 @@ ends_so g known sound old new result more ends = record {
 }
 
 -- what was answered in the place of another answer
-pub ends_now : {S T U : Type 0} (g : Ghosts S) (sound : Type 0) (old new : S) (x : T) (y : U) → Ends g sound old new (Ok x) → Ends g sound old new (Ok y)
+pub ends_now : {S T U : Type 0} (g : Ghosts S) (sound : Type 0) (old new : S) (x : T) (y : U)
+    → Ends g sound old new (Ok x) → Ends g sound old new (Ok y)
 ends_now g sound old new x y ends = record {
   whole = ends.whole;
   later = ends.later;

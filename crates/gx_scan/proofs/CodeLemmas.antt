@@ -198,5 +198,6 @@ text_coded most text fits few =
     record {
       fits = fits;
       short =
-          short_runs (runs_of text) (subst (λ (n : ℕ). n ≤ 200) (ap length (sym (runs_joined text))) few);
+          short_runs (runs_of text)
+          (subst (λ (n : ℕ). n ≤ 200) (ap length (sym (runs_joined text))) few);
     }

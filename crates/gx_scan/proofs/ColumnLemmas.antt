@@ -41,7 +41,7 @@ use Rattle.gx_types.specs.declared.any.AnyMapping.{AnyMapping}
 use Rattle.gx_types.specs.Any.{any_rule}
 use Rattle.gx_model.specs.States.{File, Row, IsRowOf}
 use Rattle.gx_scan.specs.declared.places.Place.{Place}
-use Rattle.gx_scan.specs.Files.{rec_of, records_of, IsStorable, IsTreeFor, IsInternal}
+use Rattle.gx_scan.specs.Files.{rec_of, file_records, IsStorable, IsTreeFor, IsInternal}
 use Rattle.gx_scan.specs.Records.{list_of_one}
 use Rattle.gx_scan.specs.Steps.{HaveAtMost, is_key_inside, rows_inside}
 use Rattle.gx_scan.specs.Entries.{ArePlaces, entry_of_row}
@@ -234,8 +234,8 @@ module _ (file : FileDef) (t : Tree AnyMapping) (ps : List Place) (leaves : ℕ)
   valid : IsValid any_rule (layer are.mapping are.kids)
   valid = subst (IsValid any_rule) are.tree tree.valid
 
-  held : IsHeld any_rule (layer are.mapping are.kids) (records_of f) maps
-  held = subst (λ t. IsHeld any_rule t (records_of f) maps) are.tree is.held
+  held : IsHeld any_rule (layer are.mapping are.kids) (file_records f) maps
+  held = subst (λ t. IsHeld any_rule t (file_records f) maps) are.tree is.held
 
   pub row_fit : (r : Row) → In r all_rows → IsRowOf file r
   row_fit r h = all_in (IsRowOf file) all_rows r is.fit h
@@ -256,9 +256,9 @@ module _ (file : FileDef) (t : Tree AnyMapping) (ps : List Place) (leaves : ℕ)
 
   module _ (c : ℕ) (p : Place) (lt : c < length ps) (item : p ≡ get_or ps c p) where
     column : KidAt are.kids ((any_rule are.mapping).kid_form)
-        (λ (n : ℕ). child_records (any_rule are.mapping) n (records_of f)) maps c p
+        (λ (n : ℕ). child_records (any_rule are.mapping) n (file_records f)) maps c p
     column = kid_at are.kids ((any_rule are.mapping).kid_form)
-        (λ (n : ℕ). child_records (any_rule are.mapping) n (records_of f)) maps ps c p are.each
+        (λ (n : ℕ). child_records (any_rule are.mapping) n (file_records f)) maps ps c p are.each
         valid.1 held lt item
 
     form_is : tree_form any_rule column.tree ≡ column_form form c
@@ -283,7 +283,7 @@ module _ (file : FileDef) (t : Tree AnyMapping) (ps : List Place) (leaves : ℕ)
 
     union : IsUnion any_rule column.tree (map rec_of (map (column_row c) all_rows)) maps
     union = subst (λ R. IsUnion any_rule column.tree R maps)
-        (ap (λ (rule : Rule). child_records rule c (records_of f)) are.splits
+        (ap (λ (rule : Rule). child_records rule c (file_records f)) are.splits
         ∙ column_records form c all_rows (λ r h. omega (arith, lt, row_long r h)))
         (union_from_internal any_rule column.tree _ maps column.held)
 

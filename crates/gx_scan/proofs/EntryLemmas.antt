@@ -29,14 +29,17 @@ use Rattle.gx_scan.specs.Entries.{wrapped, entry_of_row, IsStoredRow}
 
 -- ---- one record
 
-first_kind : (fs : List Field) (d : Field) → 0 < length fs → d ≡ get_or fs 0 d → d.kind ≡ (get_or fs 0 no_field).kind
+first_kind : (fs : List Field) (d : Field) → 0 < length fs → d ≡ get_or fs 0 d
+    → d.kind ≡ (get_or fs 0 no_field).kind
 first_kind [] d some is = absurd (omega arith)
 first_kind (f ∷ fs) d some is = ap (λ (g : Field). g.kind) is
 
-pub kind_is : (file : FileDef) (d : Field) → IsStorable file → d ≡ get_or file.fields 0 d → d.kind ≡ key_kind file
+pub kind_is : (file : FileDef) (d : Field) → IsStorable file → d ≡ get_or file.fields 0 d
+    → d.kind ≡ key_kind file
 kind_is file d is at = first_kind file.fields d is.keyed at
 
-pub key_fits : (file : FileDef) (k : Kind) (bytes : List ℕ) (key : Value) → k ≡ key_kind file → IsRead bytes_of k bytes (Some key) → Fits (key_kind file) key
+pub key_fits : (file : FileDef) (k : Kind) (bytes : List ℕ) (key : Value) → k ≡ key_kind file
+    → IsRead bytes_of k bytes (Some key) → Fits (key_kind file) key
 key_fits file k bytes key same read = subst (λ (j : Kind). Fits j key) same read.0
 
 pub key_read : (file : FileDef) (k : Kind) (bytes : List ℕ) (key : Value) (r : Row)
@@ -47,11 +50,16 @@ key_read file k bytes key r is same be read fit =
     (read.1 ∙ be)
 
 -- what is read of a record's entry is the record
-pub row_read : (file : FileDef) (k : Kind) (key_bytes body_bytes : List ℕ) (fields : List Field) (key : Value) (vs : List Value) (r : Row) → IsStorable file → k ≡ key_kind file → fields ≡ data_fields file → key_bytes ≡ bytes_of r.0 → body_bytes ≡ body_of r.1
-    → IsRead bytes_of k key_bytes (Some key) → AreRead field_bytes fields body_bytes (Some vs) → IsRowOf file r → ◌≡◌ {A = Option Row} (Some (key, vs)) (Some r)
+pub row_read : (file : FileDef) (k : Kind) (key_bytes body_bytes : List ℕ) (fields : List Field)
+    (key : Value) (vs : List Value) (r : Row) → IsStorable file → k ≡ key_kind file
+    → fields ≡ data_fields file → key_bytes ≡ bytes_of r.0 → body_bytes ≡ body_of r.1
+    → IsRead bytes_of k key_bytes (Some key) → AreRead field_bytes fields body_bytes (Some vs)
+    → IsRowOf file r → ◌≡◌ {A = Option Row} (Some (key, vs)) (Some r)
 row_read file k key_bytes body_bytes fields key vs r is kind_same same ke be read reads fit =
     let first : key ≡ r.0 = key_read file k key_bytes key r is kind_same ke read fit in
-    let others : vs ≡ r.1 = same_body (data_fields file) vs r.1 is.short (subst (λ (fs : List Field). AreFit fs vs) same reads.0) fit.1 (reads.1 ∙ be) in
+    let others : vs ≡ r.1 =
+    same_body (data_fields file) vs r.1 is.short
+    (subst (λ (fs : List Field). AreFit fs vs) same reads.0) fit.1 (reads.1 ∙ be) in
     λ i. Some (first i, others i)
 
 pub rows_fit : (file : FileDef) (cs : List (Option Code)) (rs : List Row)
@@ -94,29 +102,41 @@ pub record IsBehind (body : List ℕ) (front : ℕ) (values : List ℕ) : Type 0
   pub long : front ≤ length body
   pub is : drop front body ≡ values
 
-behind_more : (body values : List ℕ) (front : ℕ) → IsBehind body front values → IsBehind (body_of (value.Bytes body ∷ [])) (front + 2) values
+behind_more : (body values : List ℕ) (front : ℕ) → IsBehind body front values
+    → IsBehind (body_of (value.Bytes body ∷ [])) (front + 2) values
 behind_more body values front is =
     let two = to_be_bytes w16 (length body) in
     let all : body_of (value.Bytes body ∷ []) ≡ two ++ body = append-nil (two ++ body) in
     record {
       long = omega (arith, is.long, ap length all, length-append two body, length_be (length body));
-      is = ap (drop (front + 2)) all ∙ ap (λ n. drop n (two ++ body)) (let y : front + 2 ≡ length two + front = omega (arith, length_be (length body)) in y) ∙ drop-append-add two body front ∙ is.is;
+      is = ap (drop (front + 2)) all
+          ∙ ap (λ n. drop n (two ++ body)) (let y : front + 2 ≡ length two + front =
+          omega (arith, length_be (length body)) in y) ∙ drop-append-add two body front ∙ is.is;
     }
 
-pub values_behind : (n : ℕ) (r : Rec) → IsBehind (leaf_body (wrapped (suc n) r).fields) (2 * n) (body_of r.fields)
+pub values_behind : (n : ℕ) (r : Rec)
+    → IsBehind (leaf_body (wrapped (suc n) r).fields) (2 * n) (body_of r.fields)
 values_behind zero r = record { long = omega arith; is = refl }
-values_behind (suc n) r = subst (λ k. IsBehind (leaf_body (wrapped (suc (suc n)) r).fields) k (body_of r.fields)) (let y : 2 * n + 2 ≡ 2 * suc n = omega arith in y) (behind_more (leaf_body (wrapped (suc n) r).fields) (body_of r.fields) (2 * n) (values_behind n r))
+values_behind (suc n) r =
+    subst (λ k. IsBehind (leaf_body (wrapped (suc (suc n)) r).fields) k (body_of r.fields))
+    (let y : 2 * n + 2 ≡ 2 * suc n = omega arith in y)
+    (behind_more (leaf_body (wrapped (suc n) r).fields) (body_of r.fields) (2 * n)
+    (values_behind n r))
 
 -- ---- the records within a span
 
-pub filter_map : {A B : Type 0} (test : B → Bool) (f : A → B) (xs : List A) → filter test (map f xs) ≡ map f (filter (λ x. test (f x)) xs)
+pub filter_map : {A B : Type 0} (test : B → Bool) (f : A → B) (xs : List A)
+    → filter test (map f xs) ≡ map f (filter (λ x. test (f x)) xs)
 filter_map test f [] = refl
-filter_map {A} {B} test f (x ∷ xs) = elim (test (f x)) as (λ b. cond b (f x ∷ filter test (map f xs)) (filter test (map f xs)) ≡ map f (cond b (x ∷ filter (λ y. test (f y)) xs) (filter (λ y. test (f y)) xs))) [
-  | true ↦ ap (λ (l : List B). f x ∷ l) (filter_map test f xs)
-  | false ↦ filter_map test f xs
-]
+filter_map {A} {B} test f (x ∷ xs) =
+    elim (test (f x)) as (λ b. cond b (f x ∷ filter test (map f xs)) (filter test (map f xs))
+    ≡ map f (cond b (x ∷ filter (λ y. test (f y)) xs) (filter (λ y. test (f y)) xs))) [
+      | true ↦ ap (λ (l : List B). f x ∷ l) (filter_map test f xs)
+      | false ↦ filter_map test f xs
+    ]
 
-pub map_joined : {A B C : Type 0} (g : B → C) (f : A → B) (xs : List A) → map g (map f xs) ≡ map (λ x. g (f x)) xs
+pub map_joined : {A B C : Type 0} (g : B → C) (f : A → B) (xs : List A)
+    → map g (map f xs) ≡ map (λ x. g (f x)) xs
 map_joined g f [] = refl
 map_joined {A} {B} {C} g f (x ∷ xs) = ap (λ (l : List C). g (f x) ∷ l) (map_joined g f xs)
 
@@ -127,7 +147,9 @@ pub span_entries : (m : LeafMap) (n : ℕ) (cs : List (Option Code)) (rs : List 
     → entries ≡ map (λ (r : Row). entry_of (entry_of_row n cs r))
     (filter (λ (r : Row). is_inside lo hi (bytes_of r.0)) rs)
 span_entries m n cs rs lo hi before out entries same b o e =
-    e ∙ o ∙ ap (λ (l : List Entry). l ++ selected lo hi m) b ∙ ap (λ (es : List (List ℕ × List ℕ)). map entry_of (filter (λ x. is_inside lo hi x.0) es)) same
+    e ∙ o ∙ ap (λ (l : List Entry). l ++ selected lo hi m) b
+    ∙ ap (λ (es : List (List ℕ × List ℕ)). map entry_of (filter (λ x. is_inside lo hi x.0) es))
+    same
     ∙ ap (map entry_of)
     (filter_map (λ (x : List ℕ × List ℕ). is_inside lo hi x.0) (entry_of_row n cs) rs)
     ∙ map_joined entry_of (entry_of_row n cs)

@@ -46,7 +46,7 @@ use Rattle.gx_types.specs.Any.{any_rule}
 use Rattle.gx_model.specs.States.{File, Row, IsRowOf}
 use Rattle.gx_scan.specs.declared.places.Place.{Place}
 use Rattle.gx_scan.specs.declared.groups.Groups.{Groups}
-use Rattle.gx_scan.specs.Files.{rec_of, records_of, IsStorable, IsTreeFor, IsInternal}
+use Rattle.gx_scan.specs.Files.{rec_of, file_records, IsStorable, IsTreeFor, IsInternal}
 use Rattle.gx_scan.specs.Steps.{HaveAtMost, is_key_inside, rows_inside}
 use Rattle.gx_scan.specs.Entries.{below, entry_of_row, data_leaves, IsAlone, ArePlaces}
 use Rattle.gx_scan.specs.Groups.{AreGroups, ArePlain, IsSplitRow, group_row, has_others, first_entry, other_entry, first_stored, other_stored}
@@ -319,9 +319,10 @@ module _ (file : FileDef) (t : Tree AnyMapping) (g : Groups) (leaves : ℕ) (map
   valid : IsValid any_rule (layer are.mapping (kid are.first (kid are.others no_kids)))
   valid = subst (IsValid any_rule) are.tree tree.valid
 
-  held : IsHeld any_rule (layer are.mapping (kid are.first (kid are.others no_kids))) (records_of f)
+  held : IsHeld any_rule (layer are.mapping (kid are.first (kid are.others no_kids)))
+      (file_records f)
       maps
-  held = subst (λ t. IsHeld any_rule t (records_of f) maps) are.tree is.held
+  held = subst (λ t. IsHeld any_rule t (file_records f) maps) are.tree is.held
 
   row_of_tree : (r : Row) → In r all_rows → IsOf (tree_form any_rule t) (rec_of r)
   row_of_tree r h = subst (λ form. IsOf form (rec_of r)) (sym tree.form) ((set_of file f
@@ -375,14 +376,14 @@ module _ (file : FileDef) (t : Tree AnyMapping) (g : Groups) (leaves : ℕ) (map
 
   first_union : IsUnion any_rule are.first (map rec_of (map (group_row mask) all_rows)) maps
   first_union = subst (λ R. IsUnion any_rule are.first R maps)
-      (ap (λ (rule : Rule). child_records rule 0 (records_of f)) are.splits
+      (ap (λ (rule : Rule). child_records rule 0 (file_records f)) are.splits
       ∙ firsts_go (tree_form any_rule t) mask all_rows)
       (union_from_internal any_rule are.first _ maps held.0)
 
   other_union : IsUnion any_rule are.others (map rec_of (other_rows (tree_form any_rule t) mask
       all_rows)) maps
   other_union = subst (λ R. IsUnion any_rule are.others R maps)
-      (ap (λ (rule : Rule). child_records rule 1 (records_of f)) are.splits
+      (ap (λ (rule : Rule). child_records rule 1 (file_records f)) are.splits
       ∙ others_go (tree_form any_rule t) mask all_rows)
       (union_from_internal any_rule are.others _ maps held.1.0)
 

@@ -97,7 +97,8 @@ pub record JoinedAt (f : Field) (mask : List Bool) (vs : List Value) (i : ℕ) (
         ≡ cond b (field_bytes value ++ body_of (chosen (drop (i + 1) mask) (drop (i + 1) vs)))
         (body_of (chosen (drop (i + 1) mask) (drop (i + 1) vs)))
     pub others : body_of (chosen (drop i (map not mask)) (drop i vs))
-        ≡ cond b (body_of (chosen (drop (i + 1) (map not mask)) (drop (i + 1) vs))) (field_bytes value
+        ≡ cond b (body_of (chosen (drop (i + 1) (map not mask)) (drop (i + 1) vs)))
+        (field_bytes value
         ++ body_of (chosen (drop (i + 1) (map not mask)) (drop (i + 1) vs)))
     pub more : body_of (take (i + 1) vs) ≡ body_of (take i vs) ++ field_bytes value
     pub is : get_or vs i none ≡ value

@@ -23,7 +23,7 @@ use Rattle.gx_mapping.proofs.RuleLemmas.{all_in}
 use Rattle.gx_gather.proofs.Lists.{in_map, from_map, in_filter, filter_in}
 use Rattle.gx_gather.proofs.Orders.{Ascends, ascends_filter, ascends_unique}
 use Rattle.gx_gather.proofs.Entries.{find_in, in_find}
-use Rattle.gx_model.specs.States.{File, Row, IsRowOf, IsFileOf}
+use Rattle.gx_model.specs.States.{File, Row, IsRowOf, HasRowsOf}
 use Rattle.gx_model.specs.Found.{meets_conds}
 use Rattle.gx_scan.specs.Files.{rec_of}
 use Rattle.gx_scan.specs.Records.{record_at, list_of_one}
@@ -61,69 +61,102 @@ few_same [] (y ∷ ys) few perm = absurd (omega (arith, length_permutation [] (y
 few_same (x ∷ []) [] few perm = absurd (omega (arith, length_permutation (x ∷ []) [] perm))
 few_same (x ∷ []) (y ∷ []) few perm =
     let is_x = λ (z : Row). z ≡ x in
-    ap (λ (z : Row). z ∷ []) (recursion_from_All is_x (y ∷ []) (All-permutation is_x (x ∷ []) (y ∷ []) perm (All-from_recursion is_x (x ∷ []) (refl, tt)))).0
-few_same (x ∷ []) (y ∷ z ∷ ys) few perm = absurd (omega (arith, length_permutation (x ∷ []) (y ∷ z ∷ ys) perm))
+    ap (λ (z : Row). z ∷ [])
+    (recursion_from_All is_x (y ∷ [])
+    (All-permutation is_x (x ∷ []) (y ∷ []) perm
+    (All-from_recursion is_x (x ∷ []) (refl, tt)))).0
+few_same (x ∷ []) (y ∷ z ∷ ys) few perm =
+    absurd (omega (arith, length_permutation (x ∷ []) (y ∷ z ∷ ys) perm))
 few_same (x ∷ w ∷ xs) ys few perm = absurd (omega (arith, few))
 
 -- ---- the span of one key
 
-module _ (file : FileDef) (f : File) (k : Value) (span : Span) (kind : IsKeyKind (key_kind file)) (fit : Fits (key_kind file) k) (fits : IsFileOf file f) (lo : span.lo ≡ bytes_of k) (hi : span.hi ≡ bytes_of k) where
-  inside_is : (q : Value) → Fits (key_kind file) q → is_inside span.lo span.hi (bytes_of q) ≡ eq_by_cmp value_cmp k q
-  inside_is q fit_q = (λ i. is_inside (lo i) (hi i) (bytes_of q)) ∙ inside_one (key_kind file) k q kind fit fit_q ∙ ap is_eq (key_order (key_kind file) k q kind fit fit_q)
+module _ (file : FileDef) (f : File) (k : Value) (span : Span) (kind : IsKeyKind (key_kind file))
+    (fit : Fits (key_kind file) k) (fits : HasRowsOf file f) (lo : span.lo ≡ bytes_of k)
+    (hi : span.hi ≡ bytes_of k) where
+  inside_is : (q : Value) → Fits (key_kind file) q
+      → is_inside span.lo span.hi (bytes_of q) ≡ eq_by_cmp value_cmp k q
+  inside_is q fit_q = (λ i. is_inside (lo i) (hi i) (bytes_of q))
+      ∙ inside_one (key_kind file) k q kind fit fit_q
+      ∙ ap is_eq (key_order (key_kind file) k q kind fit fit_q)
 
   -- the file's records within it are the one at the key
   rows_at_one : rows_inside span f ≡ row_at f k
-  rows_at_one = ascends_unique (on_total (λ (r : Row). r.0) value_cmp_total) (rows_inside span f) (row_at f k)
-      (ascends_filter key_cmp (is_key_inside span) (fin.entries f) (entries_ascend value_cmp (fin.entries f) (fin.entries_sorted f)))
+  rows_at_one = ascends_unique (on_total (λ (r : Row). r.0) value_cmp_total) (rows_inside span f)
+      (row_at f k)
+      (ascends_filter key_cmp (is_key_inside span) (fin.entries f)
+      (entries_ascend value_cmp (fin.entries f) (fin.entries_sorted f)))
       (one_ascends (record_at f k))
       (λ r h.
       let kept = in_filter (is_key_inside span) r (fin.entries f) h in
       let fit_r = (all_in (IsRowOf file) (fin.entries f) r fits kept.0).0 in
       let same : k ≡ r.0 = same_value k r.0 (sym (inside_is r.0 fit_r) ∙ kept.1) in
-      let found : fin.get f k ≡ Some r.1 = ap (fin.get f) same ∙ fin.get-entries f r.0 ∙ in_find value_cmp_total r (fin.entries f) (fin.entries_sorted f) kept.0 in
-      subst (λ (x : Row). In x (row_at f k)) (λ i. (same i, r.1)) (in_map row_of (rec_of (k, r.1)) (list_of_one (record_at f k)) (some_in f k r.1 found)))
+      let found : fin.get f k ≡ Some r.1 = ap (fin.get f) same ∙ fin.get-entries f r.0
+      ∙ in_find value_cmp_total r (fin.entries f) (fin.entries_sorted f) kept.0 in
+      subst (λ (x : Row). In x (row_at f k)) (λ i. (same i, r.1))
+      (in_map row_of (rec_of (k, r.1)) (list_of_one (record_at f k)) (some_in f k r.1 found)))
       (λ r h.
       let one = from_map row_of r (list_of_one (record_at f k)) h in
       let there = in_one f k one.0 one.1 in
       let is : r ≡ (k, there.0) = one.2 ∙ ap row_of there.2 in
-      let among : In (k, there.0) (fin.entries f) = find_in value_cmp_same k there.0 (fin.entries f) (sym (fin.get-entries f k) ∙ there.1) in
-      subst (λ (x : Row). In x (rows_inside span f)) (sym is) (filter_in (is_key_inside span) (k, there.0) (fin.entries f) among (inside_is k fit ∙ value_itself k)))
+      let among : In (k, there.0) (fin.entries f) =
+      find_in value_cmp_same k there.0 (fin.entries f) (sym (fin.get-entries f k) ∙ there.1) in
+      subst (λ (x : Row). In x (rows_inside span f)) (sym is)
+      (filter_in (is_key_inside span) (k, there.0) (fin.entries f) among (inside_is k fit
+      ∙ value_itself k)))
 
   -- so what was added is that record, where it meets the conditions
-  pub added_at_key : (conds : List Cond) (before now : List Row) → AreAdded span conds f before now → now ≡ before ++ filter (meets_conds conds) (row_at f k)
+  pub added_at_key : (conds : List Cond) (before now : List Row) → AreAdded span conds f before now
+      → now ≡ before ++ filter (meets_conds conds) (row_at f k)
   added_at_key conds before now is =
       let within = filter (is_within span conds) (fin.entries f) in
-      let same : within ≡ filter (meets_conds conds) (row_at f k) = sym (filter_twice (meets_conds conds) (is_key_inside span) (fin.entries f)) ∙ ap (filter (meets_conds conds)) rows_at_one in
-      let few : length within ≤ 1 = subst (λ (l : List Row). length l ≤ 1) (sym same) (met_few (meets_conds conds) (record_at f k)) in
-      is.appended ∙ ap (λ (l : List Row). before ++ l) (few_same within is.added few is.those ∙ same)
+      let same : within ≡ filter (meets_conds conds) (row_at f k) =
+      sym (filter_twice (meets_conds conds) (is_key_inside span) (fin.entries f))
+      ∙ ap (filter (meets_conds conds)) rows_at_one in
+      let few : length within ≤ 1 =
+      subst (λ (l : List Row). length l ≤ 1) (sym same)
+      (met_few (meets_conds conds) (record_at f k)) in
+      is.appended ∙ ap (λ (l : List Row). before ++ l) (few_same within is.added few is.those
+      ∙ same)
 
   -- those within it, in any order, are the one at the key
   pub one_at_key : (rows : List Row) → IsPermutation (rows_inside span f) rows → rows ≡ row_at f k
   one_at_key rows those =
-      let few : length (rows_inside span f) ≤ 1 = subst (λ (l : List Row). length l ≤ 1) (sym rows_at_one) (one_few (record_at f k)) in
+      let few : length (rows_inside span f) ≤ 1 =
+      subst (λ (l : List Row). length l ≤ 1) (sym rows_at_one) (one_few (record_at f k)) in
       few_same (rows_inside span f) rows few those ∙ rows_at_one
 
-  pub steps_at_key : (leaves most before after : ℕ) → after ≤ before + (leaves + length (rows_inside span f) * most) → after ≤ before + (leaves + most)
+  pub steps_at_key : (leaves most before after : ℕ)
+      → after ≤ before + (leaves + length (rows_inside span f) * most)
+      → after ≤ before + (leaves + most)
   steps_at_key leaves most before after steps =
-      let few : length (rows_inside span f) ≤ 1 = subst (λ (l : List Row). length l ≤ 1) (sym rows_at_one) (one_few (record_at f k)) in
+      let few : length (rows_inside span f) ≤ 1 =
+      subst (λ (l : List Row). length l ≤ 1) (sym rows_at_one) (one_few (record_at f k)) in
       let product : length (rows_inside span f) * most ≤ 1 * most = mul-le-mul_right most few in
       omega (arith, steps, product)
 
 -- ---- the values of the record at a key
 
 -- the record at a key that has these values, found without conditions
-pub one_unfiltered : (k : Value) (o : Option (List Value)) → filter (meets_conds []) (map row_of (list_of_one (option_map (λ values. rec_of (k, values)) o))) ≡ list_of_one (option_map (λ (values : List Value). (k, values)) o)
+pub one_unfiltered : (k : Value) (o : Option (List Value))
+    → filter (meets_conds [])
+    (map row_of (list_of_one (option_map (λ values. rec_of (k, values)) o))) ≡ list_of_one
+    (option_map (λ (values : List Value). (k, values)) o)
 one_unfiltered k None = refl
 one_unfiltered k (Some values) = refl
 
-pub row_found : (k : Value) (o : Option (List Value)) → map row_of (list_of_one (option_map (λ values. rec_of (k, values)) o)) ≡ list_of_one (option_map (λ (values : List Value). (k, values)) o)
+pub row_found : (k : Value) (o : Option (List Value))
+    → map row_of (list_of_one (option_map (λ values. rec_of (k, values)) o)) ≡ list_of_one
+    (option_map (λ (values : List Value). (k, values)) o)
 row_found k None = refl
 row_found k (Some values) = refl
 
-pub row_values : (k : Value) (o : Option (List Value)) → option_map (λ (r : Row). r.1) (option_map (λ (values : List Value). (k, values)) o) ≡ o
+pub row_values : (k : Value) (o : Option (List Value))
+    → option_map (λ (r : Row). r.1) (option_map (λ (values : List Value). (k, values)) o) ≡ o
 row_values k None = refl
 row_values k (Some values) = refl
 
-pub rec_values : (k : Value) (o : Option (List Value)) (r : Option Rec) → r ≡ option_map (λ values. rec_of (k, values)) o → option_map (λ (r : Rec). r.fields) r ≡ o
+pub rec_values : (k : Value) (o : Option (List Value)) (r : Option Rec)
+    → r ≡ option_map (λ values. rec_of (k, values)) o → option_map (λ (r : Rec). r.fields) r ≡ o
 rec_values k None r is = ap (option_map (λ (r : Rec). r.fields)) is
 rec_values k (Some values) r is = ap (option_map (λ (r : Rec). r.fields)) is

@@ -6,6 +6,7 @@ mod EntryLemmas
 mod PlaceLemmas
 mod GroupLemmas
 mod PieceLemmas
+mod NumberLemmas
 mod PiecedLemmas
 mod JoinLemmas
 pub mod ListingLemmas

@@ -62,7 +62,7 @@ use Rattle.gx_types.specs.Any.{any_rule}
 use Rattle.gx_typing.specs.Dues.{file_form}
 use Rattle.gx_model.specs.States.{File, Row, IsRowOf}
 use Rattle.gx_scan.specs.declared.pieces.Pieces.{Pieces}
-use Rattle.gx_scan.specs.Files.{rec_of, records_of, IsStorable, IsTreeFor, IsInternal}
+use Rattle.gx_scan.specs.Files.{rec_of, file_records, IsStorable, IsTreeFor, IsInternal}
 use Rattle.gx_scan.specs.Pieces.{ArePieces, numbered_entries, piece_entries}
 use Rattle.gx_scan.specs.Records.{list_of_one}
 use Rattle.gx_scan.specs.Steps.{HaveAtMost, is_key_inside, rows_inside}
@@ -83,7 +83,8 @@ one_kid (x ∷ []) a one read = ap (λ (n : Node AnyMapping). kid (tree_of n) no
 one_kid (x ∷ y ∷ ns) a one read = absurd (omega (arith, one))
 
 module _ (node : Node AnyMapping) (l : LayerNode AnyMapping) (a : Actual)
-    (is : node ≡ nodes.Layer l) (outer : l.mapping ≡ any.Actual a) (valid : IsValid any_rule (tree_of node)) where
+    (is : node ≡ nodes.Layer l) (outer : l.mapping ≡ any.Actual a)
+    (valid : IsValid any_rule (tree_of node)) where
   outer_rule : any_rule l.mapping ≡ actual_rule a.form
   outer_rule = ap any_rule outer
 
@@ -321,15 +322,15 @@ module _ (file : FileDef) (t : Tree AnyMapping) (p : Pieces) (leaves : ℕ) (map
       subst (λ (form : Form). field_widths form.fields ≤ 65535) tree.form are.narrow in
       (fit.0, omega (arith, narrow, body_width (data_fields file) r.1 fit.1))
 
-  union : IsUnion any_rule t (records_of f) maps
-  union = union_from_internal any_rule t (records_of f) maps is.held
+  union : IsUnion any_rule t (file_records f) maps
+  union = union_from_internal any_rule t (file_records f) maps is.held
 
   entry_from : (e : Pair) → In e (fin.entries (map_at maps p.leaf)) → In e (flat_map made all_rows)
   entry_from e h =
       let m = map_at maps p.leaf in
       let found = fin.get-entries m e.0
       ∙ in_find nat_list_cmp_total e (fin.entries m) (fin.entries_sorted m) h in
-      let q = from_each (entries_of any_rule t) (in_leaf p.leaf e) (records_of f)
+      let q = from_each (entries_of any_rule t) (in_leaf p.leaf e) (file_records f)
       (union.only (in_leaf p.leaf e) (pieces_there t p are) found) in
       let row = from_map rec_of q.0 all_rows q.1 in
       let among : In (in_leaf p.leaf e) (map (in_leaf p.leaf) (made row.0)) =
@@ -351,7 +352,7 @@ module _ (file : FileDef) (t : Tree AnyMapping) (p : Pieces) (leaves : ℕ) (map
       subst (In (in_leaf p.leaf e)) (sym (record_entries t p are row.0))
       (in_map (in_leaf p.leaf) e (made row.0) row.2) in
       let there = union.holds (in_leaf p.leaf e)
-      (in_each (entries_of any_rule t) (rec_of row.0) (in_leaf p.leaf e) (records_of f)
+      (in_each (entries_of any_rule t) (rec_of row.0) (in_leaf p.leaf e) (file_records f)
       (in_map rec_of row.0 all_rows row.1) among) in
       find_in (fin.slice_cmp-IsAntisymmetric fin.nat_cmp-IsAntisymmetric) e.0 e.1 (fin.entries m)
       (sym (fin.get-entries m e.0) ∙ there)

@@ -54,10 +54,10 @@ use Rattle.gx_types.specs.declared.any.AnyMapping.{AnyMapping}
 use Rattle.gx_types.specs.declared.any.AnyMapping.TheVariants as any
 use Rattle.gx_types.specs.Passing.{PassesOne, PassesWhole}
 use Rattle.gx_types.specs.Any.{any_rule, any_laws}
-use Rattle.gx_model.specs.States.{File, Row, IsRowOf, IsFileOf}
+use Rattle.gx_model.specs.States.{File, Row, IsRowOf, HasRowsOf}
 use Rattle.gx_scan.specs.declared.places.Place.{Place}
 use Rattle.gx_scan.specs.declared.places.Above.{Above}
-use Rattle.gx_scan.specs.Files.{rec_of, records_of, IsStorable, IsTreeFor}
+use Rattle.gx_scan.specs.Files.{rec_of, file_records, IsStorable, IsTreeFor}
 use Rattle.gx_scan.specs.Stored.{stored_values, stored_rec, HaveCodes, IsWithCode}
 use Rattle.gx_scan.specs.Entries.{wrapped, below, entry_of_row, IsStoredRow, IsPassed, PassesOn, data_leaves, kids_data, IsAlone, ArePlaces, ArePlacesBelow, IsPlaceOf, first_leaf, leaf_of, rows_at}
 use Rattle.gx_scan.proofs.FileLemmas.{set_of}
@@ -75,7 +75,9 @@ module _ {M : Type 0} (rule : M → Rule) where
 
     kids_once : (forms : ℕ → Form) (ks : Kids M) → AreValid rule forms ks → IsOnce (kids_leaves ks)
     kids_once forms no_kids v = tt
-    kids_once forms (kid t ks) v = once_joined (leaves_of t) (kids_leaves ks) (leaves_once t v.1) (kids_once (λ c. forms (suc c)) ks v.3) v.2
+    kids_once forms (kid t ks) v =
+        once_joined (leaves_of t) (kids_leaves ks) (leaves_once t v.1)
+        (kids_once (λ c. forms (suc c)) ks v.3) v.2
 
 -- ---- the leaves that records are gathered from
 
@@ -87,7 +89,8 @@ if_once : (b : Bool) (ns : List ℕ) → IsOnce ns → IsOnce (if b then ns else
 if_once true ns once = once
 if_once false ns once = tt
 
-if_few : (b : Bool) (ns : List ℕ) (most : ℕ) → length ns ≤ most → length (if b then ns else []) ≤ most
+if_few : (b : Bool) (ns : List ℕ) (most : ℕ) → length ns ≤ most
+    → length (if b then ns else []) ≤ most
 if_few true ns most few = few
 if_few false ns most few = omega arith
 
@@ -96,30 +99,39 @@ mutual
   data_in (leaf m form) n h = h
   data_in (layer m ks) n h = kids_data_in ((any_rule m).holds_rest) ks n h
 
-  kids_data_in : (rest : ℕ → Bool) (ks : Kids AnyMapping) (n : ℕ) → In n (kids_data rest ks) → In n (kids_leaves ks)
+  kids_data_in : (rest : ℕ → Bool) (ks : Kids AnyMapping) (n : ℕ) → In n (kids_data rest ks)
+      → In n (kids_leaves ks)
   kids_data_in rest no_kids n h = absurd h
-  kids_data_in rest (kid t ks) n h = elim (in_cases n (if rest 0 then data_leaves t else []) (kids_data (λ c. rest (suc c)) ks) h) [
-    | inl a ↦ in_left n (leaves_of t) (kids_leaves ks) (data_in t n (if_in (rest 0) n (data_leaves t) a).1)
-    | inr b ↦ in_right n (leaves_of t) (kids_leaves ks) (kids_data_in (λ c. rest (suc c)) ks n b)
-  ]
+  kids_data_in rest (kid t ks) n h =
+      elim (in_cases n (if rest 0 then data_leaves t else []) (kids_data (λ c. rest (suc c)) ks) h) [
+        | inl a ↦ in_left n (leaves_of t) (kids_leaves ks)
+            (data_in t n (if_in (rest 0) n (data_leaves t) a).1)
+        | inr b ↦ in_right n (leaves_of t) (kids_leaves ks)
+            (kids_data_in (λ c. rest (suc c)) ks n b)
+      ]
 
 mutual
   pub data_once : (t : Tree AnyMapping) → IsValid any_rule t → IsOnce (data_leaves t)
   data_once (leaf m form) v = (λ i. i, tt)
   data_once (layer m ks) v = kids_data_once ((any_rule m).holds_rest) ((any_rule m).kid_form) ks v.1
 
-  kids_data_once : (rest : ℕ → Bool) (forms : ℕ → Form) (ks : Kids AnyMapping) → AreValid any_rule forms ks → IsOnce (kids_data rest ks)
+  kids_data_once : (rest : ℕ → Bool) (forms : ℕ → Form) (ks : Kids AnyMapping)
+      → AreValid any_rule forms ks → IsOnce (kids_data rest ks)
   kids_data_once rest forms no_kids v = tt
-  kids_data_once rest forms (kid t ks) v = once_joined (if rest 0 then data_leaves t else []) (kids_data (λ c. rest (suc c)) ks)
-      (if_once (rest 0) (data_leaves t) (data_once t v.1)) (kids_data_once (λ c. rest (suc c)) (λ c. forms (suc c)) ks v.3)
-      (λ n i k. v.2 n (data_in t n (if_in (rest 0) n (data_leaves t) i).1) (kids_data_in (λ c. rest (suc c)) ks n k))
+  kids_data_once rest forms (kid t ks) v =
+      once_joined (if rest 0 then data_leaves t else []) (kids_data (λ c. rest (suc c)) ks)
+      (if_once (rest 0) (data_leaves t) (data_once t v.1))
+      (kids_data_once (λ c. rest (suc c)) (λ c. forms (suc c)) ks v.3)
+      (λ n i k. v.2 n (data_in t n (if_in (rest 0) n (data_leaves t) i).1)
+      (kids_data_in (λ c. rest (suc c)) ks n k))
 
 mutual
   pub data_few : (t : Tree AnyMapping) → length (data_leaves t) ≤ length (leaves_of t)
   data_few (leaf m form) = omega arith
   data_few (layer m ks) = kids_data_few ((any_rule m).holds_rest) ks
 
-  kids_data_few : (rest : ℕ → Bool) (ks : Kids AnyMapping) → length (kids_data rest ks) ≤ length (kids_leaves ks)
+  kids_data_few : (rest : ℕ → Bool) (ks : Kids AnyMapping)
+      → length (kids_data rest ks) ≤ length (kids_leaves ks)
   kids_data_few rest no_kids = omega arith
   kids_data_few rest (kid t ks) =
       let one = if_few (rest 0) (data_leaves t) (length (leaves_of t)) (data_few t) in
@@ -132,29 +144,41 @@ below_child no_kids c = []
 below_child (kid t ks) zero = data_leaves t
 below_child (kid t ks) (suc c) = below_child ks c
 
-below_at : (ns : List (Node AnyMapping)) (c : ℕ) (n : Node AnyMapping) → c < length ns → below_child (kids_from (map tree_of ns)) c ≡ data_leaves (tree_of (get_or ns c n))
+below_at : (ns : List (Node AnyMapping)) (c : ℕ) (n : Node AnyMapping) → c < length ns
+    → below_child (kids_from (map tree_of ns)) c ≡ data_leaves (tree_of (get_or ns c n))
 below_at [] c n l = absurd (omega arith)
 below_at (x ∷ ns) zero n l = refl
 below_at (x ∷ ns) (suc c) n l = below_at ns c n (omega arith)
 
 -- where an entry of a part stands in one of these leaves, the part's child is a data child and the leaf is below it
-part_leaf : (rest : ℕ → Bool) (forms : ℕ → Form) (ks : Kids AnyMapping) (c : ℕ) (r : Rec) (e : LeafEntry) → AreValid any_rule forms ks → In e (kid_entries any_rule ks c r) → In e.leaf (kids_data rest ks) → (rest c ≡ true) × In e.leaf (below_child ks c)
+part_leaf : (rest : ℕ → Bool) (forms : ℕ → Form) (ks : Kids AnyMapping) (c : ℕ) (r : Rec)
+    (e : LeafEntry) → AreValid any_rule forms ks → In e (kid_entries any_rule ks c r)
+    → In e.leaf (kids_data rest ks) → (rest c ≡ true) × In e.leaf (below_child ks c)
 part_leaf rest forms no_kids c r e v h d = absurd h
-part_leaf rest forms (kid t ks) zero r e v h d = elim (in_cases e.leaf (if rest 0 then data_leaves t else []) (kids_data (λ c. rest (suc c)) ks) d) [
-  | inl a ↦ if_in (rest 0) e.leaf (data_leaves t) a
-  | inr b ↦ absurd (v.2 e.leaf (entry_leaf any_rule t r e h) (kids_data_in (λ c. rest (suc c)) ks e.leaf b))
-]
-part_leaf rest forms (kid t ks) (suc c) r e v h d = elim (in_cases e.leaf (if rest 0 then data_leaves t else []) (kids_data (λ c. rest (suc c)) ks) d) [
-  | inl a ↦ absurd (v.2 e.leaf (data_in t e.leaf (if_in (rest 0) e.leaf (data_leaves t) a).1) (kid_leaf any_rule ks c r e h))
-  | inr b ↦ part_leaf (λ c. rest (suc c)) (λ c. forms (suc c)) ks c r e v.3 h b
-]
+part_leaf rest forms (kid t ks) zero r e v h d =
+    elim (in_cases e.leaf (if rest 0 then data_leaves t else []) (kids_data (λ c. rest (suc c)) ks)
+    d) [
+      | inl a ↦ if_in (rest 0) e.leaf (data_leaves t) a
+      | inr b ↦ absurd (v.2 e.leaf (entry_leaf any_rule t r e h)
+          (kids_data_in (λ c. rest (suc c)) ks e.leaf b))
+    ]
+part_leaf rest forms (kid t ks) (suc c) r e v h d =
+    elim (in_cases e.leaf (if rest 0 then data_leaves t else []) (kids_data (λ c. rest (suc c)) ks)
+    d) [
+      | inl a ↦ absurd (v.2 e.leaf (data_in t e.leaf (if_in (rest 0) e.leaf (data_leaves t) a).1)
+          (kid_leaf any_rule ks c r e h))
+      | inr b ↦ part_leaf (λ c. rest (suc c)) (λ c. forms (suc c)) ks c r e v.3 h b
+    ]
 
 -- a leaf has one place
-pub place_same : (ps : List Place) (p q : Place) → IsOnce (map number ps) → In p ps → In q ps → p.leaf ≡ q.leaf → p ≡ q
+pub place_same : (ps : List Place) (p q : Place) → IsOnce (map number ps) → In p ps → In q ps
+    → p.leaf ≡ q.leaf → p ≡ q
 place_same [] p q once i k e = absurd i
 place_same (x ∷ ps) p q once (inl i) (inl k) e = i ∙ sym k
-place_same (x ∷ ps) p q once (inl i) (inr k) e = absurd (once.0 (subst (λ n. In n (map number ps)) (sym e ∙ ap number i) (in_map number q ps k)))
-place_same (x ∷ ps) p q once (inr i) (inl k) e = absurd (once.0 (subst (λ n. In n (map number ps)) (e ∙ ap number k) (in_map number p ps i)))
+place_same (x ∷ ps) p q once (inl i) (inr k) e =
+    absurd (once.0 (subst (λ n. In n (map number ps)) (sym e ∙ ap number i) (in_map number q ps k)))
+place_same (x ∷ ps) p q once (inr i) (inl k) e =
+    absurd (once.0 (subst (λ n. In n (map number ps)) (e ∙ ap number k) (in_map number p ps i)))
 place_same (x ∷ ps) p q once (inr i) (inr k) e = place_same ps p q once.1 i k e
 
 -- ---- places of a leaf
@@ -370,7 +394,8 @@ Stand n cs t ps = (r : Rec) → IsOf (tree_form any_rule t) (below n cs r) → H
 -- the places below the first i children
 pub record ArePlacesOf (m : AnyMapping) (n : ℕ) (cs : List (Option Code))
     (ks : List (Node AnyMapping)) (i : ℕ) (ps : List Place) : Type 0 where
-  pub leaves : map number ps ≡ kids_data ((any_rule m).holds_rest) (kids_from (map tree_of (take i ks)))
+  pub leaves : map number ps ≡ kids_data ((any_rule m).holds_rest)
+      (kids_from (map tree_of (take i ks)))
   pub stand : (c : ℕ) (k : Node AnyMapping) → c < i → (any_rule m).holds_rest c ≡ true
       → k ≡ get_or ks c k → Stand n cs (tree_of k) ps
 
@@ -378,24 +403,34 @@ pub none_placed : (m : AnyMapping) (n : ℕ) (cs : List (Option Code)) (ks : Lis
     → ArePlacesOf m n cs ks 0 []
 none_placed m n cs ks = record { leaves = refl; stand = λ c k below. absurd (omega arith) }
 
-kids_last : (rest : ℕ → Bool) (xs : List (Node AnyMapping)) (k : Node AnyMapping) → kids_data rest (kids_from (map tree_of (xs ++ k ∷ []))) ≡ kids_data rest (kids_from (map tree_of xs)) ++ (if rest (length xs) then data_leaves (tree_of k) else [])
+kids_last : (rest : ℕ → Bool) (xs : List (Node AnyMapping)) (k : Node AnyMapping)
+    → kids_data rest (kids_from (map tree_of (xs ++ k ∷ []))) ≡ kids_data rest
+    (kids_from (map tree_of xs)) ++ (if rest (length xs) then data_leaves (tree_of k) else [])
 kids_last rest [] k = append-nil (if rest 0 then data_leaves (tree_of k) else [])
 kids_last rest (x ∷ xs) k =
     let one = if rest 0 then data_leaves (tree_of x) else [] in
     ap (λ ns. one ++ ns) (kids_last (λ c. rest (suc c)) xs k)
-    ∙ sym (append_assoc one (kids_data (λ c. rest (suc c)) (kids_from (map tree_of xs))) (if rest (length (x ∷ xs)) then data_leaves (tree_of k) else []))
+    ∙ sym (append_assoc one (kids_data (λ c. rest (suc c)) (kids_from (map tree_of xs)))
+    (if rest (length (x ∷ xs)) then data_leaves (tree_of k) else []))
 
-kids_more : (rest : ℕ → Bool) (ks : List (Node AnyMapping)) (i : ℕ) (k : Node AnyMapping) → i < length ks → k ≡ get_or ks i k → kids_data rest (kids_from (map tree_of (take (i + 1) ks))) ≡ kids_data rest (kids_from (map tree_of (take i ks))) ++ (if rest i then data_leaves (tree_of k) else [])
+kids_more : (rest : ℕ → Bool) (ks : List (Node AnyMapping)) (i : ℕ) (k : Node AnyMapping)
+    → i < length ks → k ≡ get_or ks i k
+    → kids_data rest (kids_from (map tree_of (take (i + 1) ks))) ≡ kids_data rest
+    (kids_from (map tree_of (take i ks)))
+    ++ (if rest i then data_leaves (tree_of k) else [])
 kids_more rest ks i k l read =
     let many : length (take i ks) ≡ i = omega (arith, length-take i ks) in
-    ap (λ xs. kids_data rest (kids_from (map tree_of xs))) (take_more ks i k l) ∙ kids_last rest (take i ks) (get_or ks i k)
-    ∙ (λ j. kids_data rest (kids_from (map tree_of (take i ks))) ++ (if rest (many j) then data_leaves (tree_of (sym read j)) else []))
+    ap (λ xs. kids_data rest (kids_from (map tree_of xs))) (take_more ks i k l)
+    ∙ kids_last rest (take i ks) (get_or ks i k)
+    ∙ (λ j. kids_data rest (kids_from (map tree_of (take i ks)))
+    ++ (if rest (many j) then data_leaves (tree_of (sym read j)) else []))
 
 below_cases : (c i : ℕ) → c < i + 1 → (c < i) ⊎ (c ≡ i)
 below_cases zero zero l = inr refl
 below_cases zero (suc i) l = inl (omega arith)
 below_cases (suc c) zero l = absurd (omega arith)
-below_cases (suc c) (suc i) l = elim (below_cases c i (omega arith)) [ inl h ↦ inl (omega (arith, h)) | inr e ↦ inr (ap suc e) ]
+below_cases (suc c) (suc i) l =
+    elim (below_cases c i (omega arith)) [ inl h ↦ inl (omega (arith, h)) | inr e ↦ inr (ap suc e) ]
 
 pub kid_placed : (m : AnyMapping) (n : ℕ) (cs : List (Option Code)) (ks : List (Node AnyMapping))
     (i : ℕ) (k : Node AnyMapping) (ps qs : List Place) → i < length ks
@@ -403,7 +438,8 @@ pub kid_placed : (m : AnyMapping) (n : ℕ) (cs : List (Option Code)) (ks : List
     → ArePlacesBelow n cs (tree_of k) qs → ArePlacesOf m n cs ks (i + 1) (ps ++ qs)
 kid_placed m n cs ks i k ps qs l rest read so_far one = record {
   leaves = map-append number ps qs ∙ (λ j. so_far.leaves j ++ one.leaves j)
-      ∙ ap (λ b. kids_data ((any_rule m).holds_rest) (kids_from (map tree_of (take i ks))) ++ (if b then data_leaves (tree_of k) else [])) (sym rest)
+      ∙ ap (λ b. kids_data ((any_rule m).holds_rest) (kids_from (map tree_of (take i ks)))
+      ++ (if b then data_leaves (tree_of k) else [])) (sym rest)
       ∙ sym (kids_more ((any_rule m).holds_rest) ks i k l read);
   stand = λ c d lower holds at r fits coded. elim (below_cases c i lower) [
     | inl less ↦ (let x = so_far.stand c d less holds at r fits coded in
@@ -432,8 +468,10 @@ pub kid_left : (m : AnyMapping) (n : ℕ) (cs : List (Option Code)) (ks : List (
 kid_left m n cs ks i k ps l rest so_far =
     let at = get_or ks i k in
     record {
-      leaves = so_far.leaves ∙ sym (append-nil (kids_data ((any_rule m).holds_rest) (kids_from (map tree_of (take i ks)))))
-          ∙ ap (λ b. kids_data ((any_rule m).holds_rest) (kids_from (map tree_of (take i ks))) ++ (if b then data_leaves (tree_of at) else [])) (sym rest)
+      leaves = so_far.leaves ∙ sym
+          (append-nil (kids_data ((any_rule m).holds_rest) (kids_from (map tree_of (take i ks)))))
+          ∙ ap (λ b. kids_data ((any_rule m).holds_rest) (kids_from (map tree_of (take i ks)))
+          ++ (if b then data_leaves (tree_of at) else [])) (sym rest)
           ∙ sym (kids_more ((any_rule m).holds_rest) ks i at l (get_or_any ks i k at l));
       stand = λ c d lower holds read. elim (below_cases c i lower) [
         | inl less ↦ so_far.stand c d less holds read
@@ -441,8 +479,10 @@ kid_left m n cs ks i k ps l rest so_far =
       ];
     }
 
-pub kids_many : (node : Node AnyMapping) (l : LayerNode AnyMapping) → node ≡ nodes.Layer l → IsValid any_rule (tree_of node) → length l.kids.items ≡ (any_rule l.mapping).kids
-kids_many node l is valid = sym (count_kids l.kids.items) ∙ (subst (IsValid any_rule) (seen_layer node l is) valid).0
+pub kids_many : (node : Node AnyMapping) (l : LayerNode AnyMapping) → node ≡ nodes.Layer l
+    → IsValid any_rule (tree_of node) → length l.kids.items ≡ (any_rule l.mapping).kids
+kids_many node l is valid = sym (count_kids l.kids.items)
+    ∙ (subst (IsValid any_rule) (seen_layer node l is) valid).0
 
 pub layer_placed : (node : Node AnyMapping) (l : LayerNode AnyMapping) (n : ℕ)
     (cs : List (Option Code)) (b : ℕ) (ds : List (Option Code)) (i : ℕ) (ps : List Place)
@@ -457,7 +497,8 @@ layer_placed node l n cs b ds i ps is valid passes end placed =
     let kids_valid = (subst (IsValid any_rule) seen valid).1 in
     let kid_part = λ (p : Part). kid_entries any_rule ks p.child p.rec in
     record {
-      leaves = placed.leaves ∙ ap (λ ks. kids_data rest (kids_from (map tree_of ks))) (take_all i l.kids.items end) ∙ sym (ap data_leaves seen);
+      leaves = placed.leaves ∙ ap (λ ks. kids_data rest (kids_from (map tree_of ks)))
+          (take_all i l.kids.items end) ∙ sym (ap data_leaves seen);
       stand = λ r fits coded.
           let lower = below b ds r in
           let fits' = subst (λ f. IsOf f (below n cs r)) (layer_form any_rule node l is) fits in
@@ -466,7 +507,8 @@ layer_placed node l n cs b ds i ps is valid passes end placed =
           (subst (In (part one.child lower)) (sym one.parts) (inl refl)) in
           let there = child_there any_rule node l is one.child valid here.0 in
           let k = get_or l.kids.items one.child node in
-          let read : k ≡ get_or l.kids.items one.child k = get_or_any l.kids.items one.child node k there in
+          let read : k ≡ get_or l.kids.items one.child k =
+          get_or_any l.kids.items one.child node k there in
           let v = child_valid any_rule node l is one.child k valid there read in
           let x = placed.stand one.child k (omega (arith, there, end)) one.rest read r
           (subst (λ f. IsOf f lower) (sym v.0) here.1) one.coded in
@@ -482,7 +524,8 @@ layer_placed node l n cs b ds i ps is valid passes end placed =
                   ∙ ap (flat_map kid_part) one.parts
                   ∙ ap (λ (es : List LeafEntry). es ++ flat_map kid_part one.others) of_child;
               elsewhere = λ o h d.
-                  let d' : In o.leaf (kids_data rest ks) = subst (In o.leaf) (ap data_leaves seen) d in
+                  let d' : In o.leaf (kids_data rest ks) = subst (In o.leaf) (ap data_leaves seen) d
+                  in
                   elim (in_cases o x.3.others (flat_map kid_part one.others) h) [
                     | inl a ↦ (
                         let leaf_below =
@@ -493,7 +536,8 @@ layer_placed node l n cs b ds i ps is valid passes end placed =
                         leaf_below.1))
                     | inr b ↦ (
                         let q = from_each kid_part o one.others b in
-                        true≢false (sym (part_leaf rest rule.kid_form ks q.0.child q.0.rec o kids_valid q.2 d').0 ∙ one.beside q.0 q.1))
+                        true≢false (sym (part_leaf rest rule.kid_form ks q.0.child q.0.rec o
+                        kids_valid q.2 d').0 ∙ one.beside q.0 q.1))
                   ];
             },
           );
@@ -511,13 +555,16 @@ abbrev pub key_cmp : Row → Row → Ordering
 key_cmp a b = value_cmp a.0 b.0
 
 module _ {K X : Type 0} (R : K → K → Ordering) where
-  below_each : (x : K) (es : List (K × X)) → T (below_all R x es) → AllByRecursion (λ e. R x e.0 ≡ Less) es
+  below_each : (x : K) (es : List (K × X)) → T (below_all R x es)
+      → AllByRecursion (λ e. R x e.0 ≡ Less) es
   below_each x [] h = tt
-  below_each x (e ∷ es) h = (is_less _ (first_of_both _ _ h), below_each x es (second_of_both _ _ h))
+  below_each x (e ∷ es) h =
+      (is_less _ (first_of_both _ _ h), below_each x es (second_of_both _ _ h))
 
   pub entries_ascend : (es : List (K × X)) → T (fin.is_sorted R es) → Ascends (λ a b. R a.0 b.0) es
   entries_ascend [] h = tt
-  entries_ascend (e ∷ es) h = (below_each e.0 es (first_of_both _ _ h), entries_ascend es (second_of_both _ _ h))
+  entries_ascend (e ∷ es) h =
+      (below_each e.0 es (first_of_both _ _ h), entries_ascend es (second_of_both _ _ h))
 
 rows_below : (file : FileDef) (n : ℕ) (cs : List (Option Code)) (x : Row) (rs : List Row)
     → IsKeyKind (key_kind file) → IsRowOf file x → AllByRecursion (IsRowOf file) rs
@@ -551,12 +598,15 @@ place_data t p at = subst (In p.leaf) at.are.leaves (in_map number p at.places a
 pub place_there : (t : Tree AnyMapping) (p : Place) → IsPlaceOf t p → In p.leaf (leaves_of t)
 place_there t p at = data_in t p.leaf (place_data t p at)
 
-module _ (file : FileDef) (t : Tree AnyMapping) (leaves : ℕ) (maps : List LeafMap) (f : File) (storable : IsStorable file) (tree : IsTreeFor file t leaves) (fit : IsFileOf file f) where
+module _ (file : FileDef) (t : Tree AnyMapping) (leaves : ℕ) (maps : List LeafMap) (f : File)
+    (storable : IsStorable file) (tree : IsTreeFor file t leaves) (fit : HasRowsOf file f) where
   row_of_tree : (r : Row) → In r (fin.entries f) → IsOf (tree_form any_rule t) (rec_of r)
-  row_of_tree r h = subst (λ form. IsOf form (rec_of r)) (sym tree.form) ((set_of file f storable.keyed fit).fits (rec_of r) (in_map rec_of r (fin.entries f) h))
+  row_of_tree r h = subst (λ form. IsOf form (rec_of r)) (sym tree.form)
+      ((set_of file f storable.keyed fit).fits (rec_of r) (in_map rec_of r (fin.entries f) h))
 
   -- each record is in a leaf of the tree
-  pub leaf_there : (ps : List Place) → ArePlaces 0 t ps → (r : Row) → In r (fin.entries f) → In (leaf_of t r) (map number ps)
+  pub leaf_there : (ps : List Place) → ArePlaces 0 t ps → (r : Row) → In r (fin.entries f)
+      → In (leaf_of t r) (map number ps)
   leaf_there ps are r h =
       let x = are.stand (rec_of r) (row_of_tree r h) tt in
       subst (λ n. In n (map number ps)) (sym (ap first_leaf x.3.first)) (in_map number x.0 ps x.1)
@@ -583,16 +633,19 @@ module _ (file : FileDef) (t : Tree AnyMapping) (leaves : ℕ) (maps : List Leaf
       place_same at.places x.0 p once x.1 at.there (sym (ap first_leaf x.3.first) ∙ same) in
       subst (λ (q : Place). HaveCodes q.codes r.1) one x.2
 
-  entry_from : IsUnion any_rule t (records_of f) maps → (p : Place) → IsPlaceOf t p → (e : Pair)
+  entry_from : IsUnion any_rule t (file_records f) maps → (p : Place) → IsPlaceOf t p → (e : Pair)
       → In e (fin.entries (map_at maps p.leaf))
       → In e (map (entry_of_row p.lengths p.codes) (rows_at t p.leaf f))
   entry_from union p at e h =
       let m = map_at maps p.leaf in
       let le : LeafEntry = record { leaf = p.leaf; key = e.0; body = e.1 } in
-      let found = fin.get-entries m e.0 ∙ in_find nat_list_cmp_total e (fin.entries m) (fin.entries_sorted m) h in
-      let q = from_each (entries_of any_rule t) le (records_of f) (union.only le (place_there t p at) found) in
+      let found = fin.get-entries m e.0
+      ∙ in_find nat_list_cmp_total e (fin.entries m) (fin.entries_sorted m) h in
+      let q = from_each (entries_of any_rule t) le (file_records f)
+      (union.only le (place_there t p at) found) in
       let row = from_map rec_of q.0 (fin.entries f) q.1 in
-      let among : In le (entries_of any_rule t (rec_of row.0)) = subst (λ x. In le (entries_of any_rule t x)) row.2 q.2 in
+      let among : In le (entries_of any_rule t (rec_of row.0)) =
+      subst (λ x. In le (entries_of any_rule t x)) row.2 q.2 in
       let x = at.are.stand (rec_of row.0) (row_of_tree row.0 row.1) tt in
       let first : le ≡ entry_in x.0.leaf (below (suc x.0.lengths) x.0.codes (rec_of row.0)) =
       elim (subst (In le) x.3.first among)
@@ -613,7 +666,7 @@ module _ (file : FileDef) (t : Tree AnyMapping) (leaves : ℕ) (maps : List Leaf
       (filter_in (λ (r : Row). nat_eq (leaf_of t r) p.leaf) row.0 (fin.entries f) row.1
       (eq-eqb _ _ same)))
 
-  row_entry : IsUnion any_rule t (records_of f) maps → (p : Place) → IsPlaceOf t p → (e : Pair)
+  row_entry : IsUnion any_rule t (file_records f) maps → (p : Place) → IsPlaceOf t p → (e : Pair)
       → In e (map (entry_of_row p.lengths p.codes) (rows_at t p.leaf f))
       → In e (fin.entries (map_at maps p.leaf))
   row_entry union p at e h =
@@ -622,15 +675,22 @@ module _ (file : FileDef) (t : Tree AnyMapping) (leaves : ℕ) (maps : List Leaf
       let r = row.0 in
       let kept = in_filter (λ (r : Row). nat_eq (leaf_of t r) p.leaf) r (fin.entries f) row.1 in
       let le = entry_in p.leaf (below (suc p.lengths) p.codes (rec_of r)) in
-      let among : In le (entries_of any_rule t (rec_of r)) = subst (In le) (sym (held_at p at r kept.0 (eqb-true _ _ kept.1)).first) (inl refl) in
-      let there = union.holds le (in_each (entries_of any_rule t) (rec_of r) le (records_of f) (in_map rec_of r (fin.entries f) kept.0) among) in
+      let among : In le (entries_of any_rule t (rec_of r)) =
+      subst (In le) (sym (held_at p at r kept.0 (eqb-true _ _ kept.1)).first) (inl refl) in
+      let there = union.holds le
+      (in_each (entries_of any_rule t) (rec_of r) le (file_records f)
+      (in_map rec_of r (fin.entries f) kept.0) among) in
       let found : fin.find (slice_cmp nat_cmp) (bytes_of r.0) (fin.entries m) ≡ Some le.body =
       sym (fin.get-entries m (bytes_of r.0)) ∙ ap (fin.get m)
       (sym (entry_key (suc p.lengths) p.codes r)) ∙ there in
-      subst (λ (x : Pair). In x (fin.entries m)) (sym row.2) (find_in (fin.slice_cmp-IsAntisymmetric fin.nat_cmp-IsAntisymmetric) (bytes_of r.0) le.body (fin.entries m) found)
+      subst (λ (x : Pair). In x (fin.entries m)) (sym row.2)
+      (find_in (fin.slice_cmp-IsAntisymmetric fin.nat_cmp-IsAntisymmetric)
+      (bytes_of r.0) le.body (fin.entries m) found)
 
   pub rows_fit : (n : ℕ) → AllByRecursion (IsRowOf file) (rows_at t n f)
-  rows_fit n = all_of (IsRowOf file) (rows_at t n f) (λ r h. all_in (IsRowOf file) (fin.entries f) r fit (in_filter (λ (r : Row). nat_eq (leaf_of t r) n) r (fin.entries f) h).0)
+  rows_fit n = all_of (IsRowOf file) (rows_at t n f)
+      (λ r h. all_in (IsRowOf file) (fin.entries f) r fit
+      (in_filter (λ (r : Row). nat_eq (leaf_of t r) n) r (fin.entries f) h).0)
 
   pub rows_stored : (p : Place) → IsPlaceOf t p
       → AllByRecursion (IsStoredRow file p.codes) (rows_at t p.leaf f)
@@ -642,12 +702,13 @@ module _ (file : FileDef) (t : Tree AnyMapping) (leaves : ℕ) (maps : List Leaf
       ))
 
   -- a leaf has the entries of its records, in the order of their keys
-  pub place_entries : IsUnion any_rule t (records_of f) maps → (p : Place) → IsPlaceOf t p
+  pub place_entries : IsUnion any_rule t (file_records f) maps → (p : Place) → IsPlaceOf t p
       → fin.entries (map_at maps p.leaf) ≡ map (entry_of_row p.lengths p.codes) (rows_at t p.leaf f)
   place_entries union p at =
       ascends_unique (on_total (λ (e : Pair). e.0) nat_list_cmp_total)
       (fin.entries (map_at maps p.leaf)) (map (entry_of_row p.lengths p.codes) (rows_at t p.leaf f))
-      (entries_ascend (slice_cmp nat_cmp) (fin.entries (map_at maps p.leaf)) (fin.entries_sorted (map_at maps p.leaf)))
+      (entries_ascend (slice_cmp nat_cmp) (fin.entries (map_at maps p.leaf))
+      (fin.entries_sorted (map_at maps p.leaf)))
       (rows_ascend file p.lengths p.codes (rows_at t p.leaf f) storable.key (rows_fit p.leaf)
       (ascends_filter key_cmp (λ (r : Row). nat_eq (leaf_of t r) p.leaf) (fin.entries f)
       (entries_ascend value_cmp (fin.entries f) (fin.entries_sorted f))))
@@ -655,7 +716,9 @@ module _ (file : FileDef) (t : Tree AnyMapping) (leaves : ℕ) (maps : List Leaf
 
 -- ---- places that are lent
 
-pub places_lent : {A B : Type 0} (f : A → List Place) (g : B → List Place) (P : List Place → Type 0) (o : Option A) (p : Option B) → option_map f o ≡ option_map g p → IfSome p (λ y. P (g y)) → IfSome o (λ x. P (f x))
+pub places_lent : {A B : Type 0} (f : A → List Place) (g : B → List Place) (P : List Place
+    → Type 0) (o : Option A) (p : Option B) → option_map f o ≡ option_map g p
+    → IfSome p (λ y. P (g y)) → IfSome o (λ x. P (f x))
 places_lent f g P None p same are = tt
 places_lent f g P (Some x) None same are = cc
 places_lent f g P (Some x) (Some y) same are = subst P (sym (same_Some (f x) (g y) same)) are

@@ -25,9 +25,11 @@ key_width (kind.Text most) (value.Bytes n) key h = absurd h
 
 -- ---- lists of records
 
-pub last_fits : (P : Rec → Type 0) (found front : List Rec) (o : Option Rec) → found ≡ front ++ option_to_list o → ((r : Rec) → In r found → P r) → IfSome o P
+pub last_fits : (P : Rec → Type 0) (found front : List Rec) (o : Option Rec)
+    → found ≡ front ++ option_to_list o → ((r : Rec) → In r found → P r) → IfSome o P
 last_fits P found front None is all = tt
-last_fits P found front (Some r) is all = all r (subst (In r) (sym is) (in_right r front (r ∷ []) (inl refl)))
+last_fits P found front (Some r) is all =
+    all r (subst (In r) (sym is) (in_right r front (r ∷ []) (inl refl)))
 
 -- the last of one value
 pub last_one : (front : List Value) (k q : Value) → k ∷ [] ≡ front ++ q ∷ [] → k ≡ q

@@ -20,7 +20,9 @@ none = value.Int (pos 0)
 -- ---- a value in a body
 
 there : (fs : List Field) (vs : List Value) (i : ℕ) (d : Field) → AreFit fs vs → i < length fs
-    → (v : Value) × Fits (get_or fs i d).kind v × (body_of (drop i vs) ≡ field_bytes v ++ body_of (drop (suc i) vs)) × (get_or vs i none ≡ v)
+    → (v : Value) × Fits (get_or fs i d).kind v
+    × (body_of (drop i vs) ≡ field_bytes v ++ body_of (drop (suc i) vs))
+    × (get_or vs i none ≡ v)
 there [] vs i d fit lt = absurd (omega arith)
 there (f ∷ fs) [] i d fit lt = absurd fit
 there (f ∷ fs) (v ∷ vs) zero d fit lt = (v, fit.0, refl, refl)
@@ -33,7 +35,9 @@ pub record ValueAt (f : Field) (vs : List Value) (i : ℕ) (rest : List ℕ) : T
   pub front : rest ≡ field_bytes value ++ body_of (drop (i + 1) vs)
   pub is : get_or vs i none ≡ value
 
-pub value_there : (fs : List Field) (vs : List Value) (i : ℕ) (f : Field) (rest : List ℕ) → AreFit fs vs → i < length fs → f ≡ get_or fs i f → rest ≡ body_of (drop i vs) → ValueAt f vs i rest
+pub value_there : (fs : List Field) (vs : List Value) (i : ℕ) (f : Field) (rest : List ℕ)
+    → AreFit fs vs → i < length fs → f ≡ get_or fs i f → rest ≡ body_of (drop i vs)
+    → ValueAt f vs i rest
 value_there fs vs i f rest fit lt item is =
     let x = there fs vs i f fit lt in
     let next : suc i ≡ i + 1 = omega arith in
@@ -45,7 +49,8 @@ value_there fs vs i f rest fit lt item is =
     }
 
 -- past the last field there is none
-pub none_past : (fs : List Field) (vs : List Value) (i : ℕ) → AreFit fs vs → length fs ≤ i → none ≡ get_or vs i none
+pub none_past : (fs : List Field) (vs : List Value) (i : ℕ) → AreFit fs vs → length fs ≤ i
+    → none ≡ get_or vs i none
 none_past [] [] i fit le = refl
 none_past [] (v ∷ vs) i fit le = absurd fit
 none_past (f ∷ fs) [] i fit le = absurd fit

@@ -14,21 +14,21 @@ use Rattle.gx_stack.specs.Internal.{IsInternal as IsHeld}
 use Rattle.gx_types.specs.declared.any.AnyMapping.{AnyMapping}
 use Rattle.gx_types.specs.Any.{any_rule}
 use Rattle.gx_typing.specs.Dues.{file_form}
-use Rattle.gx_model.specs.States.{File, Row, IsFileOf}
+use Rattle.gx_model.specs.States.{File, Row, HasRowsOf}
 
 -- the record of a form's key and data
 abbrev pub rec_of : Row → Rec
 rec_of r = record { key = r.0 ∷ []; fields = r.1 }
 
 -- the records of a file, in the order of their keys
-abbrev pub records_of : File → List Rec
-records_of f = map rec_of (fin.entries f)
+abbrev pub file_records : File → List Rec
+file_records f = map rec_of (fin.entries f)
 
 -- a valid file, whose records the tree's leaves hold
 pub record IsInternal (file : FileDef) (t : Tree AnyMapping) (maps : List LeafMap)
     (f : File) : Type 0 where
-  pub fit : IsFileOf file f
-  pub held : IsHeld any_rule t (records_of f) maps
+  pub fit : HasRowsOf file f
+  pub held : IsHeld any_rule t (file_records f) maps
 
 -- the tree's leaves hold some valid file
 abbrev pub HasFile : FileDef → Tree AnyMapping → List LeafMap → Type 0

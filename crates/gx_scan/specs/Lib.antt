@@ -5,7 +5,6 @@ pub mod Entries
 pub mod Groups
 pub mod Columns
 pub mod Pieces
-pub mod Scan
 pub mod Within
 pub mod Where
 pub mod Steps

@@ -4,6 +4,7 @@ ghost use Rattle.std.specs.Prelude.{◌≡◌, ◌<◌, ◌++◌, ◌∷◌, [],
 ghost use Rattle.std.specs.List.{AllByRecursion};
 ghost use Rattle.gx_values.specs.declared.values.Value.{Value as FieldValue};
 ghost use Rattle.gx_values.specs.Values.{Fits, AreFit};
+ghost use Rattle.gx_values.specs.Borrowed.{value_of};
 ghost use Rattle.gx_schema.specs.Lookups.{data_fields};
 ghost use Rattle.gx_ports.specs.LeafMaps.{entry_of};
 ghost use Rattle.gx_actual.specs.Bodies.{IsShort, AreShort};
@@ -13,18 +14,17 @@ ghost use Rattle.gx_scan.specs.Entries.{entry_of_row};
 ghost use Rattle.gx_scan.specs.Files.{IsStorable};
 ghost use Rattle.gx_scan.specs.Groups.{has_others, first_stored, other_stored, IsSplitRow, IsLeft};
 ghost use Rattle.gx_scan.specs.Records.{list_of_one};
-ghost use Rattle.gx_scan.specs.Scan.{value_of};
 ghost use Rattle.gx_scan.specs.Stored.{code_at, stored_value, HasCode, HaveCodes};
 
 use crate::groups::Groups;
 use crate::joined::default_body;
 use crate::places::Place;
 use crate::records::data_fields;
-use crate::scan::{ValueRef, behind_lengths};
+use crate::scan::behind_lengths;
 use crate::stored::{read_front, split_stored};
 use gx_ports::Entries;
 use gx_schema::FileDef;
-use gx_values::{Code, Field, Kind, NoMemory, Values};
+use gx_values::{Code, Field, Kind, NoMemory, ValueRef, Values};
 use std::alloc::Global;
 
 /// What is left of a group of values.

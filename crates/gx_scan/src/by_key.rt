@@ -34,8 +34,8 @@ use std::alloc::Global;
 /// The values of the record with this key, but for the key, where there is one. Below layers that
 /// pass records whole, only the node that may have the key is asked. Where the records stand whole
 /// in few leaves there, or a segment splits them in two, or a transposition puts each field in a
-/// leaf of its own, the values are read from the bytes of its entries. It takes a step for each
-/// leaf, and one for each leaf entry of the record.
+/// leaf of its own, or each stands in pieces in one leaf, the values are read from the bytes of its
+/// entries. It takes a step for each leaf, and one for each leaf entry of the record.
 ///
 /// `Damaged`: some leaf's stored form isn't whole, or the leaves hold no file, which is said of
 /// block 0. `Fault`: the count of faults rose; with any other answer it stays. `NoMemory`: there

@@ -4,6 +4,7 @@ ghost use Rattle.std.specs.Prelude.{◌≡◌, List, pos, slice_index_or, Some, 
 ghost use Rattle.gx_values.specs.declared.values.Value.{Value as FieldValue};
 ghost use Rattle.gx_values.specs.declared.values.Value.TheVariants as value;
 ghost use Rattle.gx_values.specs.Values.{Fits, AreFit, value_cmp, is_met};
+ghost use Rattle.gx_values.specs.Borrowed.{value_of};
 ghost use Rattle.gx_values.specs.Keys.{bytes_of, IsKeyKind};
 ghost use Rattle.gx_actual.specs.Bodies.{body_of, AreShort};
 ghost use Rattle.gx_model.specs.States.{Row as TheRow};
@@ -11,16 +12,15 @@ ghost use Rattle.gx_model.specs.Found.{meets_cond, meets_conds};
 ghost use Rattle.gx_scan.specs.Files.{IsStorable};
 ghost use Rattle.gx_scan.specs.Entries.{entry_of_row, IsStoredRow};
 ghost use Rattle.gx_scan.specs.Stored.{stored_value, stored_values, HasCode, HaveCodes};
-ghost use Rattle.gx_scan.specs.Scan.{value_of};
 
 use crate::codes::Codes;
 use crate::places::Place;
 use crate::records::data_fields;
-use crate::scan::{ValueRef, behind_lengths, compare, holds, key_value};
+use crate::scan::behind_lengths;
 use crate::stored::{decoded, split_stored};
 use gx_commands::Cond;
 use gx_schema::FileDef;
-use gx_values::{Code, Field, Kind, NoMemory};
+use gx_values::{Code, Field, Kind, NoMemory, ValueRef, key_value, meets};
 use std::alloc::Global;
 
 /// Whether the record of an entry of a place meets every condition. `None`: the entry is that of no
@@ -78,7 +78,7 @@ fn meets_key(kind: Kind, cond: &Cond, key: &[u8]) -> Option<bool>
     ensures { (v : FieldValue) → Fits kind v → key.now ≡ bytes_of v →
         result ≡ Some (is_met cond.now.op (value_cmp v cond.now.bound)) }
 {
-    Some(meets(key_value(kind, key)?, cond))
+    Some(key_value(kind, key)?.meets(cond.op, &cond.bound))
 }
 
 // Whether the value of one of these fields, counted from 0, meets the condition, and 0 where there
@@ -108,7 +108,7 @@ fn meets_data(
         }
         rest = more;
     }
-    Ok(Some(meets(ValueRef::Int(0), cond)))
+    Ok(Some(ValueRef::Int(0).meets(cond.op, &cond.bound)))
 }
 
 // Whether the value for which this stands, by its code if it has one, meets the condition.
@@ -124,16 +124,10 @@ fn meets_front(
         ≡ Some (is_met cond.now.op (value_cmp v cond.now.bound))) }
 {
     let Some(code) = code else {
-        return Ok(Some(meets(front, cond)));
+        return Ok(Some(front.meets(cond.op, &cond.bound)));
     };
     match decoded(alloc, kind, code, front)? {
-        Some(value) => Ok(Some(gx_values::meets(&value, cond.op, &cond.bound))),
+        Some(value) => Ok(Some(meets(&value, cond.op, &cond.bound))),
         None => Ok(None),
     }
-}
-
-fn meets(value: ValueRef<'_>, cond: &Cond) -> bool
-    ensures { result ≡ is_met cond.now.op (value_cmp (value_of value.entry) cond.now.bound) }
-{
-    holds(cond.op, compare(value, &cond.bound))
 }

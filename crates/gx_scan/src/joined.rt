@@ -6,6 +6,7 @@ ghost use Rattle.std.specs.List.Sorted.{IsStrictlySortedBy};
 ghost use Rattle.gx_values.specs.declared.values.Value.{Value as FieldValue};
 ghost use Rattle.gx_values.specs.declared.values.Value.TheVariants as value;
 ghost use Rattle.gx_values.specs.Values.{Fits, AreFit, default_in, value_cmp};
+ghost use Rattle.gx_values.specs.Borrowed.{value_of};
 ghost use Rattle.gx_values.specs.Keys.{bytes_of};
 ghost use Rattle.gx_schema.specs.Lookups.{data_fields};
 ghost use Rattle.gx_ports.specs.LeafMaps.{entry_of, Extends};
@@ -15,18 +16,18 @@ ghost use Rattle.gx_model.specs.States.{Row as TheRow, IsRowOf};
 ghost use Rattle.gx_model.specs.Found.{value_at, meets_conds};
 ghost use Rattle.gx_scan.specs.Files.{IsStorable};
 ghost use Rattle.gx_scan.specs.Groups.{has_others, first_entry, other_entry};
-ghost use Rattle.gx_scan.specs.Scan.{value_of};
 ghost use Rattle.gx_scan.specs.Search.{AddsChosen};
 
 use crate::entries::{PLAIN_ROOM, add_met};
 use crate::groups::Groups;
 use crate::records::data_fields;
-use crate::scan::{ValueRef, behind_lengths, compare, holds, key_value, split_value};
+use crate::scan::behind_lengths;
+use gx_actual::split_value;
 use gx_commands::Cond;
 use gx_ports::Entries;
 use gx_rows::Row;
 use gx_schema::FileDef;
-use gx_values::{Field, Kind, NoMemory};
+use gx_values::{Field, Kind, NoMemory, ValueRef, key_value};
 use std::alloc::{AllocError, Global};
 
 /// Appends the records of the entries that meet the conditions, in the order of the entries, and
@@ -149,7 +150,7 @@ fn is_ruled_out(file: &FileDef, mask: &[bool], conds: &[Cond], key: &[u8], first
 {
     for cond in conds {
         if let Some(value) = first_value(file, mask, cond.field, key, first)
-            && !holds(cond.op, compare(value, &cond.bound))
+            && !value.meets(cond.op, &cond.bound)
         {
             return true;
         }

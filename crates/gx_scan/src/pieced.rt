@@ -17,12 +17,12 @@ ghost use Rattle.gx_scan.specs.Records.{list_of_one};
 ghost use Rattle.gx_scan.specs.Search.{AddsChosen};
 
 use crate::entries::{PLAIN_ROOM, add_met};
-use crate::scan::{HALF, read_values};
+use crate::scan::read_values;
 use gx_commands::Cond;
 use gx_ports::Entries;
 use gx_rows::Row;
 use gx_schema::FileDef;
-use gx_values::{NoMemory, Values};
+use gx_values::{NoMemory, Values, unrank};
 use std::alloc::{AllocError, Global};
 
 /// Appends the records whose pieces these entries are and that meet the conditions, in the order of
@@ -205,5 +205,5 @@ fn split_number(piece_key: &[u8]) -> Option<(&[u8], u64)>
         IsSomeAnd result (λ s. (s.0.now ≡ key) × (s.1 ≡ number)) }
 {
     let (key, number) = piece_key.split_last_chunk::<8>()?;
-    Some((key, u64::from_be_bytes(*number).wrapping_add(HALF)))
+    Some((key, unrank(u64::from_be_bytes(*number)).cast_unsigned()))
 }

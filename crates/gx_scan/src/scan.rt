@@ -1,34 +1,31 @@
 // The records of a file among the entries of its leaf that meet conditions: the conditions are
 // tested on the bytes of an entry, and only a record that meets them all is made.
-ghost use Rattle.std.specs.Prelude.{◌≡◌, ◌≤◌, ◌++◌, [], List, ℕ, ℤ, pos, suc, length, map, slice_index_or, Some, IfOk, IfSome, IsSomeAnd};
-ghost use Rattle.std.specs.Int.{w64};
-ghost use Rattle.std.specs.Int.RustNames.{FitsSigned};
+ghost use Rattle.std.specs.Prelude.{◌≡◌, [], List, pos, suc, map, slice_index_or, Some, IfOk, IfSome, IsSomeAnd};
 ghost use Rattle.std.specs.List.{AllByRecursion};
 ghost use Rattle.gx_values.specs.declared.records.Rec.{Rec as Record};
 ghost use Rattle.gx_values.specs.declared.values.Value.{Value as FieldValue};
 ghost use Rattle.gx_values.specs.declared.values.Value.TheVariants as value;
-ghost use Rattle.gx_values.specs.Values.{Fits, AreFit, value_cmp, is_met};
-ghost use Rattle.gx_values.specs.Keys.{bytes_of, rank_of, IsKeyKind};
+ghost use Rattle.gx_values.specs.Values.{AreFit};
+ghost use Rattle.gx_values.specs.Borrowed.{value_of};
+ghost use Rattle.gx_values.specs.Keys.{bytes_of};
 ghost use Rattle.gx_ports.specs.LeafMaps.{entry_of};
-ghost use Rattle.gx_actual.specs.Bodies.{field_bytes, body_of, IsShort, AreShort};
+ghost use Rattle.gx_actual.specs.Bodies.{body_of, AreShort};
 ghost use Rattle.gx_model.specs.States.{Row as TheRow, IsRowOf};
 ghost use Rattle.gx_model.specs.Found.{value_at, meets_conds};
 ghost use Rattle.gx_scan.specs.Files.{IsStorable};
 ghost use Rattle.gx_schema.specs.Lookups.{data_fields};
 ghost use Rattle.gx_stack.specs.Tree.{leaf_body};
 ghost use Rattle.gx_scan.specs.Entries.{entry_of_row, wrapped};
-ghost use Rattle.gx_scan.specs.Scan.{value_of};
 ghost use Rattle.gx_scan.specs.Search.{AddsChosen};
 
 use crate::records::data_fields;
-use gx_actual::read_body;
+use gx_actual::{read_body, split_value};
 use gx_commands::Cond;
 use gx_ports::Entries;
 use gx_rows::Row;
 use gx_schema::FileDef;
-use gx_values::{Field, Kind, NoMemory, Op, Value, Values, read_value_key};
+use gx_values::{Field, NoMemory, ValueRef, Values, key_value, read_value_key};
 use std::alloc::Global;
-use std::cmp::Ordering;
 
 /// Appends the records of entries that meet the conditions, in the order of the entries, and
 /// answers whether each entry looked at was that of a record of the file; one that a condition
@@ -139,46 +136,11 @@ pub(crate) fn meets_all(file: &FileDef, conds: &[Cond], key: &[u8], body: &[u8])
 {
     for cond in conds {
         let value = field_value(file, cond.field, key, body)?;
-        if !holds(cond.op, compare(value, &cond.bound)) {
+        if !value.meets(cond.op, &cond.bound) {
             return Some(false);
         }
     }
     Some(true)
-}
-
-// A value in the bytes of an entry.
-#[derive(Clone, Copy)]
-pub(crate) enum ValueRef<'a> {
-    Int(i64),
-    Text(&'a [u8]),
-    Bytes(&'a [u8]),
-}
-
-pub(crate) fn holds(op: Op, order: Ordering) -> bool
-    ensures { result ≡ is_met op order }
-{
-    match op {
-        Op::Equal => order.is_eq(),
-        Op::Unequal => order.is_ne(),
-        Op::Less => order.is_lt(),
-        Op::AtMost => order.is_le(),
-        Op::Greater => order.is_gt(),
-        Op::AtLeast => order.is_ge(),
-    }
-}
-
-pub(crate) fn compare(value: ValueRef<'_>, bound: &Value) -> Ordering
-    ensures { result ≡ value_cmp (value_of value.entry) bound.now }
-{
-    match (value, bound) {
-        (ValueRef::Int(a), Value::Int(b)) => a.cmp(b),
-        (ValueRef::Int(_), _) => Ordering::Less,
-        (ValueRef::Text(_), Value::Int(_)) => Ordering::Greater,
-        (ValueRef::Text(a), Value::Text(b)) => a.cmp(b.as_slice()),
-        (ValueRef::Text(_), Value::Bytes(_)) => Ordering::Less,
-        (ValueRef::Bytes(a), Value::Bytes(b)) => a.cmp(b.as_slice()),
-        (ValueRef::Bytes(_), _) => Ordering::Greater,
-    }
 }
 
 // The value of a field of the record of an entry, the key being field 0, and 0 where the file has
@@ -199,45 +161,6 @@ fn field_value<'a>(
     data_value(data_fields(file), field as usize - 1, body)
 }
 
-// The value that has these key bytes.
-pub(crate) fn key_value(kind: Kind, key: &[u8]) -> Option<ValueRef<'_>>
-    requires { IsKeyKind kind }
-    ensures { (v : FieldValue) → Fits kind v → key.now ≡ bytes_of v →
-        IsSomeAnd result (λ r. value_of r ≡ v) }
-{
-    match kind {
-        Kind::Int => Some(ValueRef::Int(key_int(key)?)),
-        Kind::Text(_) => Some(ValueRef::Text(key_text(key)?)),
-        Kind::Bytes(_) => None,
-    }
-}
-
-// How many ints are below 0.
-pub(crate) const HALF: u64 = 1 << 63;
-
-fn key_int(key: &[u8]) -> Option<i64>
-    ensures { (n : ℤ) → FitsSigned w64 n → key.now ≡ bytes_of (value.Int n) → result ≡ Some n }
-{
-    let front = key.first_chunk::<8>()?;
-    Some(unrank(u64::from_be_bytes(*front)))
-}
-
-// The int with so many below it.
-fn unrank(rank: u64) -> i64
-    ensures { rank_of result ≡ rank }
-{
-    rank.wrapping_add(HALF).cast_signed()
-}
-
-// All but the 0 at the end.
-fn key_text(key: &[u8]) -> Option<&[u8]>
-    ensures { (text : List ℕ) → key.now ≡ bytes_of (value.Text text) →
-        IsSomeAnd result (λ r. r.now ≡ text) }
-{
-    let (_, text) = key.split_last()?;
-    Some(text)
-}
-
 // The value of one of these fields in a body, counted from 0, and 0 where there are fewer.
 fn data_value<'a>(fields: &[Field], index: usize, body: &'a [u8]) -> Option<ValueRef<'a>>
     requires { AreShort fields.now }
@@ -253,39 +176,4 @@ fn data_value<'a>(fields: &[Field], index: usize, body: &'a [u8]) -> Option<Valu
         rest = more;
     }
     Some(ValueRef::Int(0))
-}
-
-// The value of this kind that stands at the front of a body, and what follows.
-pub(crate) fn split_value(kind: Kind, rest: &[u8]) -> Option<(ValueRef<'_>, &[u8])>
-    requires { IsShort kind }
-    ensures { (v : FieldValue) (more : List ℕ) → Fits kind v → rest.now ≡ field_bytes v ++ more →
-        IsSomeAnd result (λ s. (value_of s.0 ≡ v) × (s.1.now ≡ more)) }
-{
-    match kind {
-        Kind::Int => {
-            let (front, more) = rest.split_first_chunk::<8>()?;
-            let int = u64::from_be_bytes(*front).cast_signed();
-            Some((ValueRef::Int(int), more))
-        }
-        Kind::Text(_) => {
-            let (length, more) = rest.split_first()?;
-            let (text, more) = more.split_at_checked(usize::from(*length))?;
-            Some((ValueRef::Text(text), more))
-        }
-        Kind::Bytes(_) => {
-            let (bytes, more) = split_bytes(rest)?;
-            Some((ValueRef::Bytes(bytes), more))
-        }
-    }
-}
-
-// The same of bytes.
-pub(crate) fn split_bytes(rest: &[u8]) -> Option<(&[u8], &[u8])>
-    ensures { (bytes more : List ℕ) → length bytes ≤ 65535 →
-        rest.now ≡ field_bytes (value.Bytes bytes) ++ more →
-        IsSomeAnd result (λ s. (s.0.now ≡ bytes) × (s.1.now ≡ more)) }
-{
-    let (length, more) = rest.split_first_chunk::<2>()?;
-    let length = u16::from_be_bytes(*length);
-    more.split_at_checked(usize::from(length))
 }

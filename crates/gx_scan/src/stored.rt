@@ -7,18 +7,18 @@ ghost use Rattle.gx_values.specs.declared.values.Kind.TheVariants as kind;
 ghost use Rattle.gx_values.specs.declared.values.Value.{Value as FieldValue};
 ghost use Rattle.gx_values.specs.declared.values.Value.TheVariants as value;
 ghost use Rattle.gx_values.specs.Values.{Fits, AreFit};
+ghost use Rattle.gx_values.specs.Borrowed.{value_of};
 ghost use Rattle.gx_actual.specs.Bodies.{field_bytes, body_of, IsShort, AreShort};
 ghost use Rattle.gx_encode.specs.Codes.{IsCodable};
 ghost use Rattle.gx_encode.specs.Packs.{pack};
 ghost use Rattle.gx_encode.specs.Rules.{coded};
 ghost use Rattle.gx_encode.specs.Runs.{rle};
-ghost use Rattle.gx_scan.specs.Scan.{value_of};
 ghost use Rattle.gx_scan.specs.Stored.{stored_value, stored_values, HasCode, HaveCodes};
 
 use crate::codes::Codes;
-use crate::scan::{ValueRef, split_bytes, split_value};
+use gx_actual::{split_bytes, split_value};
 use gx_encode::{unpack, unrle};
-use gx_values::{Code, Field, Kind, NoMemory, Octets, Value, Values, is_printable_text};
+use gx_values::{Code, Field, Kind, NoMemory, Value, ValueRef, Values};
 use std::alloc::Global;
 
 /// The values of these fields whose body this is, where some stand by their codes. `None`: it is
@@ -89,7 +89,7 @@ pub(crate) fn read_front(
 {
     match code {
         Some(code) => decoded(alloc, kind, code, front),
-        None => copied(alloc, kind, front),
+        None => front.checked_copy(alloc, kind),
     }
 }
 
@@ -129,40 +129,4 @@ fn joined_runs(alloc: Global, most: u16, bytes: &[u8]) -> Result<Option<Value>, 
         Some(text) => Ok(Some(Value::Text(text))),
         None => Ok(None),
     }
-}
-
-// The value that stands there as it is. `None`: it isn't of the kind.
-fn copied(alloc: Global, kind: Kind, front: ValueRef<'_>) -> Result<Option<Value>, NoMemory>
-    ensures read { Fits kind (value_of front.entry) →
-        IfOk result (λ found. found ≡ Some (value_of front.entry)) }
-    ensures fits { IfOk result (λ found. IfSome found (Fits kind)) }
-{
-    match (kind, front) {
-        (Kind::Int, ValueRef::Int(int)) => Ok(Some(Value::Int(int))),
-        (Kind::Text(most), ValueRef::Text(text)) => copied_text(alloc, most, text),
-        (Kind::Bytes(most), ValueRef::Bytes(bytes)) => copied_bytes(alloc, most, bytes),
-        _ => Ok(None),
-    }
-}
-
-fn copied_text(alloc: Global, most: u16, text: &[u8]) -> Result<Option<Value>, NoMemory>
-    ensures read { Fits (kind.Text most) (value.Text text.now) →
-        IfOk result (λ found. found ≡ Some (value.Text text.now)) }
-    ensures fits { IfOk result (λ found. IfSome found (Fits (kind.Text most))) }
-{
-    if text.len() > usize::from(most) || !is_printable_text(text) {
-        return Ok(None);
-    }
-    Ok(Some(Value::Text(Octets::from_slice(alloc, text)?)))
-}
-
-fn copied_bytes(alloc: Global, most: u16, bytes: &[u8]) -> Result<Option<Value>, NoMemory>
-    ensures read { Fits (kind.Bytes most) (value.Bytes bytes.now) →
-        IfOk result (λ found. found ≡ Some (value.Bytes bytes.now)) }
-    ensures fits { IfOk result (λ found. IfSome found (Fits (kind.Bytes most))) }
-{
-    if bytes.len() > usize::from(most) {
-        return Ok(None);
-    }
-    Ok(Some(Value::Bytes(Octets::from_slice(alloc, bytes)?)))
 }

@@ -28,9 +28,10 @@ use std::alloc::Global;
 
 /// Appends the records of the file within the span that meet the conditions, in any order. Where
 /// each record stands whole in one leaf, or a segment splits it in two, or a transposition puts
-/// each field in a leaf of its own, the conditions are tested on the bytes of leaf entries, and no
-/// other record is made, but for a single key that may stand in one of many leaves. It takes a step
-/// for each leaf, and one for each leaf entry of a record within the span.
+/// each field in a leaf of its own, or each record stands in pieces in one leaf, the conditions are
+/// tested on the bytes of leaf entries, and no other record is made, but for a single key that may
+/// stand in one of many leaves. It takes a step for each leaf, and one for each leaf entry of a
+/// record within the span.
 ///
 /// After an error `rows` may have more at its end. `Damaged`: some leaf's stored form isn't whole,
 /// or the leaves hold no file, which is said of block 0. `Fault`: the count of faults rose; with

@@ -16,15 +16,15 @@ use Rattle.gx_schema.specs.Names.{has_link, file_position}
 use Rattle.gx_schema.specs.Rules.{IsFile, IsLink}
 
 -- a number token that is the size
-abbrev pub SizeText : ℕ → List ℕ → List ℕ → Type 0
-SizeText n bytes rest =
+abbrev pub KindSizeText : ℕ → List ℕ → List ℕ → Type 0
+KindSizeText n bytes rest =
     (text : List ℕ) × (natural_up_to 200 (number_value text) ≡ Some n)
     × the (Number text) bytes rest
 
 -- "int" | "text" NUMBER
 abbrev pub KindText : Kind → List ℕ → List ℕ → Type 0
 KindText kinds.Int = the (Word (codes "int"))
-KindText (kinds.Text n) = the (Word (codes "text")) ⨾ SizeText n
+KindText (kinds.Text n) = the (Word (codes "text")) ⨾ KindSizeText n
 KindText (kinds.Bytes n) = λ _ _. ⊥
 
 abbrev pub FieldText : Field → List ℕ → List ℕ → Type 0
@@ -42,15 +42,16 @@ FileText f =
     the (Word (codes "file")) ⨾ the (Word f.name) ⨾ the Open ⨾ FieldsText f.fields ⨾ the Close
 
 -- the name of the file of this number
-abbrev pub FileName : List FileDef → ℕ → List ℕ → List ℕ → Type 0
-FileName files number bytes rest =
+abbrev pub FileNameText : List FileDef → ℕ → List ℕ → List ℕ → Type 0
+FileNameText files number bytes rest =
     (name : List ℕ) × (file_position files name ≡ Some number) × the (Word name) bytes rest
 
 -- "link" NAME "(" NAME "," NAME ")"
 abbrev pub LinkText : List FileDef → LinkDef → List ℕ → List ℕ → Type 0
 LinkText files l =
     the (Word (codes "link")) ⨾ the
-    (Word l.name) ⨾ the Open ⨾ FileName files l.owner ⨾ the Comma ⨾ FileName files l.member ⨾ the
+    (Word l.name) ⨾ the Open ⨾ FileNameText files l.owner ⨾ the Comma ⨾ FileNameText files l.member
+    ⨾ the
     Close
 
 abbrev pub ItemText : Schema → Item → List ℕ → List ℕ → Type 0
@@ -58,9 +59,9 @@ ItemText before (items.File f) = FileText f
 ItemText before (items.Link l) = LinkText before.files l
 
 -- {item}, up to the end; a link names files that stand before it
-abbrev pub ItemsText : Schema → List Item → List ℕ → List ℕ → Type 0
-ItemsText before [] = the End
-ItemsText before (i ∷ is) = ItemText before i ⨾ ItemsText (with_item before i) is
+abbrev pub ItemsToEnd : Schema → List Item → List ℕ → List ℕ → Type 0
+ItemsToEnd before [] = the End
+ItemsToEnd before (i ∷ is) = ItemText before i ⨾ ItemsToEnd (with_item before i) is
 
 -- a file or a link that may stand behind those before it
 abbrev pub IsItem : Schema → Item → Type 0
@@ -75,7 +76,7 @@ AreItems before (i ∷ is) = IsItem before i × AreItems (with_item before i) is
 pub record IsSchemaText (bytes : List ℕ) (schema : Schema) : Type 0 where
   pub listed : List Item
   pub rest : List ℕ
-  pub text : ItemsText no_schema listed bytes rest
+  pub text : ItemsToEnd no_schema listed bytes rest
   pub rules : AreItems no_schema listed
   pub whole : schema ≡ with_items no_schema listed
   pub some : 0 < length schema.files

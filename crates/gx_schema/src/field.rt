@@ -1,7 +1,7 @@
 // Reading the fields of a file.
 ghost use Rattle.std.specs.Prelude.{◌≡◌, ◌==◌, ◌<◌, [], ◌∷◌, ◌++◌, length, OnOk};
 ghost use Rattle.gx_tokens.specs.Reading.{Gives, map_ok, want};
-ghost use Rattle.gx_schema.specs.Reading.{size_from, size_at, kind_at, a_field_name, field_at, fields_at};
+ghost use Rattle.gx_schema.specs.Reading.{size_from, size_at, kind_at, a_field_name, field_behind, fields_at};
 
 use crate::names::{has_field, starts_with_letter};
 use gx_tokens::{
@@ -67,10 +67,10 @@ fn read_field_name<'a>(before: &Fields, bytes: &'a [u8]) -> Result<(Name, &'a [u
 }
 
 // The field that follows those before it.
-#[tactic(auto, unfolding(crate::specs::Reading::field_at))]
+#[tactic(auto, unfolding(crate::specs::Reading::field_behind))]
 fn read_field<'a>(before: &Fields, bytes: &'a [u8]) -> Result<(Field, &'a [u8]), Fault>
     ensures room { OnOk result (length before.now < 32) }
-    ensures exact { map_ok (λ x. (x.0, x.1.now)) result ≡ field_at before.now bytes.now }
+    ensures exact { map_ok (λ x. (x.0, x.1.now)) result ≡ field_behind before.now bytes.now }
 {
     let (name, rest) = read_field_name(before, bytes)?;
     let (kind, rest) = read_kind(before.0.is_empty(), rest)?;

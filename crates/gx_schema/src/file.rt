@@ -1,7 +1,7 @@
 // Reading files and links.
 ghost use Rattle.std.specs.Prelude.{◌≡◌, ◌≤◌, length};
 ghost use Rattle.gx_tokens.specs.Reading.{Gives, map_ok, want};
-ghost use Rattle.gx_schema.specs.Reading.{a_new_name, file_at, a_file_name, link_at};
+ghost use Rattle.gx_schema.specs.Reading.{a_new_name, file_behind, a_file_name, link_behind};
 
 use crate::field::read_fields;
 use crate::names::{file_position, has_file, has_link, starts_with_letter};
@@ -24,13 +24,13 @@ fn read_new_name<'a>(schema: &Schema, bytes: &'a [u8]) -> Result<(Name, &'a [u8]
 }
 
 /// The file behind the word `file`, after the files and links of the schema, and what follows it.
-#[tactic(auto, unfolding(crate::specs::Reading::file_at))]
+#[tactic(auto, unfolding(crate::specs::Reading::file_behind))]
 pub fn read_file<'a>(
     alloc: Global,
     schema: &Schema,
     bytes: &'a [u8],
 ) -> Result<(FileDef, &'a [u8]), ReadError>
-    ensures { Gives (λ x. (x.0, x.1.now)) result (file_at schema.now bytes.now) }
+    ensures { Gives (λ x. (x.0, x.1.now)) result (file_behind schema.now bytes.now) }
 {
     let (name, rest) = read_new_name(schema, bytes)?;
     let rest = read_open(rest)?;
@@ -51,10 +51,10 @@ fn read_file_name<'a>(files: &[FileDef], bytes: &'a [u8]) -> Result<(u16, &'a [u
 }
 
 /// The link behind the word `link`, after the files and links of the schema, and what follows it.
-#[tactic(auto, unfolding(crate::specs::Reading::link_at))]
+#[tactic(auto, unfolding(crate::specs::Reading::link_behind))]
 pub fn read_link<'a>(schema: &Schema, bytes: &'a [u8]) -> Result<(LinkDef, &'a [u8]), Fault>
     requires { length schema.now.files ≤ 32 }
-    ensures { map_ok (λ x. (x.0, x.1.now)) result ≡ link_at schema.now bytes.now }
+    ensures { map_ok (λ x. (x.0, x.1.now)) result ≡ link_behind schema.now bytes.now }
 {
     let files = schema.files.as_slice();
     let (name, rest) = read_new_name(schema, bytes)?;

@@ -6,20 +6,21 @@ use Rattle.gx_commands.specs.declared.command.Command.{Command}
 use Rattle.gx_commands.specs.declared.command.LineWhy.TheVariants as why
 use Rattle.gx_commands.specs.declared.command.NoCommand.{NoCommand}
 use Rattle.gx_commands.specs.declared.command.NoCommand.TheVariants as no_command
-use Rattle.gx_commands.specs.Words.{Word, IsWord, AreWords}
-use Rattle.gx_script.specs.Grammar.{Means}
+use Rattle.gx_commands.specs.Words.{Word, IsLineWord, AreWords}
+use Rattle.gx_script.specs.Grammar.{MeansCommand}
 use Rattle.gx_script.specs.Shape.{IsShaped}
 
 -- with some words behind them these are a line of the bare grammar
 abbrev pub IsFront : List Word → Type 0
-IsFront before = (behind : List Word) × AllByRecursion IsWord behind × IsShaped (before ++ behind)
+IsFront before = (behind : List Word) × AllByRecursion IsLineWord behind
+    × IsShaped (before ++ behind)
 
 -- no words that mean a command go on behind these with the first of those that are left; where none
 -- is left, these mean none
 abbrev pub NoLineGoesOn : Schema → List Word → List Word → Type 0
-NoLineGoesOn schema before [] = (c : Command) → Means schema before c → ⊥
+NoLineGoesOn schema before [] = (c : Command) → MeansCommand schema before c → ⊥
 NoLineGoesOn schema before (w ∷ ws) = (behind : List Word) (c : Command)
-    → Means schema (before ++ w ∷ behind) c → ⊥
+    → MeansCommand schema (before ++ w ∷ behind) c → ⊥
 
 -- the words go wrong at the first of those that are left behind some line's front, or at their end
 pub record IsFirstBad (schema : Schema) (words : List Word) : Type 0 where

@@ -144,7 +144,7 @@ CommandWords schema command.Nothing = NoWord
 -- the words, all of them, mean the command, which keeps the rules: values fit their fields,
 -- `update` names neither the key nor a field twice, and the link of `of` has the file's records as
 -- members
-pub record Means (schema : Schema) (line : List Word) (c : Command) : Type 0 where
+pub record MeansCommand (schema : Schema) (line : List Word) (c : Command) : Type 0 where
   pub words : CommandWords schema c line []
   pub rules : IsOfSchema schema c
 
@@ -153,4 +153,4 @@ abbrev pub IsLineOf : Schema → List ℕ → Command → Type 0
 IsLineOf schema line c =
     (IsTrue (is_comment line) × (c ≡ command.Nothing))
     ⊎ ((is_comment line ≡ false) × IsTrue (list_all is_character line)
-    × ((words : List Word) × AreWords line words × Means schema words c))
+    × ((words : List Word) × AreWords line words × MeansCommand schema words c))

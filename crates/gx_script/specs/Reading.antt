@@ -124,8 +124,8 @@ record_at schema words = do
   Ok (file.0, key.0, key.1)
 
 -- LINK OWNER
-unfoldable pub owner_at : Schema → List Word → Result (ℕ × Value × List Word) LineWhy
-owner_at schema words = do
+unfoldable pub link_and_owner : Schema → List Word → Result (ℕ × Value × List Word) LineWhy
+link_and_owner schema words = do
   link ← want (a_link schema) words
   owner ← want (a_value (key_kind (file_at schema (link_at schema link.0).owner))) link.1
   Ok (link.0, owner.0, owner.1)
@@ -245,13 +245,13 @@ update_at schema words = do
 
 unfoldable pub connect_at : Schema → List Word → Result (Command × List Word) LineWhy
 connect_at schema words = do
-  o ← owner_at schema words
+  o ← link_and_owner schema words
   member ← want (a_value (key_kind (file_at schema (link_at schema o.0).member))) o.2
   Ok (command.Connect o.0 o.1 member.0, member.1)
 
 unfoldable pub members_at : Schema → List Word → Result (Command × List Word) LineWhy
 members_at schema words = do
-  o ← owner_at schema words
+  o ← link_and_owner schema words
   order ← order_at (file_at schema (link_at schema o.0).member) o.2
   Ok (command.Members o.0 o.1 order.0, order.1)
 
@@ -267,28 +267,28 @@ abbrev pub of_record : (ℕ → Value → Command) → ℕ × Value × List Word
 of_record made x = (made x.0 x.1, x.2)
 
 -- what stands behind the first word of a command
-unfoldable pub arguments_at : Schema → Verb → List Word → Result (Command × List Word) LineWhy
-arguments_at schema verb.Begin words = Ok (command.Begin, words)
-arguments_at schema verb.Commit words = Ok (command.Commit, words)
-arguments_at schema verb.Abort words = Ok (command.Abort, words)
-arguments_at schema verb.Insert words = insert_at schema words
-arguments_at schema verb.Get words = do
+unfoldable pub command_behind : Schema → Verb → List Word → Result (Command × List Word) LineWhy
+command_behind schema verb.Begin words = Ok (command.Begin, words)
+command_behind schema verb.Commit words = Ok (command.Commit, words)
+command_behind schema verb.Abort words = Ok (command.Abort, words)
+command_behind schema verb.Insert words = insert_at schema words
+command_behind schema verb.Get words = do
   r ← record_at schema words
   Ok (of_record (λ file key. command.Get file key) r)
-arguments_at schema verb.Update words = update_at schema words
-arguments_at schema verb.Delete words = do
+command_behind schema verb.Update words = update_at schema words
+command_behind schema verb.Delete words = do
   r ← record_at schema words
   Ok (of_record (λ file key. command.Delete file key) r)
-arguments_at schema verb.Connect words = connect_at schema words
-arguments_at schema verb.Disconnect words = do
+command_behind schema verb.Connect words = connect_at schema words
+command_behind schema verb.Disconnect words = do
   r ← member_at schema words
   Ok (of_record (λ link member. command.Disconnect link member) r)
-arguments_at schema verb.Members words = members_at schema words
-arguments_at schema verb.Owner words = do
+command_behind schema verb.Members words = members_at schema words
+command_behind schema verb.Owner words = do
   r ← member_at schema words
   Ok (of_record (λ link member. command.Owner link member) r)
-arguments_at schema verb.Find words = find_at schema words
-arguments_at schema verb.Reorganize words = want (a_structure schema) words
+command_behind schema verb.Find words = find_at schema words
+command_behind schema verb.Reorganize words = want (a_structure schema) words
 
 -- no word is left
 abbrev pub ended : Command × List Word → Result Command LineWhy
@@ -297,7 +297,7 @@ ended x = if is_end x.1 then Ok x.0 else Err why.Word
 abbrev pub command_at : Schema → List Word → Result Command LineWhy
 command_at schema words = do
   verb ← want a_verb words
-  x ← arguments_at schema verb.0 verb.1
+  x ← command_behind schema verb.0 verb.1
   ended x
 
 -- the command that words mean, or the first reason why they mean none

@@ -3,7 +3,7 @@ ghost use Rattle.std.specs.Prelude.{◌≡◌, ◌<◌, [], length, IfOk};
 ghost use Rattle.gx_tokens.specs.Reading.{map_ok};
 ghost use Rattle.gx_schema.specs.WellFormed.{HasFields, IsWellFormed};
 ghost use Rattle.gx_commands.specs.Cutting.{words_in};
-ghost use Rattle.gx_script.specs.Reading.{Gives, record_at, owner_at, member_at, change_at, changes_at, cond_at, conds_at, where_at, owner_of_at, of_at, desc_at, order_at};
+ghost use Rattle.gx_script.specs.Reading.{Gives, record_at, link_and_owner, member_at, change_at, changes_at, cond_at, conds_at, where_at, owner_of_at, of_at, desc_at, order_at};
 
 use crate::keywords::{after_keyword, read_op};
 use crate::names::{
@@ -35,7 +35,7 @@ pub fn read_record<'a>(
 }
 
 /// LINK OWNER, and what follows them.
-#[tactic(auto, unfolding(crate::specs::Reading::owner_at))]
+#[tactic(auto, unfolding(crate::specs::Reading::link_and_owner))]
 pub fn read_owner<'a>(
     alloc: Global,
     schema: &Schema,
@@ -43,7 +43,7 @@ pub fn read_owner<'a>(
 ) -> Result<(u16, Value, &'a [u8]), NoCommand>
     requires { IsWellFormed schema.now }
     ensures exact { Gives (λ x. (x.0, x.1, words_in x.2.now)) result
-        (owner_at schema.now (words_in line.now)) }
+        (link_and_owner schema.now (words_in line.now)) }
     ensures within { IfOk result (λ x. x.0 < length schema.now.links) }
 {
     let (link, rest) = read_link(schema, line)?;

@@ -2,7 +2,7 @@
 ghost use Rattle.std.specs.Prelude.{◌≡◌, ◌≤◌, ◌↔◌, Ok, Result, IfOk, IfErr, length};
 ghost use Rattle.gx_schema.specs.WellFormed.{IsWellFormed};
 ghost use Rattle.gx_commands.specs.Cutting.{words_in};
-ghost use Rattle.gx_script.specs.Reading.{Gives, insert_at, update_at, connect_at, members_at, find_at, arguments_at, reading, IsReading, AnswersUnlessNoMemory};
+ghost use Rattle.gx_script.specs.Reading.{Gives, insert_at, update_at, connect_at, members_at, find_at, command_behind, reading, IsReading, AnswersUnlessNoMemory};
 ghost use Rattle.gx_script.specs.Faults.{IsBad};
 ghost use Rattle.gx_script.specs.Grammar.{IsLineOf};
 ghost use Rattle.gx_commands.specs.Commands.{IsOfSchema, conds_of};
@@ -105,7 +105,7 @@ fn read_find<'a>(
 }
 
 // What stands behind the first word of a command, and what follows it.
-#[tactic(auto, unfolding(crate::specs::Reading::arguments_at))]
+#[tactic(auto, unfolding(crate::specs::Reading::command_behind))]
 fn read_arguments<'a>(
     alloc: Global,
     schema: &Schema,
@@ -114,7 +114,7 @@ fn read_arguments<'a>(
 ) -> Result<(Command, &'a [u8]), NoCommand>
     requires { IsWellFormed schema.now }
     ensures { Gives (λ x. (x.0, words_in x.1.now)) result
-        (arguments_at schema.now verb (words_in line.now)) }
+        (command_behind schema.now verb (words_in line.now)) }
 {
     match verb {
         Verb::Begin => Ok((Command::Begin, line)),

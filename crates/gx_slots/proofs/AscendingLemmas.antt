@@ -29,7 +29,8 @@ pub scanned_page : (bytes body : List ℕ) (count : ℕ) → length bytes ≡ 40
 scanned_page bytes body count size kind blank small behind counted held =
     let is : IsPageOf held.held (number_of bytes) bytes =
     record {
-      page = pages.page_from_bytes entry_format 0x44 bytes body count size kind blank small behind counted held.held held.count
+      page = pages.page_from_bytes entry_format 0x44 bytes body count size kind blank small behind
+          counted held.held held.count
           held.holds;
       distinct = distinct_of held.held held.ascending;
     } in

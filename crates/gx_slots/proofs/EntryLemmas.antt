@@ -97,7 +97,8 @@ entry_split bytes tail key middle body rest key_len body_len is key_fits fits wi
     let whole : key ++ (body ++ rest) ≡ tail =
     ap₂ (λ (xs ys : List ℕ). xs ++ ys) key_is (ap₂ (λ (xs ys : List ℕ). xs ++ ys) body_is rest_is
     ∙ take-append-drop body_len middle ∙ middle_is) ∙ take-append-drop key_len tail in
-    let lengths : to_be_bytes w16 key_len ++ (to_be_bytes w16 body_len ++ tail) ≡ to_be_bytes w16 (length key)
+    let lengths : to_be_bytes w16 key_len ++ (to_be_bytes w16 body_len ++ tail) ≡ to_be_bytes w16
+    (length key)
     ++ (to_be_bytes w16 (length body) ++ (key ++ (body ++ rest))) =
     ap₂ (λ (k b : ℕ). to_be_bytes w16 k ++ (to_be_bytes w16 b ++ tail)) (sym key_size)
     (sym body_size)

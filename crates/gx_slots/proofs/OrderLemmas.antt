@@ -32,7 +32,8 @@ all_behind entries i key entry ascending below at le k d in' =
     here : is_le (cmp key (get_or entries i d).key) ≡ true
     here = subst (λ (e : Entry). is_le (cmp key e.key) ≡ true) (sym (at d)) le
 
-    go : (k : ℕ) → k < length (drop i entries) → is_le (cmp key (get_or entries (i + k) d).key) ≡ true
+    go : (k : ℕ) → k < length (drop i entries)
+        → is_le (cmp key (get_or entries (i + k) d).key) ≡ true
     go zero in' =
         subst (λ (n : ℕ). is_le (cmp key (get_or entries n d).key) ≡ true)
         (let n : i ≡ i + 0 = omega arith in n) here

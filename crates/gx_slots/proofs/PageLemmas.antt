@@ -112,12 +112,15 @@ pub page_added : (entries : List Entry) (next : ℕ) (bytes : List ℕ) → IsPa
     → put ≡ overwritten moved at (entry_bytes entry)
     → new ≡ overwritten put 2 (to_be_bytes w16 (length entries + 1)) → length new ≡ 4096
     → IsPageOf (insert entries i entry) next new
-page_added entries next bytes is i entry at end moved put new in' other fit at_is end_is room moved_is put_is new_is size = record {
-  page = pages.page_added entry_format 0x44 entries next bytes is.page i entry at end moved put new
-      in' fit at_is end_is room moved_is put_is new_is size;
-  distinct = all_pairs_insert (λ (a b : Entry). a.key ≢ b.key) entries i entry in' is.distinct
-      (λ k d before. other k d (omega arith)) (λ k d behind below same. other k d below (sym same));
-}
+page_added entries next bytes is i entry at end moved put new in' other fit at_is end_is room
+    moved_is put_is new_is size = record {
+      page = pages.page_added entry_format 0x44 entries next bytes is.page i entry at end moved put
+          new
+          in' fit at_is end_is room moved_is put_is new_is size;
+      distinct = all_pairs_insert (λ (a b : Entry). a.key ≢ b.key) entries i entry in' is.distinct
+          (λ k d before. other k d (omega arith))
+          (λ k d behind below same. other k d below (sym same));
+    }
 
 -- the entry at a place taken away
 pub page_taken : (entries : List Entry) (next : ℕ) (bytes : List ℕ) → IsPageOf entries next bytes
@@ -127,8 +130,10 @@ pub page_taken : (entries : List Entry) (next : ℕ) (bytes : List ℕ) → IsPa
     → moved ≡ copy_within bytes behind end at
     → new ≡ overwritten moved 2 (to_be_bytes w16 (length entries - 1)) → length new ≡ 4096
     → IsPageOf (remove entries i) next new
-page_taken entries next bytes is i at behind end d moved new below at_is behind_is end_is moved_is new_is size = record {
-  page = pages.page_taken entry_format 0x44 entries next bytes is.page i at behind end d moved new
-      below at_is behind_is end_is moved_is new_is size;
-  distinct = all_pairs_remove (λ (a b : Entry). a.key ≢ b.key) entries i below is.distinct;
-}
+page_taken entries next bytes is i at behind end d moved new below at_is behind_is end_is moved_is
+    new_is size = record {
+      page = pages.page_taken entry_format 0x44 entries next bytes is.page i at behind end d moved
+          new
+          below at_is behind_is end_is moved_is new_is size;
+      distinct = all_pairs_remove (λ (a b : Entry). a.key ≢ b.key) entries i below is.distinct;
+    }

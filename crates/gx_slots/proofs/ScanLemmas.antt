@@ -123,7 +123,8 @@ twice bytes place rest seen count entry behind scan below fit is double held =
     next_same entry_format entry place entries rest behind same.1 inside fit is in
     let key = ap (λ (e : Entry). e.key) here in
     double
-    (subst (All (λ (e : Entry). e.key ≢ entry.key)) (sym same.0 ∙ scanned_entries bytes place rest seen scan) (λ k d below_k.
+    (subst (All (λ (e : Entry). e.key ≢ entry.key)) (sym same.0
+    ∙ scanned_entries bytes place rest seen scan) (λ k d below_k.
     let k_in : k < place = omega (arith, length-take-le place entries (omega arith)) in
     let read =
     get_or-take place entries k d k_in ∙ get_or_default entries k d entry (omega arith) in
@@ -139,7 +140,8 @@ scanned_page bytes body count size kind blank small behind counted held = record
   entries = held.entries;
   next = number_of bytes;
   is = record {
-    page = pages.page_from_bytes entry_format 0x44 bytes body count size kind blank small behind counted held.entries
+    page = pages.page_from_bytes entry_format 0x44 bytes body count size kind blank small behind
+        counted held.entries
         held.count held.holds;
     distinct = held.distinct;
   };

@@ -26,7 +26,8 @@ back_holds page rest place at is =
 
 pub back_len : (entries : List Entry) (place at end : ℕ) → at ≡ used_by (take place entries)
     → end ≡ used_by entries → (at ≤ end) × (end - at ≡ sum_by entry_len (drop place entries))
-back_len entries place at end at_is end_is = let all = sum_by-take-drop entry_len entries place in (omega (arith, all), omega (arith, all))
+back_len entries place at end at_is end_is = let all = sum_by-take-drop entry_len entries place in
+    (omega (arith, all), omega (arith, all))
 
 -- their bytes
 pub back_bytes : (es : List Entry) (rest others : List ℕ) (len : ℕ)

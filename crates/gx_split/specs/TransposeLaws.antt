@@ -171,7 +171,8 @@ only_column form name r q column carries =
     let child : q.child ≡ 0 + column.at = ap (λ (p : Part). p.child) column.is in
     let number =
     equal_from_nat_eq (first_in form.fields name) q.child
-    (both_parts (is_field form.fields name) (nat_eq (first_in form.fields name) q.child) carries).1 in
+    (both_parts (is_field form.fields name) (nat_eq (first_in form.fields name) q.child) carries).1
+    in
     let at : column.at ≡ first_in form.fields name = omega arith in
     let none : 0 + column.at ≡ first_in form.fields name = omega arith in
     column.is ∙ (λ i. column_part r.key (none i) (get_or r.fields (at i) no_value))
@@ -202,7 +203,8 @@ carrier : (form : Form) (name : List ℕ) (c : ℕ) → (transpose_rule form).ca
     → IsCarrier (transpose_rule form) name c
 carrier form name c carries =
     let b = both_parts (is_field form.fields name) (nat_eq (first_in form.fields name) c) carries in
-    subst (IsCarrier (transpose_rule form) name) (equal_from_nat_eq (first_in form.fields name) c b.1)
+    subst (IsCarrier (transpose_rule form) name)
+    (equal_from_nat_eq (first_in form.fields name) c b.1)
     (record {
       rest = refl;
       keys = refl;

@@ -42,7 +42,8 @@ module _ {rule : Rule} (laws : MappingLaws rule) (span : Span) (c : ℕ) (alone 
         more.1 ∙ ap (λ (fs : List Field). rule.form.keys ++ fs) (nothing_left more.0 zero_left)
         ∙ append-nil rule.form.keys
 
-    pub alone_of_key : (q : Rec) → IsOf (rule.kid_form c) q → AreOfKey rule q.key (part_for c q ∷ [])
+    pub alone_of_key : (q : Rec) → IsOf (rule.kid_form c) q
+        → AreOfKey rule q.key (part_for c q ∷ [])
     alone_of_key q fits =
         let of_key : IsOfKey rule q.key (part_for c q) =
         record {
@@ -53,7 +54,8 @@ module _ {rule : Rule} (laws : MappingLaws rule) (span : Span) (c : ℕ) (alone 
         } in
         record {
           key_fits = subst (λ (fs : List Field). AreFit fs q.key) same_keys fits.key;
-          each = λ p there. subst (IsOfKey rule q.key) (sym (the_one p (part_for c q) there)) of_key;
+          each = λ p there. subst (IsOfKey rule q.key) (sym (the_one p (part_for c q) there))
+              of_key;
         }
 
 -- ---- what is found there

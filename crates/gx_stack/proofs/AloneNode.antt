@@ -50,7 +50,8 @@ module _ {M : Type 0} (rule : M → Rule) (n : Node M) (l : LayerNode M) (is : n
     kid_selection {maps = maps} f whole R set internal =
         let Rs = child_records (rule l.mapping) c R in
         let in_layer = subst (λ f. IsSet f R) (layer_form rule n l is) set in
-        f.selected whole Rs (subst (λ f. IsSet f Rs) (sym alone_kid.0) (child_set laws c R in_layer))
+        f.selected whole Rs (subst (λ f. IsSet f Rs) (sym alone_kid.0)
+        (child_set laws c R in_layer))
         (child_internal rule n l is c k R maps alone_there read internal)
 
     -- the records that are made of it are what the node finds

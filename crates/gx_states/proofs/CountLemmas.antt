@@ -10,7 +10,7 @@ use Rattle.gx_links.specs.Rows.{owner_entries}
 use Rattle.gx_linksets.specs.Stored.{rows_of}
 use Rattle.gx_mapping.specs.Rule.{In}
 use Rattle.gx_model.specs.States.{File, Link}
-use Rattle.gx_scan.specs.Files.{records_of}
+use Rattle.gx_scan.specs.Files.{file_records}
 use Rattle.gx_stack.specs.Tree.{Tree, entries_of, entry_total, kid_entries}
 use Rattle.gx_stack.specs.declared.node.Node.{Node}
 use Rattle.gx_types.specs.Any.{any_rule}
@@ -44,7 +44,7 @@ one_total t (q ∷ rs) r (inr h) = omega (
 )
 
 pub one_file : (nodes : List (Node AnyMapping)) (fs : List File) (i : ℕ) → i < length nodes
-    → i < length fs → entry_total any_rule (tree_at nodes i) (records_of (get_or fs i fin.empty))
+    → i < length fs → entry_total any_rule (tree_at nodes i) (file_records (get_or fs i fin.empty))
     ≤ entries_from nodes fs
 one_file [] fs i l m = absurd (omega arith)
 one_file (n ∷ ns) [] i l m = absurd (omega arith)

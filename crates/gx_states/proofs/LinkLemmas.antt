@@ -43,7 +43,7 @@ use Rattle.gx_lists.specs.ArrayLaws.{array_row_laws}
 use Rattle.gx_lists.specs.InvertedLaws.{inverted_row_laws}
 use Rattle.gx_ring.specs.RingLaws.{ring_row_laws}
 use Rattle.gx_linksets.specs.Stored.{IsStorableLink, rows_of, rounds_of, finds_owner, rule_at, IsHeldAt}
-use Rattle.gx_model.specs.States.{File, State, file_in, link_in, IsFileOf, IsLinkOf, IsValid, IsRowOf}
+use Rattle.gx_model.specs.States.{File, State, file_in, link_in, HasRowsOf, IsLinkOf, IsValid, IsRowOf}
 use Rattle.gx_scan.specs.Files.{IsInternal}
 use Rattle.gx_values.proofs.OrderLemmas.{value_cmp_same}
 -- those who ask states about their links find them here
@@ -60,13 +60,13 @@ pub file_is : (schema : Schema) (built : Built) (maps : List LeafMap) (s : State
 file_is schema built maps s i are lt = record { fit = are.valid.files i lt; held = are.files i lt }
 
 -- a record that is there fits
-pub there_fits : (file : FileDef) (f : File) (k : Value) (vs : List Value) → IsFileOf file f
+pub there_fits : (file : FileDef) (f : File) (k : Value) (vs : List Value) → HasRowsOf file f
     → fin.get f k ≡ Some vs → IsRowOf file (k, vs)
 there_fits file f k vs fit e = all_in (IsRowOf file) (fin.entries f) (k, vs) fit
     (find_in value_cmp_same k vs (fin.entries f) (sym (fin.get-entries f k) ∙ e))
 
 -- a key that is there fits
-pub key_fits : (file : FileDef) (f : File) (k : Value) → IsFileOf file f
+pub key_fits : (file : FileDef) (f : File) (k : Value) → HasRowsOf file f
     → IsTrue (is_some (fin.get f k)) → Fits (key_kind file) k
 key_fits file f k fit there = let found = some_there (fin.get f k) there in
     (there_fits file f k found.0 fit found.1).0

@@ -31,7 +31,7 @@ use Rattle.gx_links.specs.Links.{members_of, distinct}
 use Rattle.gx_links.specs.Rows.{node_rows}
 use Rattle.gx_linksets.specs.Stored.{IsStorableLink, rows_of, IsHeldAt}
 use Rattle.gx_model.specs.States.{Link, State, IsRowOf, IsLinkOf, file_in, link_in, is_same, most_members, empty_state}
-use Rattle.gx_scan.specs.Files.{rec_of, records_of, IsInternal}
+use Rattle.gx_scan.specs.Files.{rec_of, file_records, IsInternal}
 use Rattle.gx_scan.proofs.StorableLemmas.{file_stored, file_named}
 use Rattle.gx_states.specs.Internal.{AreInternal, AreStorable, AreFor}
 use Rattle.gx_states.proofs.LinkLemmas.{kids_of_none}
@@ -113,7 +113,7 @@ empty_at (suc count) zero = refl
 empty_at (suc count) (suc n) = empty_at count n
 
 -- what the records of a file without entries are
-no_records : records_of fin.empty ≡ []
+no_records : file_records fin.empty ≡ []
 no_records = ap (map rec_of) (no_entries value_cmp (List Value))
 
 empty_internal : (file : FileDef) (t : Tree AnyMapping) (count : ℕ) → IsValid any_rule t

@@ -19,14 +19,14 @@ use Rattle.gx_typing.specs.Dues.{file_form}
 use Rattle.gx_types.specs.declared.built.Built.{Built}
 use Rattle.gx_types.specs.Nodes.{tree_at}
 use Rattle.gx_model.specs.States.{File, State, file_in, link_in}
-use Rattle.gx_scan.specs.Files.{rec_of, records_of, IsInternal}
+use Rattle.gx_scan.specs.Files.{rec_of, file_records, IsInternal}
 use Rattle.gx_scan.proofs.FileLemmas.{in_there, there_in, one_key, set_of}
 use Rattle.gx_states.specs.Internal.{AreInternal, AreFor}
 use Rattle.gx_states.proofs.LinkLemmas.{file_is, link_fits, linkset_laws_at}
 
 -- what one file has at a key the other has
 got : (f g : File) (k : Value) (vs : List Value)
-    → ((r : Rec) → In r (records_of f) → In r (records_of g)) → fin.get f k ≡ Some vs
+    → ((r : Rec) → In r (file_records f) → In r (file_records g)) → fin.get f k ≡ Some vs
     → fin.get g k ≡ Some vs
 got f g k vs to e =
     let there = in_there g (rec_of (k, vs)) (to (rec_of (k, vs)) (there_in f k vs e)) in
@@ -34,8 +34,8 @@ got f g k vs to e =
     let values : vs ≡ there.values = ap (λ (r : Rec). r.fields) there.is in
     ap (fin.get g) key ∙ there.found ∙ ap Some (sym values)
 
-same_get : (f g : File) (k : Value) → ((r : Rec) → In r (records_of f) → In r (records_of g))
-    → ((r : Rec) → In r (records_of g) → In r (records_of f)) → fin.get f k ≡ fin.get g k
+same_get : (f g : File) (k : Value) → ((r : Rec) → In r (file_records f) → In r (file_records g))
+    → ((r : Rec) → In r (file_records g) → In r (file_records f)) → fin.get f k ≡ fin.get g k
 same_get f g k to from = go (fin.get f k) (fin.get g k) refl refl
   where
     go : (o p : Option (List Value)) → fin.get f k ≡ o → fin.get g k ≡ p → fin.get f k ≡ fin.get g k
@@ -47,12 +47,13 @@ same_file : (file : FileDef) (t : Tree AnyMapping) (maps : List LeafMap) (f g : 
     → 0 < length file.fields → IsValid any_rule t → tree_form any_rule t ≡ file_form file
     → IsInternal file t maps f → IsInternal file t maps g → f ≡ g
 same_file file t maps f g keyed valid form is_f is_g =
-    let set : (h : File) → IsInternal file t maps h → IsSet (tree_form any_rule t) (records_of h) =
-    λ h is. subst (λ x. IsSet x (records_of h)) (sym form) (set_of file h keyed is.fit) in
+    let set : (h : File) → IsInternal file t maps h
+    → IsSet (tree_form any_rule t) (file_records h) =
+    λ h is. subst (λ x. IsSet x (file_records h)) (sym form) (set_of file h keyed is.fit) in
     fin.same_map value_cmp_total value_cmp_same f g (λ k. same_get f g k
-    (internal_told any_rule any_laws maps t (records_of f) (records_of g) valid (set f is_f)
+    (internal_told any_rule any_laws maps t (file_records f) (file_records g) valid (set f is_f)
     (set g is_g) is_f.held is_g.held)
-    (internal_told any_rule any_laws maps t (records_of g) (records_of f) valid (set g is_g)
+    (internal_told any_rule any_laws maps t (file_records g) (file_records f) valid (set g is_g)
     (set f is_f) is_g.held is_f.held))
 
 pub state_told : (schema : Schema) (built : Built) (leaves : ℕ) (maps : List LeafMap) (s t : State)

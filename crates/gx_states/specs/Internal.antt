@@ -20,7 +20,7 @@ use Rattle.gx_links.specs.Links.{Link, members_of, owners_of}
 use Rattle.gx_links.specs.Rows.{owner_entries}
 use Rattle.gx_linksets.specs.Stored.{IsStorableLink, rows_of, IsHeldAt}
 use Rattle.gx_model.specs.States.{File, State, file_in, link_in, IsValid}
-use Rattle.gx_scan.specs.Files.{records_of, IsStorable}
+use Rattle.gx_scan.specs.Files.{file_records, IsStorable}
 use Rattle.gx_scan.specs.Where.{AreNamed}
 use Rattle.gx_ports.specs.declared.kinds.TheConstants.{MAX_LEAVES}
 
@@ -29,7 +29,7 @@ pub record AreInternal (schema : Schema) (built : Built) (maps : List LeafMap)
     (s : State) : Type 0 where
   pub valid : IsValid schema s
   pub files : (i : ℕ) → i < length schema.files
-      → IsHeld any_rule (tree_at built.files i) (records_of (file_in s i)) maps
+      → IsHeld any_rule (tree_at built.files i) (file_records (file_in s i)) maps
   pub links : (i : ℕ) → i < length schema.links → IsHeldAt built.links i (link_in s i) maps
 
 -- the leaves stand for some state
@@ -59,7 +59,7 @@ abbrev pub entries_from : List (Node AnyMapping) → List File → ℕ
 entries_from [] fs = 0
 entries_from (n ∷ ns) [] = 0
 entries_from (n ∷ ns) (f ∷ fs) =
-    entry_total any_rule (tree_of n) (records_of f) + entries_from ns fs
+    entry_total any_rule (tree_of n) (file_records f) + entries_from ns fs
 
 -- how many come from one owner of a link, with its members
 abbrev pub owner_count : LinkTree → Link → Value → ℕ

@@ -23,7 +23,8 @@ pub alike_itself : (blocks : List (List ℕ)) → ReadAlike blocks blocks
 alike_itself blocks = record { count = refl; head = refl; pages = refl }
 
 pub alike_same : (old new : List (List ℕ)) → new ≡ old → ReadAlike old new
-alike_same old new same = subst (λ (bs : List (List ℕ)). ReadAlike old bs) (sym same) (alike_itself old)
+alike_same old new same =
+    subst (λ (bs : List (List ℕ)). ReadAlike old bs) (sym same) (alike_itself old)
 
 pub alike_then : (old mid new : List (List ℕ)) → ReadAlike old mid → new ≡ mid → ReadAlike old new
 alike_then old mid new is same = subst (λ (bs : List (List ℕ)). ReadAlike old bs) (sym same) is
@@ -32,42 +33,54 @@ pub alike_back : (old new : List (List ℕ)) → ReadAlike old new → ReadAlike
 alike_back old new is = record { count = sym is.count; head = sym is.head; pages = sym is.pages }
 
 -- what opens one opens the other, with the same maps
-pub reopens_alike : (schema equation : List ℕ) (specs : List LeafSpec) (maps : List LeafMap) (old new : List (List ℕ)) → ReadAlike old new
+pub reopens_alike : (schema equation : List ℕ) (specs : List LeafSpec) (maps : List LeafMap)
+    (old new : List (List ℕ)) → ReadAlike old new
     → Reopens schema equation specs maps old → Reopens schema equation specs maps new
 reopens_alike schema equation specs maps old new same is = record {
   size = subst (λ (n : ℕ). IsSize specs n) (sym same.count) is.size;
   magic = subst (λ (h : List (List ℕ)). HasMagic (get_or h 0 [])) (sym same.head) is.magic;
   texts = subst (λ (h : List (List ℕ)). AreTexts schema equation h) (sym same.head) is.texts;
-  leaves = maps_moved (ground_on old) (ground_on new) (ap pages_of (sym same.count)) refl specs maps (sheets_of (replayed_pages new))
-      (subst (λ (ps : List (List ℕ)). AreMaps (ground_on old) specs maps (sheets_of ps)) (sym same.pages) is.leaves);
+  leaves = maps_moved (ground_on old) (ground_on new) (ap pages_of (sym same.count)) refl specs maps
+      (sheets_of (replayed_pages new))
+      (subst (λ (ps : List (List ℕ)). AreMaps (ground_on old) specs maps (sheets_of ps))
+      (sym same.pages) is.leaves);
 }
 
 -- recovered blocks read as those that were there
-pub recovered_alike : (tells : Bool) (P : ℕ) (old new : Content) → IsTrue tells → length new.now.blocks ≡ length old.now.blocks
+pub recovered_alike : (tells : Bool) (P : ℕ) (old new : Content) → IsTrue tells
+    → length new.now.blocks ≡ length old.now.blocks
     → 7 ≤ length old.now.blocks
-    → head_told tells new ≡ head_of old.now.blocks → P ≡ pages_of (length new.now.blocks) → is_open (block_of new.now 1) ≡ false
-    → homes_told tells P new ≡ replayed_pages old.now.blocks → ReadAlike old.now.blocks new.now.blocks
+    → head_told tells new ≡ head_of old.now.blocks → P ≡ pages_of (length new.now.blocks)
+    → is_open (block_of new.now 1) ≡ false
+    → homes_told tells P new ≡ replayed_pages old.now.blocks
+    → ReadAlike old.now.blocks new.now.blocks
 recovered_alike tells P old new told count room head many gate kept = record {
   count = count;
   head = sym (ap (λ (b : Bool). head_told b new) told) ∙ head;
-  pages = sym (home_replayed new.now.blocks (omega (arith, count, room)) gate) ∙ sym (homes_are tells P new told many) ∙ kept;
+  pages = sym (home_replayed new.now.blocks (omega (arith, count, room)) gate)
+      ∙ sym (homes_are tells P new told many) ∙ kept;
 }
 
 -- no block is written where there is no journal, unless a call failed
-pub unwritten_by : (why : NoJournal) (old new : List (List ℕ)) → (why ≡ journal.NoDatabase → new ≡ old)
+pub unwritten_by : (why : NoJournal) (old new : List (List ℕ))
+    → (why ≡ journal.NoDatabase → new ≡ old)
     → (why ≡ journal.NoMemory → new ≡ old)
     → not (is_fault (no_journal why)) ≡ true → new ≡ old
 unwritten_by journal.Fault old new none memory goes = absurd (let f : false ≡ true = goes in cc)
 unwritten_by journal.NoMemory old new none memory goes = memory refl
 unwritten_by journal.NoDatabase old new none memory goes = none refl
 
-pub refused_alike : (why : NoJournal) (old new : List (List ℕ)) → (why ≡ journal.NoDatabase → new ≡ old)
+pub refused_alike : (why : NoJournal) (old new : List (List ℕ))
+    → (why ≡ journal.NoDatabase → new ≡ old)
     → (why ≡ journal.NoMemory → new ≡ old)
     → not (is_fault (no_journal why)) ≡ true → ReadAlike old new
-refused_alike why old new none memory goes = alike_same old new (unwritten_by why old new none memory goes)
+refused_alike why old new none memory goes =
+    alike_same old new (unwritten_by why old new none memory goes)
 
-pub headed : {T E : Type 0} (r : Result T E) (H : T → Head) (schema equation : List ℕ) (specs : List LeafSpec) (blocks : List (List ℕ))
-    → OnOk r (AreOpened schema equation specs blocks) → IfOk r (λ s. (H s).blocks ≡ head_of blocks) → IfOk r (λ s. (H s).leaves ≡ specs)
+pub headed : {T E : Type 0} (r : Result T E) (H : T → Head) (schema equation : List ℕ)
+    (specs : List LeafSpec) (blocks : List (List ℕ))
+    → OnOk r (AreOpened schema equation specs blocks) → IfOk r (λ s. (H s).blocks ≡ head_of blocks)
+    → IfOk r (λ s. (H s).leaves ≡ specs)
     → IfOk r (λ s. IsHeadOf schema equation specs (H s))
 headed (Ok s) H schema equation specs blocks opened head leaves = record {
   magic = subst (λ (h : List (List ℕ)). HasMagic (get_or h 0 [])) (sym head) opened.magic;
@@ -84,8 +97,11 @@ pub recovery_of : (size : ℕ) (old new : Content) → size ≡ length old.now.b
     → IsRecoveryOf old.now.blocks new.now.blocks
 recovery_of size old new same o = record {
   count = o.count;
-  others = λ n not. o.blocks n (λ is. not (subst (λ (k : ℕ). IsOfRecovery (pages_of k) old.now.blocks n) same is));
+  others = λ n not. o.blocks n
+      (λ is. not (subst (λ (k : ℕ). IsOfRecovery (pages_of k) old.now.blocks n) same is));
 }
 
-pub recovery_then : (old mid new : List (List ℕ)) → IsRecoveryOf old mid → new ≡ mid → IsRecoveryOf old new
-recovery_then old mid new is same = subst (λ (bs : List (List ℕ)). IsRecoveryOf old bs) (sym same) is
+pub recovery_then : (old mid new : List (List ℕ)) → IsRecoveryOf old mid → new ≡ mid
+    → IsRecoveryOf old new
+recovery_then old mid new is same =
+    subst (λ (bs : List (List ℕ)). IsRecoveryOf old bs) (sym same) is

@@ -10,21 +10,26 @@ use Rattle.gx_store.specs.Causes.{not_attached}
 use Rattle.gx_store.specs.Store.{is_fault}
 use Rattle.gx_store.proofs.ShelfLemmas.{attached_at}
 
-pub if_err_with : {T E : Type 0} (r : Result T E) (P Q : E → Type 0) → ((y : E) → r ≡ Err y → P y → Q y) → IfErr r P → IfErr r Q
+pub if_err_with : {T E : Type 0} (r : Result T E) (P Q : E → Type 0)
+    → ((y : E) → r ≡ Err y → P y → Q y) → IfErr r P → IfErr r Q
 if_err_with (Ok x) P Q f p = tt
 if_err_with (Err e) P Q f p = f e refl p
 
-pub if_ok_with : {T E : Type 0} (r : Result T E) (Q : T → Type 0) → ((y : T) → r ≡ Ok y → Q y) → IfOk r Q
+pub if_ok_with : {T E : Type 0} (r : Result T E) (Q : T → Type 0) → ((y : T) → r ≡ Ok y → Q y)
+    → IfOk r Q
 if_ok_with (Ok x) Q f = f x refl
 if_ok_with (Err e) Q f = tt
 
 -- the blocks of the device are those that are attached
-pub attached_blocks : (name : List ℕ) (blocks : List (List ℕ)) (old new : Content) → device_at old.now name ≡ Some blocks
+pub attached_blocks : (name : List ℕ) (blocks : List (List ℕ)) (old new : Content)
+    → device_at old.now name ≡ Some blocks
     → IsOpened name old new → blocks ≡ new.now.blocks
-attached_blocks name blocks old new was o = same_Some blocks o.blocks (sym was ∙ o.was) ∙ sym o.attached.blocks_are
+attached_blocks name blocks old new was o = same_Some blocks o.blocks (sym was ∙ o.was)
+    ∙ sym o.attached.blocks_are
 
 -- a device whose blocks were left is as it was
-pub left_alone : (name : List ℕ) (old mid last : Content) → old.now.shelf.name ≡ None → IsOpened name old mid → Silent mid last
+pub left_alone : (name : List ℕ) (old mid last : Content) → old.now.shelf.name ≡ None
+    → IsOpened name old mid → Silent mid last
     → last.now.blocks ≡ mid.now.blocks
     → device_at last.now name ≡ device_at old.now name
 left_alone name old mid last free o silent same =
@@ -32,7 +37,8 @@ left_alone name old mid last free o silent same =
     ∙ ap (λ (bs : List (List ℕ)). Some bs) (same ∙ o.attached.blocks_are)
     ∙ sym o.was
 
-pub counted_refusal : (stop : AttachStop) (a b : ℕ) → a ≤ b → (stop ≡ attach.Fault → Rose a b) → ((stop ≡ attach.Fault → ⊥) → b ≡ a)
+pub counted_refusal : (stop : AttachStop) (a b : ℕ) → a ≤ b → (stop ≡ attach.Fault → Rose a b)
+    → ((stop ≡ attach.Fault → ⊥) → b ≡ a)
     → Counted (not (is_fault (not_attached stop))) a b
 counted_refusal attach.Fault a b later rose same =
     record { later = later; rose = λ e. rose refl; same = λ e. absurd (let f : false ≡ true = e in cc) }

@@ -32,13 +32,15 @@ counted_still a b same = record {
 }
 
 module _ (schema equation : List ℕ) (specs : List LeafSpec) (blocks : List (List ℕ)) where
-  pub unread_on : (head : List (List ℕ)) (why : Unopened) → IsSize specs (length blocks) → HasMagic (get_or blocks 0 [])
+  pub unread_on : (head : List (List ℕ)) (why : Unopened) → IsSize specs (length blocks)
+      → HasMagic (get_or blocks 0 [])
       → head ≡ head_of blocks
       → AreUnread schema equation head why → AreUnopened schema equation specs blocks why
   unread_on head (unopened.OtherTexts place) size magic same differ = (
     size,
     magic,
-    subst (λ (h : List (List ℕ)). DifferFirst (text_at h) (λ q. slice_index_or (text_area schema equation) q 0)
+    subst (λ (h : List (List ℕ)). DifferFirst (text_at h)
+        (λ q. slice_index_or (text_area schema equation) q 0)
         (Some place)) same differ,
   )
   unread_on head unopened.Fault size magic same none = tt
@@ -48,13 +50,15 @@ module _ (schema equation : List ℕ) (specs : List LeafSpec) (blocks : List (Li
   unread_on head unopened.Size size magic same none = absurd none
   unread_on head unopened.NoDatabase size magic same none = absurd none
 
-  pub unrecovered : (why : NoJournal) → IsSize specs (length blocks) → (why ≡ journal.NoDatabase → ¬ HasMagic (get_or blocks 0 []))
+  pub unrecovered : (why : NoJournal) → IsSize specs (length blocks)
+      → (why ≡ journal.NoDatabase → ¬ HasMagic (get_or blocks 0 []))
       → AreUnopened schema equation specs blocks (no_journal why)
   unrecovered journal.Fault size none = tt
   unrecovered journal.NoMemory size none = tt
   unrecovered journal.NoDatabase size none = (size, none refl)
 
-  pub unopened_on : (name : List ℕ) (before : Content) (why : Unopened) → device_at before.now name ≡ Some blocks
+  pub unopened_on : (name : List ℕ) (before : Content) (why : Unopened)
+      → device_at before.now name ≡ Some blocks
       → AreUnopened schema equation specs blocks why
       → IsUnopened name schema equation specs before why
   unopened_on name before unopened.Missing was are = absurd are
@@ -65,7 +69,8 @@ module _ (schema equation : List ℕ) (specs : List LeafSpec) (blocks : List (Li
   unopened_on name before unopened.NoDatabase was are = (blocks, was, are)
   unopened_on name before (unopened.OtherTexts place) was are = (blocks, was, are)
 
-pub unread_touched : (schema equation : List ℕ) (head : List (List ℕ)) (why : Unopened) → AreUnread schema equation head why
+pub unread_touched : (schema equation : List ℕ) (head : List (List ℕ)) (why : Unopened)
+    → AreUnread schema equation head why
     → is_untouched why ≡ true → ⊥
 unread_touched schema equation head (unopened.OtherTexts place) is e = cc
 unread_touched schema equation head unopened.Fault is e = cc
@@ -75,12 +80,14 @@ unread_touched schema equation head unopened.Exists is e = is
 unread_touched schema equation head unopened.Size is e = is
 unread_touched schema equation head unopened.NoDatabase is e = is
 
-pub untouched_by : (why : NoJournal) → is_untouched (no_journal why) ≡ true → why ≡ journal.NoDatabase
+pub untouched_by : (why : NoJournal) → is_untouched (no_journal why) ≡ true
+    → why ≡ journal.NoDatabase
 untouched_by journal.Fault e = absurd (let f : false ≡ true = e in cc)
 untouched_by journal.NoMemory e = absurd (let f : false ≡ true = e in cc)
 untouched_by journal.NoDatabase e = refl
 
-pub refused_by : (stop : AttachStop) (name schema equation : List ℕ) (specs : List LeafSpec) (before : Content)
+pub refused_by : (stop : AttachStop) (name schema equation : List ℕ) (specs : List LeafSpec)
+    (before : Content)
     → (stop ≡ attach.Missing → device_at before.now name ≡ None) → (stop ≡ attach.Exists → ⊥)
     → IsUnopened name schema equation specs before (not_attached stop)
 refused_by attach.Missing name schema equation specs before absent exists = absent refl
@@ -89,6 +96,8 @@ refused_by attach.Fault name schema equation specs before absent exists = tt
 refused_by attach.NoMemory name schema equation specs before absent exists = tt
 
 -- the size that was asked for is that of the blocks
-pub sized_by : (specs : List LeafSpec) (long size asked : ℕ) (r : Bool) → size ≡ long → asked ≡ size → (IsTrue r ↔ IsSize specs asked)
+pub sized_by : (specs : List LeafSpec) (long size asked : ℕ) (r : Bool) → size ≡ long → asked ≡ size
+    → (IsTrue r ↔ IsSize specs asked)
     → r ≡ true → IsSize specs long
-sized_by specs long size asked r sized is test so = subst (λ (n : ℕ). IsSize specs n) (is ∙ sized) (test.0 so)
+sized_by specs long size asked r sized is test so =
+    subst (λ (n : ℕ). IsSize specs n) (is ∙ sized) (test.0 so)

@@ -29,7 +29,8 @@ module _ (a b : Ground) (size : a.size ≡ b.size) (tables : a.tables ≡ b.tabl
     below = subst (λ (n : ℕ). page < n) (sym size) p.below;
   }
 
-  chain_there : (owner : ℕ) (sheets : Sheets) (first : ℕ) (pages : List ℕ) → IsChain a owner sheets first pages
+  chain_there : (owner : ℕ) (sheets : Sheets) (first : ℕ) (pages : List ℕ)
+      → IsChain a owner sheets first pages
       → IsChain b owner sheets first pages
   chain_there owner sheets first pages chain = record {
     linked = chain.linked;
@@ -42,7 +43,8 @@ module _ (a b : Ground) (size : a.size ≡ b.size) (tables : a.tables ≡ b.tabl
     };
   }
 
-  heap_there : (place : Place) (sheets : Sheets) (m : LeafMap) → IsHeap a place sheets m → IsHeap b place sheets m
+  heap_there : (place : Place) (sheets : Sheets) (m : LeafMap) → IsHeap a place sheets m
+      → IsHeap b place sheets m
   heap_there place sheets m h = record {
     pages = h.pages;
     chain = chain_there place.owner sheets place.root h.pages h.chain;
@@ -50,7 +52,8 @@ module _ (a b : Ground) (size : a.size ≡ b.size) (tables : a.tables ≡ b.tabl
     map_is = h.map_is;
   }
 
-  bplus_there : (place : Place) (sheets : Sheets) (m : LeafMap) → IsBplus a place sheets m → IsBplus b place sheets m
+  bplus_there : (place : Place) (sheets : Sheets) (m : LeafMap) → IsBplus a place sheets m
+      → IsBplus b place sheets m
   bplus_there place sheets m h = record {
     tree = h.tree;
     whole = h.whole;
@@ -59,23 +62,27 @@ module _ (a b : Ground) (size : a.size ≡ b.size) (tables : a.tables ≡ b.tabl
     map_is = h.map_is;
   }
 
-  hash_there : (place : Place) (sheets : Sheets) (m : LeafMap) → IsHash a place sheets m → IsHash b place sheets m
+  hash_there : (place : Place) (sheets : Sheets) (m : LeafMap) → IsHash a place sheets m
+      → IsHash b place sheets m
   hash_there place sheets m h = record {
     pages = h.pages;
-    chains = λ bucket below. chain_there place.owner sheets _ (h.pages bucket) (h.chains bucket below);
+    chains = λ bucket below. chain_there place.owner sheets _ (h.pages bucket)
+        (h.chains bucket below);
     once = h.once;
     owned = h.owned;
     placed = h.placed;
     map_is = h.map_is;
   }
 
-  isam_there : (place : Place) (sheets : Sheets) (m : LeafMap) → IsIsam a place sheets m → IsIsam b place sheets m
+  isam_there : (place : Place) (sheets : Sheets) (m : LeafMap) → IsIsam a place sheets m
+      → IsIsam b place sheets m
   isam_there place sheets m h = record {
     index = h.index;
     root = h.root;
     pages = h.pages;
     buckets = record {
-      chains = λ bucket below. chain_there place.owner sheets _ (h.pages bucket) (h.buckets.chains bucket below);
+      chains = λ bucket below. chain_there place.owner sheets _ (h.pages bucket)
+          (h.buckets.chains bucket below);
       filled = h.buckets.filled;
       placed = h.buckets.placed;
     };
@@ -83,41 +90,49 @@ module _ (a b : Ground) (size : a.size ≡ b.size) (tables : a.tables ≡ b.tabl
     map_is = h.map_is;
   }
 
-  file_there : (kind : LeafKind) (place : Place) (sheets : Sheets) (m : LeafMap) → IsFileOf kind a place sheets m
+  file_there : (kind : LeafKind) (place : Place) (sheets : Sheets) (m : LeafMap)
+      → IsFileOf kind a place sheets m
       → IsFileOf kind b place sheets m
   file_there kinds.Heap place sheets m h = heap_there place sheets m h
   file_there (kinds.Hash buckets) place sheets m h = hash_there place sheets m h
   file_there kinds.Isam place sheets m h = isam_there place sheets m h
   file_there kinds.Bplus place sheets m h = bplus_there place sheets m h
 
-  map_there : (kind : LeafKind) (place : Place) (sheets : Sheets) → map_of kind a place sheets ≡ map_of kind b place sheets
+  map_there : (kind : LeafKind) (place : Place) (sheets : Sheets)
+      → map_of kind a place sheets ≡ map_of kind b place sheets
   map_there kinds.Heap place sheets = refl
   map_there (kinds.Hash buckets) place sheets = refl
   map_there kinds.Isam place sheets = refl
   map_there kinds.Bplus place sheets = refl
 
-  maps_there : (places : List Place) (sheets : Sheets) → maps_of a places sheets ≡ maps_of b places sheets
+  maps_there : (places : List Place) (sheets : Sheets)
+      → maps_of a places sheets ≡ maps_of b places sheets
   maps_there [] sheets = refl
   maps_there (place ∷ places) sheets =
       let here = map_there place.spec.kind place sheets in
       let rest = maps_there places sheets in
       λ i. here i ∷ rest i
 
-  laid_there : (places : List Place) (sheets : Sheets) → AreLaid a places sheets → AreLaid b places sheets
+  laid_there : (places : List Place) (sheets : Sheets) → AreLaid a places sheets
+      → AreLaid b places sheets
   laid_there places sheets l = record {
     table = record {
       own = λ page below. l.table.own page (subst (λ (n : ℕ). page < n) (sym tables) below);
       owned = λ page owner past. l.table.owned page owner (past_back page past);
     };
-    each = λ leaf place at. (let h = l.each leaf place at in (h.0, file_there place.spec.kind place sheets h.0 h.1));
+    each = λ leaf place at. (let h = l.each leaf place at in
+        (h.0, file_there place.spec.kind place sheets h.0 h.1));
   }
 
-  pub maps_moved : (specs : List LeafSpec) (maps : List LeafMap) (sheets : Sheets) → AreMaps a specs maps sheets
+  pub maps_moved : (specs : List LeafSpec) (maps : List LeafMap) (sheets : Sheets)
+      → AreMaps a specs maps sheets
       → AreMaps b specs maps sheets
   maps_moved specs maps sheets is =
-      let same : places_of a specs ≡ places_of b specs = ap (λ (n : ℕ). places_from n 1 specs) tables in
+      let same : places_of a specs ≡ places_of b specs =
+      ap (λ (n : ℕ). places_from n 1 specs) tables in
       record {
-        laid = subst (λ (ps : List Place). AreLaid b ps sheets) same (laid_there (places_of a specs) sheets is.laid);
+        laid = subst (λ (ps : List Place). AreLaid b ps sheets) same
+            (laid_there (places_of a specs) sheets is.laid);
         maps_are = ap (λ (ps : List Place). maps_of b ps sheets) (sym same)
             ∙ sym (maps_there (places_of a specs) sheets)
             ∙ is.maps_are;

@@ -22,33 +22,43 @@ use Rattle.gx_store.proofs.GroundLemmas.{maps_moved}
 use Rattle.gx_store.proofs.SettledLemmas.{texts_read, closed_settled}
 
 module _ {M : Type 0} {g : device.Ghosts M} where
-  pub journal_settled : (j : Journal M g) → IsTrue g.tells → g.size j.device ≡ length (content_of j).now.blocks → IsSteady j
-      → (schema equation : List ℕ) (specs : List LeafSpec) (maps : List LeafMap) → HasMagic (get_or (head_blocks j) 0 [])
+  pub journal_settled : (j : Journal M g) → IsTrue g.tells
+      → g.size j.device ≡ length (content_of j).now.blocks → IsSteady j
+      → (schema equation : List ℕ) (specs : List LeafSpec) (maps : List LeafMap)
+      → HasMagic (get_or (head_blocks j) 0 [])
       → AreTexts schema equation (head_blocks j)
       → 16 + root_pages specs ≤ size_of j → AreMaps (ground_of j) specs maps (kept_sheets j)
       → IsSettled schema equation specs maps (content_of j).now.blocks
   journal_settled j told sized steady schema equation specs maps magic texts room are =
-      closed_settled schema equation specs maps g.tells (size_of j) (content_of j) told (j.count ∙ ap pages_of sized) (j.closed told steady)
+      closed_settled schema equation specs maps g.tells (size_of j) (content_of j) told
+      (j.count ∙ ap pages_of sized) (j.closed told steady)
       (omega (arith, j.limit, sized)) room magic texts (ground_of j) refl refl are
 
   -- the same after the magic was written over another one
-  pub sealed_settled : (old new : Journal M g) → IsTrue g.tells → g.size new.device ≡ length (content_of new).now.blocks → IsSteady new
-      → size_of new ≡ size_of old → kept_of new ≡ kept_of old → drop 1 (head_blocks new) ≡ drop 1 (head_blocks old)
-      → HasMagic (block_of (content_of new).now 0) → Publishes old (kept_of old) (content_of new).now.blocks
-  sealed_settled old new told sized steady size kept texts magic = λ schema equation specs maps same room are.
+  pub sealed_settled : (old new : Journal M g) → IsTrue g.tells
+      → g.size new.device ≡ length (content_of new).now.blocks → IsSteady new
+      → size_of new ≡ size_of old → kept_of new ≡ kept_of old
+      → drop 1 (head_blocks new) ≡ drop 1 (head_blocks old)
+      → HasMagic (block_of (content_of new).now 0)
+      → Publishes old (kept_of old) (content_of new).now.blocks
+  sealed_settled old new told sized steady size kept texts magic =
+      λ schema equation specs maps same room are.
       let c = content_of new in
       let head : head_blocks new ≡ head_of c.now.blocks = ap (λ (b : Bool). head_told b c) told in
       let fits = room.room in
       journal_settled new told sized steady schema equation specs maps
       (subst (λ (h : List (List ℕ)). HasMagic (get_or h 0 [])) (sym head) magic)
       (subst (λ (h : List (List ℕ)). AreTexts schema equation h) (sym head)
-      (texts_read c schema equation (ap (λ (h : List (List ℕ)). drop 1 h) (sym head) ∙ texts ∙ same)))
+      (texts_read c schema equation (ap (λ (h : List (List ℕ)). drop 1 h) (sym head) ∙ texts
+      ∙ same)))
       (omega (arith, fits, size))
       (subst (λ (ps : List (List ℕ)). AreMaps (ground_of new) specs maps (sheets_of ps)) (sym kept)
-      (maps_moved (ground_of old) (ground_of new) (sym size) refl specs maps (sheets_of (kept_of old)) are))
+      (maps_moved (ground_of old) (ground_of new) (sym size) refl specs maps
+      (sheets_of (kept_of old)) are))
 
   -- the same after a commit
-  pub published : (old new : Journal M g) (blocks : List (List ℕ)) → head_blocks new ≡ head_blocks old → size_of new ≡ size_of old
+  pub published : (old new : Journal M g) (blocks : List (List ℕ))
+      → head_blocks new ≡ head_blocks old → size_of new ≡ size_of old
       → kept_of new ≡ working_of old
       → Publishes new (kept_of new) blocks → Publishes old (working_of old) blocks
   published old new blocks head size kept is = λ schema equation specs maps same room are.
@@ -56,10 +66,12 @@ module _ {M : Type 0} {g : device.Ghosts M} where
       is schema equation specs maps (ap (λ (h : List (List ℕ)). drop 1 h) head ∙ same)
       (record { few = room.few; room = omega (arith, fits, size); built = room.built })
       (subst (λ (ps : List (List ℕ)). AreMaps (ground_of new) specs maps (sheets_of ps)) (sym kept)
-      (maps_moved (ground_of old) (ground_of new) (sym size) refl specs maps (sheets_of (working_of old)) are))
+      (maps_moved (ground_of old) (ground_of new) (sym size) refl specs maps
+      (sheets_of (working_of old)) are))
 
   -- the same over the same ground
-  pub grounded : (old new : Journal M g) (pages blocks : List (List ℕ)) → ground_of new ≡ ground_of old → Publishes new pages blocks
+  pub grounded : (old new : Journal M g) (pages blocks : List (List ℕ))
+      → ground_of new ≡ ground_of old → Publishes new pages blocks
       → Publishes old pages blocks
   grounded old new pages blocks same is = λ schema equation specs maps texts room are.
       is schema equation specs maps (ap (λ (b : Ground). drop 1 b.head) same ∙ texts)
@@ -67,7 +79,8 @@ module _ {M : Type 0} {g : device.Ghosts M} where
       (subst (λ (b : Ground). AreMaps b specs maps (sheets_of pages)) (sym same) are)
 
 -- leaves that are whole at their places
-pub maps_placed : (base : Ground) (places : List Place) (sheets : Sheets) → places ≡ places_of base (specs_of places)
+pub maps_placed : (base : Ground) (places : List Place) (sheets : Sheets)
+    → places ≡ places_of base (specs_of places)
     → AreLaid base places sheets
     → AreMaps base (specs_of places) (maps_of base places sheets) sheets
 maps_placed base places sheets same laid = record {

@@ -15,10 +15,12 @@ use Rattle.gx_store.specs.declared.unopened.Unopened.TheVariants as unopened
 
 module _ {M : Type 0} {g : device.Ghosts M} {v : page_view.Ghosts (Paged M g)} where
   pub left_is : (r : Result (PagedLeaves (Paged M g) v) (M × Unopened)) (k : Journal M g)
-      → IfOk r (λ s. journal_of (pages_of s) ≡ k) → IfErr r (λ e. e.0 ≡ device_of k) → machine_left r ≡ device_of k
+      → IfOk r (λ s. journal_of (pages_of s) ≡ k) → IfErr r (λ e. e.0 ≡ device_of k)
+      → machine_left r ≡ device_of k
   left_is (Ok s) k is back = ap (λ (j : Journal M g). device_of j) is
   left_is (Err e) k is back = back
 
-  pub goes_on_is : (r : Result (PagedLeaves (Paged M g) v) (M × Unopened)) → IfErr r (λ e. e.1 ≡ unopened.NoMemory) → goes_on r ≡ true
+  pub goes_on_is : (r : Result (PagedLeaves (Paged M g) v) (M × Unopened))
+      → IfErr r (λ e. e.1 ≡ unopened.NoMemory) → goes_on r ≡ true
   goes_on_is (Ok s) none = refl
   goes_on_is (Err e) none = ap (λ (w : Unopened). not (is_fault w)) none

@@ -27,7 +27,8 @@ unlaid_by journal.Fault other = tt
 unlaid_by journal.NoMemory other = tt
 unlaid_by journal.NoDatabase other = other refl
 
-pub unlaid_on : (specs : List LeafSpec) (count : ℕ) (why : Unopened) → IsUnlaid why → IsUnmadeOn specs count why
+pub unlaid_on : (specs : List LeafSpec) (count : ℕ) (why : Unopened) → IsUnlaid why
+    → IsUnmadeOn specs count why
 unlaid_on specs count unopened.Fault is = is
 unlaid_on specs count unopened.NoMemory is = is
 unlaid_on specs count unopened.Missing is = is
@@ -36,7 +37,8 @@ unlaid_on specs count unopened.Size is = absurd is
 unlaid_on specs count unopened.NoDatabase is = is
 unlaid_on specs count (unopened.OtherTexts place) is = is
 
-pub unmade_on : (name : List ℕ) (count : ℕ) (specs : List LeafSpec) (before : Content) (why : Unopened) → IsUnmadeOn specs count why
+pub unmade_on : (name : List ℕ) (count : ℕ) (specs : List LeafSpec) (before : Content)
+    (why : Unopened) → IsUnmadeOn specs count why
     → IsUnmade name count specs before why
 unmade_on name count specs before unopened.Fault is = tt
 unmade_on name count specs before unopened.NoMemory is = tt
@@ -46,7 +48,8 @@ unmade_on name count specs before unopened.Exists is = absurd is
 unmade_on name count specs before unopened.NoDatabase is = is
 unmade_on name count specs before (unopened.OtherTexts place) is = is
 
-pub unmade_by : (stop : AttachStop) (name : List ℕ) (count : ℕ) (specs : List LeafSpec) (before : Content) → IsSize specs count
+pub unmade_by : (stop : AttachStop) (name : List ℕ) (count : ℕ) (specs : List LeafSpec)
+    (before : Content) → IsSize specs count
     → (stop ≡ attach.Missing → ⊥) → (stop ≡ attach.Exists → IsSome (device_at before.now name))
     → IsUnmade name count specs before (not_attached stop)
 unmade_by attach.Missing name count specs before size missing present = missing refl
@@ -55,14 +58,17 @@ unmade_by attach.Fault name count specs before size missing present = tt
 unmade_by attach.NoMemory name count specs before size missing present = tt
 
 -- how faults are counted while leaves are made
-pub counted_leaves : (why : Stop) (before now : ℕ) → HasMakeCause before now why → Counted (not (is_fault (not_laid why))) before now
-counted_leaves stop.Fault before now is = record { later = is.0; rose = λ e. is.1; same = λ e. absurd (let f : false ≡ true = e in cc) }
+pub counted_leaves : (why : Stop) (before now : ℕ) → HasMakeCause before now why
+    → Counted (not (is_fault (not_laid why))) before now
+counted_leaves stop.Fault before now is =
+    record { later = is.0; rose = λ e. is.1; same = λ e. absurd (let f : false ≡ true = e in cc) }
 counted_leaves stop.NoMemory before now is = counted_still before now is
 counted_leaves stop.Full before now is = absurd is
 counted_leaves (stop.Damaged block) before now is = absurd is
 
 -- a refusal on the attached device comes after blocks were written, where the size is right
-pub unmade_touched : (specs : List LeafSpec) (count : ℕ) (why : Unopened) → IsSize specs count → IsUnmadeOn specs count why
+pub unmade_touched : (specs : List LeafSpec) (count : ℕ) (why : Unopened) → IsSize specs count
+    → IsUnmadeOn specs count why
     → is_untouched why ≡ true → ⊥
 unmade_touched specs count unopened.Size size are so = are size
 unmade_touched specs count unopened.Fault size are so = let f : false ≡ true = so in cc
@@ -74,7 +80,8 @@ unmade_touched specs count (unopened.OtherTexts place) size are so = are
 
 -- a block that begins with a zero doesn't begin with the magic
 pub zero_first : (block : List ℕ) → get_or block 0 0 ≡ 0 → ¬ HasMagic block
-zero_first block none is = let first : 71 ≡ 0 = sym (ap (λ (bytes : List ℕ). get_or bytes 0 0) is.1) ∙ none in absurd (omega (arith, first))
+zero_first block none is = let first : 71 ≡ 0 = sym (ap (λ (bytes : List ℕ). get_or bytes 0 0) is.1)
+    ∙ none in absurd (omega (arith, first))
 
 -- so no block of a device that was made has it
 pub none_made : (n : ℕ) → ¬ HasMagic (get_or (zero_blocks n) 0 [])

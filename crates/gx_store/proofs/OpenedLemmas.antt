@@ -22,19 +22,23 @@ use Rattle.gx_store.proofs.AlikeLemmas.{recovered_alike}
 use Rattle.gx_store.proofs.SettledLemmas.{home_replayed, homes_are}
 
 module _ {M : Type 0} {g : device.Ghosts M} where
-  module _ {v : page_view.Ghosts (Paged M g)} (old new : PagedLeaves (Paged M g) v) (schema equation : List ℕ) (specs : List LeafSpec)
+  module _ {v : page_view.Ghosts (Paged M g)} (old new : PagedLeaves (Paged M g) v)
+      (schema equation : List ℕ) (specs : List LeafSpec)
       (blocks : List (List ℕ)) where
     -- Leaves that were whole when they were opened, and were only read since, leave blocks that are settled with the same maps. The
     -- last premise is what `close` says of its blocks.
-    pub settled_still : IsHeadOf schema equation specs (head_of old) → IsJustOpened old → IsWhole old → head_of new ≡ head_of old
+    pub settled_still : IsHeadOf schema equation specs (head_of old) → IsJustOpened old
+        → IsWhole old → head_of new ≡ head_of old
         → kept_of new ≡ kept_of old → (WasWhole old → WasWhole new)
         → (IsHeadOf schema equation (specs_of (places_in new)) (head_of new) → WasWhole new
         → IsSettled schema equation (specs_of (places_in new)) (kept_of new) blocks)
         → IsSettled schema equation specs (working_of old) blocks
     settled_still head just whole same kept still closed =
-        let leaves : specs_of (places_in new) ≡ specs = ap (λ (h : Head). h.leaves) same ∙ head.leaves in
+        let leaves : specs_of (places_in new) ≡ specs = ap (λ (h : Head). h.leaves) same
+        ∙ head.leaves in
         subst (λ (ss : List LeafSpec). IsSettled schema equation ss (working_of old) blocks) leaves
-        (subst (λ (ms : List LeafMap). IsSettled schema equation (specs_of (places_in new)) ms blocks) (kept ∙ just.kept_is)
+        (subst (λ (ms : List LeafMap). IsSettled schema equation (specs_of (places_in new)) ms
+        blocks) (kept ∙ just.kept_is)
         (closed (record {
           magic = subst (λ (h : Head). HasMagic (get_or h.blocks 0 [])) (sym same) head.magic;
           texts = subst (λ (h : Head). AreTexts schema equation h.blocks) (sym same) head.texts;
@@ -42,17 +46,21 @@ module _ {M : Type 0} {g : device.Ghosts M} where
         }) (still (just.was_whole whole))))
 
   -- While what is stored stays, and no commit has failed, the same is read from the blocks, whether the leaves are whole or not.
-  pub alike_still : (old new : Journal M g) → IsTrue g.tells → g.size old.device ≡ length (content_of old).now.blocks
+  pub alike_still : (old new : Journal M g) → IsTrue g.tells
+      → g.size old.device ≡ length (content_of old).now.blocks
       → g.size new.device ≡ length (content_of new).now.blocks
-      → IsSteady old → IsSteady new → ground_of new ≡ ground_of old → kept_sheets new ≡ kept_sheets old
+      → IsSteady old → IsSteady new → ground_of new ≡ ground_of old
+      → kept_sheets new ≡ kept_sheets old
       → ReadAlike (content_of old).now.blocks (content_of new).now.blocks
   alike_still old new told before after steady_old steady_new ground sheets =
       let blocks = (content_of old).now.blocks in
       let room = old.room in
       let size = ap (λ (b : Ground). b.blocks) ground in
       let seven : 7 ≤ length blocks = omega (arith, room, before) in
-      recovered_alike g.tells (size_of new) (content_of old) (content_of new) told (sym after ∙ size ∙ before) seven
+      recovered_alike g.tells (size_of new) (content_of old) (content_of new) told (sym after ∙ size
+      ∙ before) seven
       (ap (λ (b : Ground). b.head) ground ∙ ap (λ (b : Bool). head_told b (content_of old)) told)
       (new.count ∙ ap pages_of after) (new.closed told steady_new)
-      (ap (λ (s : Sheets). s.bytes) sheets ∙ homes_are g.tells (size_of old) (content_of old) told (old.count ∙ ap pages_of before)
+      (ap (λ (s : Sheets). s.bytes) sheets
+      ∙ homes_are g.tells (size_of old) (content_of old) told (old.count ∙ ap pages_of before)
       ∙ home_replayed blocks seven (old.closed told steady_old))

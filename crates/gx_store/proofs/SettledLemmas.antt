@@ -20,7 +20,8 @@ use Rattle.gx_layout.specs.declared.formatting.TheConstants.{MAX_BLOCKS}
 use Rattle.gx_store.proofs.GroundLemmas.{maps_moved}
 
 -- the text blocks of a device, byte by byte
-pub texts_read : (c : Content) (schema equation : List ℕ) → drop 1 (head_of c.now.blocks) ≡ text_blocks schema equation
+pub texts_read : (c : Content) (schema equation : List ℕ)
+    → drop 1 (head_of c.now.blocks) ≡ text_blocks schema equation
     → AreTexts schema equation (head_of c.now.blocks)
 texts_read c schema equation is =
     let area = text_area schema equation in
@@ -29,17 +30,20 @@ texts_read c schema equation is =
     let e1 : block_of m 4 ≡ block_in area 1 = ap (λ (l : List (List ℕ)). get_or l 1 []) is in
     let e2 : block_of m 5 ≡ block_in area 2 = ap (λ (l : List (List ℕ)). get_or l 2 []) is in
     let e3 : block_of m 6 ≡ block_in area 3 = ap (λ (l : List (List ℕ)). get_or l 3 []) is in
-    let none : (q : ℕ) → q < 4096 * 0 → text_at (head_of m.blocks) q ≡ get_or area q 0 = λ q low. absurd (omega (arith, low)) in
+    let none : (q : ℕ) → q < 4096 * 0 → text_at (head_of m.blocks) q ≡ get_or area q 0 =
+    λ q low. absurd (omega (arith, low)) in
     let t0 = more_same m area 0 (omega arith) (block_of m 3) (block_in area 0) refl refl none
     (λ k lt. ap (λ (l : List ℕ). get_or l k 0) e0) in
     let t1 = more_same m area 1 (omega arith) (block_of m 4) (block_in area 1) refl refl t0
     (λ k lt. ap (λ (l : List ℕ). get_or l k 0) e1) in
     let t2 = more_same m area 2 (omega arith) (block_of m 5) (block_in area 2) refl refl t1
     (λ k lt. ap (λ (l : List ℕ). get_or l k 0) e2) in
-    more_same m area 3 (omega arith) (block_of m 6) (block_in area 3) refl refl t2 (λ k lt. ap (λ (l : List ℕ). get_or l k 0) e3)
+    more_same m area 3 (omega arith) (block_of m 6) (block_in area 3) refl refl t2
+    (λ k lt. ap (λ (l : List ℕ). get_or l k 0) e3)
 
 -- behind a closed gate the pages are those at home
-pub home_replayed : (blocks : List (List ℕ)) → 7 ≤ length blocks → is_open (get_or blocks 1 []) ≡ false
+pub home_replayed : (blocks : List (List ℕ)) → 7 ≤ length blocks
+    → is_open (get_or blocks 1 []) ≡ false
     → home_pages blocks ≡ replayed_pages blocks
 home_replayed blocks room gate =
     let P = pages_of (length blocks) in
@@ -53,26 +57,34 @@ home_replayed blocks room gate =
     ∙ sym (get_or-map-range_with_len (replayed P blocks) 0 P k k d under (omega arith)))
 
 -- so a device that is settled is opened with the same maps
-pub settled_reopens : (schema equation : List ℕ) (specs : List LeafSpec) (maps : List LeafMap) (blocks : List (List ℕ))
+pub settled_reopens : (schema equation : List ℕ) (specs : List LeafSpec) (maps : List LeafMap)
+    (blocks : List (List ℕ))
     → IsSettled schema equation specs maps blocks → Reopens schema equation specs maps blocks
 settled_reopens schema equation specs maps blocks is =
     subst (λ (pages : List (List ℕ)). IsDatabase schema equation specs maps blocks pages)
-    (home_replayed blocks (let least = is.database.size.least in omega (arith, least)) is.gate) is.database
+    (home_replayed blocks (let least = is.database.size.least in omega (arith, least)) is.gate)
+    is.database
 
 -- the kept pages are those at home
-pub homes_are : (tells : Bool) (P : ℕ) (c : Content) → IsTrue tells → P ≡ pages_of (length c.now.blocks)
+pub homes_are : (tells : Bool) (P : ℕ) (c : Content) → IsTrue tells
+    → P ≡ pages_of (length c.now.blocks)
     → homes_told tells P c ≡ home_pages c.now.blocks
-homes_are tells P c told many = ap (λ (b : Bool). homes_told b P c) told ∙ ap (λ (n : ℕ). take n (drop (7 + n) c.now.blocks)) many
+homes_are tells P c told many = ap (λ (b : Bool). homes_told b P c) told
+    ∙ ap (λ (n : ℕ). take n (drop (7 + n) c.now.blocks)) many
 
 -- Behind a closed gate the blocks hold what the kept pages hold.
-pub closed_settled : (schema equation : List ℕ) (specs : List LeafSpec) (maps : List LeafMap) (tells : Bool) (P : ℕ) (c : Content)
+pub closed_settled : (schema equation : List ℕ) (specs : List LeafSpec) (maps : List LeafMap)
+    (tells : Bool) (P : ℕ) (c : Content)
     → IsTrue tells
-    → P ≡ pages_of (length c.now.blocks) → is_open (block_of c.now 1) ≡ false → length c.now.blocks ≤ MAX_BLOCKS
+    → P ≡ pages_of (length c.now.blocks) → is_open (block_of c.now 1) ≡ false
+    → length c.now.blocks ≤ MAX_BLOCKS
     → 16 + root_pages specs ≤ P
     → HasMagic (get_or (head_told tells c) 0 []) → AreTexts schema equation (head_told tells c)
-    → (base : Ground) → base.size ≡ P → base.tables ≡ 16 → AreMaps base specs maps (sheets_of (homes_told tells P c))
+    → (base : Ground) → base.size ≡ P → base.tables ≡ 16
+    → AreMaps base specs maps (sheets_of (homes_told tells P c))
     → IsSettled schema equation specs maps c.now.blocks
-closed_settled schema equation specs maps tells P c told many gate most least magic texts base size tables are =
+closed_settled schema equation specs maps tells P c told many gate most least magic texts base size
+    tables are =
     let head : head_told tells c ≡ head_of c.now.blocks = ap (λ (b : Bool). head_told b c) told in
     record {
       gate = gate;
@@ -80,7 +92,9 @@ closed_settled schema equation specs maps tells P c told many gate most least ma
         size = record { least = omega (arith, least, many); most = most };
         magic = subst (λ (h : List (List ℕ)). HasMagic (get_or h 0 [])) head magic;
         texts = subst (λ (h : List (List ℕ)). AreTexts schema equation h) head texts;
-        leaves = maps_moved base (ground_on c.now.blocks) (size ∙ many) tables specs maps (sheets_of (home_pages c.now.blocks))
-            (subst (λ (ps : List (List ℕ)). AreMaps base specs maps (sheets_of ps)) (homes_are tells P c told many) are);
+        leaves = maps_moved base (ground_on c.now.blocks) (size ∙ many) tables specs maps
+            (sheets_of (home_pages c.now.blocks))
+            (subst (λ (ps : List (List ℕ)). AreMaps base specs maps (sheets_of ps))
+            (homes_are tells P c told many) are);
       };
     }

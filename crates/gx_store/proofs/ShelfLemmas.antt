@@ -12,23 +12,28 @@ use Rattle.gx_store.specs.Store.{Attaches}
 pub silent_itself : (a : Content) → Silent a a
 silent_itself a = record { said = refl; shelf = refl; script = refl; aside = refl }
 
-other_named : (devices : Devices) (name : List ℕ) (blocks : List (List ℕ)) (other : List ℕ) → other ≢ name
-    → fin.get (with_named (Some name) blocks (fin.remove devices name)) other ≡ fin.get devices other
+other_named : (devices : Devices) (name : List ℕ) (blocks : List (List ℕ)) (other : List ℕ)
+    → other ≢ name
+    → fin.get (with_named (Some name) blocks (fin.remove devices name)) other
+    ≡ fin.get devices other
 other_named devices name blocks other differ =
-    let off : eq_by_cmp key_cmp other name ≡ false = false_from_ne_true (eq_by_cmp key_cmp other name) (λ e. differ (same_key other name e)) in
+    let off : eq_by_cmp key_cmp other name ≡ false =
+    false_from_ne_true (eq_by_cmp key_cmp other name) (λ e. differ (same_key other name e)) in
     fin.get-insert nat_list_cmp_total (fin.remove devices name) name blocks other
     ∙ ap (λ (b : Bool). cond b (Some blocks) (fin.get (fin.remove devices name) other)) off
     ∙ fin.get-remove nat_list_cmp_total devices name other
     ∙ ap (λ (b : Bool). cond b None (fin.get devices other)) off
 
 -- the attached one has the blocks
-pub named_at : (m : Moment) (name : List ℕ) → m.shelf.name ≡ Some name → device_at m name ≡ Some m.blocks
+pub named_at : (m : Moment) (name : List ℕ) → m.shelf.name ≡ Some name
+    → device_at m name ≡ Some m.blocks
 named_at m name named =
     ap (λ n. fin.get (with_named n m.blocks m.shelf.devices) name) named
     ∙ fin.get-insert nat_list_cmp_total m.shelf.devices name m.blocks name
     ∙ ap (λ (b : Bool). cond b (Some m.blocks) (fin.get m.shelf.devices name)) (tied name)
 
-module _ (name : List ℕ) (blocks : List (List ℕ)) (a b c : Content) (free : a.now.shelf.name ≡ None) (at : IsAttached name blocks a b)
+module _ (name : List ℕ) (blocks : List (List ℕ)) (a b c : Content) (free : a.now.shelf.name ≡ None)
+    (at : IsAttached name blocks a b)
     (silent : Silent b c) where
   pub attached_named : c.now.shelf.name ≡ Some name
   attached_named = ap (λ (s : Shelf). s.name) silent.shelf ∙ at.named

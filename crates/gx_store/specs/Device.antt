@@ -1,5 +1,5 @@
 -- What the blocks of a device hold: a database under two texts.
-use Rattle.std.specs.Prelude.{◌≡◌, ◌+◌, ◌*◌, ◌≤◌, ◌<◌, ℕ, false, List, [], length, replicate, take, drop, get_or, slice_index_or}
+use Rattle.std.specs.Prelude.{◌≡◌, ◌+◌, ◌≤◌, ◌<◌, ℕ, false, List, [], length, replicate, take, drop, get_or, slice_index_or}
 use Rattle.std.specs.FinMap.{empty}
 use Rattle.gx_ports.specs.declared.kinds.LeafSpec.{LeafSpec}
 use Rattle.gx_ports.specs.LeafMaps.{LeafMap}

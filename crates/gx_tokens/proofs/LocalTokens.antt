@@ -25,7 +25,9 @@ some_number x = some_token (λ _. ANumber) x (Number (codes "1")) one_is_number 
 pub some_mark : {A : Type 0} (x : A) (t : Lexeme) → IsProper t → IsInhabited {A = A} (λ _. the t)
 some_mark x t proper = some_token (λ _. the t) x t proper (λ bytes rest h. h)
 
-word_reason : {A : Type 0} (meaning : List ℕ → Result A Why) → ((text : List ℕ) → HasReason (Word text) (meaning text)) → (t : Lexeme) → HasReason t (word_if meaning t)
+word_reason : {A : Type 0} (meaning : List ℕ → Result A Why)
+    → ((text : List ℕ) → HasReason (Word text) (meaning text)) → (t : Lexeme)
+    → HasReason t (word_if meaning t)
 word_reason meaning named (Word w) = named w
 word_reason meaning named (Number w) = λ e. absurd cc
 word_reason meaning named (Quoted w) = λ e. absurd cc
@@ -35,7 +37,9 @@ word_reason meaning named Comma = λ e. absurd cc
 word_reason meaning named Equals = λ e. absurd cc
 word_reason meaning named End = refl
 
-number_reason : {A : Type 0} (meaning : List ℕ → Result A Why) → ((text : List ℕ) → HasReason (Number text) (meaning text)) → (t : Lexeme) → HasReason t (number_if meaning t)
+number_reason : {A : Type 0} (meaning : List ℕ → Result A Why)
+    → ((text : List ℕ) → HasReason (Number text) (meaning text)) → (t : Lexeme)
+    → HasReason t (number_if meaning t)
 number_reason meaning named (Word w) = λ e. absurd cc
 number_reason meaning named (Number w) = named w
 number_reason meaning named (Quoted w) = λ e. absurd cc
@@ -46,28 +50,38 @@ number_reason meaning named Equals = λ e. absurd cc
 number_reason meaning named End = refl
 
 -- words of any meaning
-pub takes_word : {A : Type 0} (meaning : List ℕ → Result A Why) (x : A) → ((text : List ℕ) → HasReason (Word text) (meaning text)) → TakesToken (word_if meaning) (λ _. AWord)
+pub takes_word : {A : Type 0} (meaning : List ℕ → Result A Why) (x : A)
+    → ((text : List ℕ) → HasReason (Word text) (meaning text))
+    → TakesToken (word_if meaning) (λ _. AWord)
 takes_word meaning x named = record {
   proper = λ y e. absurd cc;
-  shaped = λ t y bytes rest e h. let i = word_is meaning t y e in (i.0, subst (λ (z : Lexeme). the z bytes rest) i.1 h);
+  shaped = λ t y bytes rest e h. let i = word_is meaning t y e in
+      (i.0, subst (λ (z : Lexeme). the z bytes rest) i.1 h);
   reason = word_reason meaning named;
   some = some_word x;
 }
 
 -- words whose values say which they are
-pub takes_these_words : {A : Type 0} (meaning : List ℕ → Result A Why) (word : A → List ℕ) (x : A) → IsWord (word x) → ((text : List ℕ) (y : A) → meaning text ≡ Ok y → text ≡ word y) → ((text : List ℕ) → HasReason (Word text) (meaning text)) → TakesToken (word_if meaning) (λ y. the (Word (word y)))
+pub takes_these_words : {A : Type 0} (meaning : List ℕ → Result A Why) (word : A → List ℕ) (x : A)
+    → IsWord (word x) → ((text : List ℕ) (y : A) → meaning text ≡ Ok y → text ≡ word y)
+    → ((text : List ℕ) → HasReason (Word text) (meaning text))
+    → TakesToken (word_if meaning) (λ y. the (Word (word y)))
 takes_these_words meaning word x is same named = record {
   proper = λ y e. absurd cc;
-  shaped = λ t y bytes rest e h. let i = word_is meaning t y e in subst (λ (z : Lexeme). the z bytes rest) (i.1 ∙ ap Word (same i.0 y i.2)) h;
+  shaped = λ t y bytes rest e h. let i = word_is meaning t y e in
+      subst (λ (z : Lexeme). the z bytes rest) (i.1 ∙ ap Word (same i.0 y i.2)) h;
   reason = word_reason meaning named;
   some = some_token (λ y. the (Word (word y))) x (Word (word x)) is (λ bytes rest h. h);
 }
 
 -- numbers of any meaning
-pub takes_number : {A : Type 0} (meaning : List ℕ → Result A Why) (x : A) → ((text : List ℕ) → HasReason (Number text) (meaning text)) → TakesToken (number_if meaning) (λ _. ANumber)
+pub takes_number : {A : Type 0} (meaning : List ℕ → Result A Why) (x : A)
+    → ((text : List ℕ) → HasReason (Number text) (meaning text))
+    → TakesToken (number_if meaning) (λ _. ANumber)
 takes_number meaning x named = record {
   proper = λ y e. absurd cc;
-  shaped = λ t y bytes rest e h. let i = number_is meaning t y e in (i.0, subst (λ (z : Lexeme). the z bytes rest) i.1 h);
+  shaped = λ t y bytes rest e h. let i = number_is meaning t y e in
+      (i.0, subst (λ (z : Lexeme). the z bytes rest) i.1 h);
   reason = number_reason meaning named;
   some = some_number x;
 }
@@ -137,7 +151,8 @@ comma_or_close_reason End = refl
 pub takes_comma_or_close : TakesToken comma_or_close (λ more. the (list_mark more))
 takes_comma_or_close = record {
   proper = λ y e. absurd cc;
-  shaped = λ t more bytes rest e h. subst (λ (z : Lexeme). the z bytes rest) (is_comma_or_close t more e) h;
+  shaped = λ t more bytes rest e h. subst (λ (z : Lexeme). the z bytes rest)
+      (is_comma_or_close t more e) h;
   reason = comma_or_close_reason;
   some = some_token (λ more. the (list_mark more)) false Close tt (λ bytes rest h. h);
 }

@@ -23,41 +23,50 @@ pub means_is : {A : Type 0} (x y : A) → means x ≡ means y → x ≡ y
 means_is x y e = cc
 
 -- the first of two readings did not fail
-pub bind_ok : {A B : Type 0} (r : Result A Fault) (f : A → Result B Fault) (y : B) → (r >>= f) ≡ Ok y → (x : A) × (r ≡ Ok x) × (f x ≡ Ok y)
+pub bind_ok : {A B : Type 0} (r : Result A Fault) (f : A → Result B Fault) (y : B)
+    → (r >>= f) ≡ Ok y → (x : A) × (r ≡ Ok x) × (f x ≡ Ok y)
 bind_ok (Ok x) f y e = (x, refl, e)
 bind_ok (Err d) f y e = absurd cc
 
-pub mapped_ok : {A B : Type 0} (f : A → B) (r : Result A Fault) (y : B) → map_ok f r ≡ Ok y → (x : A) × (r ≡ Ok x) × (f x ≡ y)
+pub mapped_ok : {A B : Type 0} (f : A → B) (r : Result A Fault) (y : B) → map_ok f r ≡ Ok y
+    → (x : A) × (r ≡ Ok x) × (f x ≡ y)
 mapped_ok f (Ok x) y e = (x, refl, done_is (f x) y e)
 mapped_ok f (Err d) y e = absurd cc
 
 -- a test that did not fail
-pub test_ok : {A : Type 0} (b : Bool) (reason : Why) (r : Result A Why) (y : A) → cond b (Err reason) r ≡ Ok y → (b ≡ false) × (r ≡ Ok y)
+pub test_ok : {A : Type 0} (b : Bool) (reason : Why) (r : Result A Why) (y : A)
+    → cond b (Err reason) r ≡ Ok y → (b ≡ false) × (r ≡ Ok y)
 test_ok true reason r y e = absurd cc
 test_ok false reason r y e = (refl, e)
 
-met_ok : {A : Type 0} (bytes : List ℕ) (r : Result A Why) (rest : List ℕ) (y : A × List ℕ) → met bytes r rest ≡ Ok y → (r ≡ Ok y.0) × (rest ≡ y.1)
+met_ok : {A : Type 0} (bytes : List ℕ) (r : Result A Why) (rest : List ℕ) (y : A × List ℕ)
+    → met bytes r rest ≡ Ok y → (r ≡ Ok y.0) × (rest ≡ y.1)
 met_ok bytes (Err reason) rest y e = absurd cc
-met_ok bytes (Ok x) rest y e = let p = done_is (x, rest) y e in (ap (λ z. Ok z.0) p, ap (λ z. z.1) p)
+met_ok bytes (Ok x) rest y e = let p = done_is (x, rest) y e in
+    (ap (λ z. Ok z.0) p, ap (λ z. z.1) p)
 
 -- the token that was read, and that it means the value
-pub record IsRead {A : Type 0} (meaning : Lexeme → Result A Why) (bytes : List ℕ) (y : A × List ℕ) : Type 0 where
+pub record IsRead {A : Type 0} (meaning : Lexeme → Result A Why) (bytes : List ℕ)
+    (y : A × List ℕ) : Type 0 where
   pub token : Lexeme
   pub first : FirstToken bytes token y.1
   pub is : meaning token ≡ Ok y.0
 
-pub want_ok : {A : Type 0} (meaning : Lexeme → Result A Why) (bytes : List ℕ) (y : A × List ℕ) → want meaning bytes ≡ Ok y → IsRead meaning bytes y
+pub want_ok : {A : Type 0} (meaning : Lexeme → Result A Why) (bytes : List ℕ) (y : A × List ℕ)
+    → want meaning bytes ≡ Ok y → IsRead meaning bytes y
 want_ok meaning bytes y e =
     let a = bind_ok (next_token bytes) (λ x. met bytes (meaning x.0) x.1) y e in
     let w = met_ok bytes (meaning a.0.0) a.0.1 y a.2 in
     record { token = a.0.0; first = subst (FirstToken bytes a.0.0) w.1 (first_found bytes a.0 a.1); is = w.0 }
 
-pub want_again : {A : Type 0} (meaning : Lexeme → Result A Why) (bytes rest : List ℕ) (t : Lexeme) (x : A) → FirstToken bytes t rest → meaning t ≡ Ok x → want meaning bytes ≡ Ok (x, rest)
+pub want_again : {A : Type 0} (meaning : Lexeme → Result A Why) (bytes rest : List ℕ) (t : Lexeme)
+    (x : A) → FirstToken bytes t rest → meaning t ≡ Ok x → want meaning bytes ≡ Ok (x, rest)
 want_again meaning bytes rest t x first is = rw (first_again bytes t rest first, is) refl
 
 -- ---- which token it was
 
-pub word_is : {A : Type 0} (meaning : List ℕ → Result A Why) (t : Lexeme) (x : A) → word_if meaning t ≡ Ok x → (text : List ℕ) × (t ≡ Word text) × (meaning text ≡ Ok x)
+pub word_is : {A : Type 0} (meaning : List ℕ → Result A Why) (t : Lexeme) (x : A)
+    → word_if meaning t ≡ Ok x → (text : List ℕ) × (t ≡ Word text) × (meaning text ≡ Ok x)
 word_is meaning (Word w) x e = (w, refl, e)
 word_is meaning (Number w) x e = absurd cc
 word_is meaning (Quoted w) x e = absurd cc
@@ -67,7 +76,8 @@ word_is meaning Comma x e = absurd cc
 word_is meaning Equals x e = absurd cc
 word_is meaning End x e = absurd cc
 
-pub number_is : {A : Type 0} (meaning : List ℕ → Result A Why) (t : Lexeme) (x : A) → number_if meaning t ≡ Ok x → (text : List ℕ) × (t ≡ Number text) × (meaning text ≡ Ok x)
+pub number_is : {A : Type 0} (meaning : List ℕ → Result A Why) (t : Lexeme) (x : A)
+    → number_if meaning t ≡ Ok x → (text : List ℕ) × (t ≡ Number text) × (meaning text ≡ Ok x)
 number_is meaning (Word w) x e = absurd cc
 number_is meaning (Number w) x e = (w, refl, e)
 number_is meaning (Quoted w) x e = absurd cc
@@ -78,24 +88,28 @@ number_is meaning Equals x e = absurd cc
 number_is meaning End x e = absurd cc
 
 -- a word that was read, and that it means the value
-pub record IsWordRead {A : Type 0} (meaning : List ℕ → Result A Why) (bytes : List ℕ) (y : A × List ℕ) : Type 0 where
+pub record IsWordRead {A : Type 0} (meaning : List ℕ → Result A Why) (bytes : List ℕ)
+    (y : A × List ℕ) : Type 0 where
   pub text : List ℕ
   pub first : the (Word text) bytes y.1
   pub is : meaning text ≡ Ok y.0
 
-pub word_ok : {A : Type 0} (meaning : List ℕ → Result A Why) (bytes : List ℕ) (y : A × List ℕ) → want (word_if meaning) bytes ≡ Ok y → IsWordRead meaning bytes y
+pub word_ok : {A : Type 0} (meaning : List ℕ → Result A Why) (bytes : List ℕ) (y : A × List ℕ)
+    → want (word_if meaning) bytes ≡ Ok y → IsWordRead meaning bytes y
 word_ok meaning bytes y e =
     let w = want_ok (word_if meaning) bytes y e in
     let i = word_is meaning w.token y.0 w.is in
     record { text = i.0; first = subst (λ (t : Lexeme). the t bytes y.1) i.1 w.first; is = i.2 }
 
 -- likewise a number
-pub record IsNumberRead {A : Type 0} (meaning : List ℕ → Result A Why) (bytes : List ℕ) (y : A × List ℕ) : Type 0 where
+pub record IsNumberRead {A : Type 0} (meaning : List ℕ → Result A Why) (bytes : List ℕ)
+    (y : A × List ℕ) : Type 0 where
   pub text : List ℕ
   pub first : the (Number text) bytes y.1
   pub is : meaning text ≡ Ok y.0
 
-pub number_ok : {A : Type 0} (meaning : List ℕ → Result A Why) (bytes : List ℕ) (y : A × List ℕ) → want (number_if meaning) bytes ≡ Ok y → IsNumberRead meaning bytes y
+pub number_ok : {A : Type 0} (meaning : List ℕ → Result A Why) (bytes : List ℕ) (y : A × List ℕ)
+    → want (number_if meaning) bytes ≡ Ok y → IsNumberRead meaning bytes y
 number_ok meaning bytes y e =
     let w = want_ok (number_if meaning) bytes y e in
     let i = number_is meaning w.token y.0 w.is in
@@ -158,20 +172,30 @@ is_comma_or_close End b e = absurd cc
 
 -- ---- marks that were read, and marks that are read
 
-pub open_found : (bytes : List ℕ) (y : Unit {0} × List ℕ) → want an_open bytes ≡ Ok y → the Open bytes y.1
-open_found bytes y e = let w = want_ok an_open bytes y e in subst (λ (t : Lexeme). the t bytes y.1) (is_open w.token y.0 w.is) w.first
+pub open_found : (bytes : List ℕ) (y : Unit {0} × List ℕ) → want an_open bytes ≡ Ok y
+    → the Open bytes y.1
+open_found bytes y e = let w = want_ok an_open bytes y e in
+    subst (λ (t : Lexeme). the t bytes y.1) (is_open w.token y.0 w.is) w.first
 
-pub close_found : (bytes : List ℕ) (y : Unit {0} × List ℕ) → want a_close bytes ≡ Ok y → the Close bytes y.1
-close_found bytes y e = let w = want_ok a_close bytes y e in subst (λ (t : Lexeme). the t bytes y.1) (is_close w.token y.0 w.is) w.first
+pub close_found : (bytes : List ℕ) (y : Unit {0} × List ℕ) → want a_close bytes ≡ Ok y
+    → the Close bytes y.1
+close_found bytes y e = let w = want_ok a_close bytes y e in
+    subst (λ (t : Lexeme). the t bytes y.1) (is_close w.token y.0 w.is) w.first
 
-pub comma_found : (bytes : List ℕ) (y : Unit {0} × List ℕ) → want a_comma bytes ≡ Ok y → the Comma bytes y.1
-comma_found bytes y e = let w = want_ok a_comma bytes y e in subst (λ (t : Lexeme). the t bytes y.1) (is_comma w.token y.0 w.is) w.first
+pub comma_found : (bytes : List ℕ) (y : Unit {0} × List ℕ) → want a_comma bytes ≡ Ok y
+    → the Comma bytes y.1
+comma_found bytes y e = let w = want_ok a_comma bytes y e in
+    subst (λ (t : Lexeme). the t bytes y.1) (is_comma w.token y.0 w.is) w.first
 
-pub equals_found : (bytes : List ℕ) (y : Unit {0} × List ℕ) → want an_equals bytes ≡ Ok y → the Equals bytes y.1
-equals_found bytes y e = let w = want_ok an_equals bytes y e in subst (λ (t : Lexeme). the t bytes y.1) (is_equals w.token y.0 w.is) w.first
+pub equals_found : (bytes : List ℕ) (y : Unit {0} × List ℕ) → want an_equals bytes ≡ Ok y
+    → the Equals bytes y.1
+equals_found bytes y e = let w = want_ok an_equals bytes y e in
+    subst (λ (t : Lexeme). the t bytes y.1) (is_equals w.token y.0 w.is) w.first
 
-pub list_mark_found : (bytes : List ℕ) (y : Bool × List ℕ) → want comma_or_close bytes ≡ Ok y → the (list_mark y.0) bytes y.1
-list_mark_found bytes y e = let w = want_ok comma_or_close bytes y e in subst (λ (t : Lexeme). the t bytes y.1) (is_comma_or_close w.token y.0 w.is) w.first
+pub list_mark_found : (bytes : List ℕ) (y : Bool × List ℕ) → want comma_or_close bytes ≡ Ok y
+    → the (list_mark y.0) bytes y.1
+list_mark_found bytes y e = let w = want_ok comma_or_close bytes y e in
+    subst (λ (t : Lexeme). the t bytes y.1) (is_comma_or_close w.token y.0 w.is) w.first
 
 pub open_again : (bytes rest : List ℕ) → the Open bytes rest → want an_open bytes ≡ Ok (tt, rest)
 open_again bytes rest h = want_again an_open bytes rest Open tt h refl
@@ -182,13 +206,16 @@ close_again bytes rest h = want_again a_close bytes rest Close tt h refl
 pub comma_again : (bytes rest : List ℕ) → the Comma bytes rest → want a_comma bytes ≡ Ok (tt, rest)
 comma_again bytes rest h = want_again a_comma bytes rest Comma tt h refl
 
-pub equals_again : (bytes rest : List ℕ) → the Equals bytes rest → want an_equals bytes ≡ Ok (tt, rest)
+pub equals_again : (bytes rest : List ℕ) → the Equals bytes rest
+    → want an_equals bytes ≡ Ok (tt, rest)
 equals_again bytes rest h = want_again an_equals bytes rest Equals tt h refl
 
-pub goes_on_again : (bytes rest : List ℕ) → the Comma bytes rest → want comma_or_close bytes ≡ Ok (true, rest)
+pub goes_on_again : (bytes rest : List ℕ) → the Comma bytes rest
+    → want comma_or_close bytes ≡ Ok (true, rest)
 goes_on_again bytes rest h = want_again comma_or_close bytes rest Comma true h refl
 
-pub ends_again : (bytes rest : List ℕ) → the Close bytes rest → want comma_or_close bytes ≡ Ok (false, rest)
+pub ends_again : (bytes rest : List ℕ) → the Close bytes rest
+    → want comma_or_close bytes ≡ Ok (false, rest)
 ends_again bytes rest h = want_again comma_or_close bytes rest Close false h refl
 
 -- ---- equal bytes

@@ -1,6 +1,7 @@
 -- The tokens of a text, one after another.
 use Rattle.std.specs.Prelude.{ℕ, ◌+◌, ◌-◌, Bool, true, false, not, ◌&&◌, ◌||◌, List, [], ◌∷◌, length, take, drop, Option, Some, None, Result, Ok, Err, nat_lt, nat_le, ◌==◌, if◌then◌else◌, option_map}
 use Rattle.std.specs.List.{prefix_len}
+pub use Rattle.gx_laws.specs.Bytes.{is_printable}
 use Rattle.gx_tokens.specs.declared.fault.Fault.{Fault}
 use Rattle.gx_tokens.specs.declared.why.Why.TheVariants as why
 use Rattle.gx_tokens.specs.declared.token.Token.{Token}
@@ -44,10 +45,6 @@ is_word_start b = (nat_le 97 b && nat_le b 122) || b == 95
 -- a letter, `_` or a digit
 abbrev pub is_word_byte : ℕ → Bool
 is_word_byte b = (nat_le 97 b && nat_le b 122) || b == 95 || is_digit b
-
--- from 0x20 to 0x7E
-abbrev pub is_printable : ℕ → Bool
-is_printable b = nat_le 32 b && nat_le b 126
 
 -- ---- the parts of a text
 

@@ -104,9 +104,9 @@ unread_of bytes errors.NoMemory = unread.NoMemory
 unread_of bytes (errors.Bad fault) = bad_of bytes fault
 
 -- what reading gives, with the line of a fault
-abbrev pub with_line : {A : Type 0} → List ℕ → Result A Fault → Result A Unread
-with_line bytes (Ok x) = Ok x
-with_line bytes (Err fault) = Err (bad_of bytes fault)
+abbrev pub with_fault_line : {A : Type 0} → List ℕ → Result A Fault → Result A Unread
+with_fault_line bytes (Ok x) = Ok x
+with_fault_line bytes (Err fault) = Err (bad_of bytes fault)
 
 -- the call answered this, or there was no memory
 abbrev pub IsUnlessNoMemory : {X : Type 0} → Result X Unread → Result X Unread → Type 0

@@ -1,5 +1,5 @@
 // Numbers, as they are spelled in a text and as what they are.
-ghost use Rattle.std.specs.Prelude.{◌≡◌, ◌-◌, ◌^◌, min, pos};
+ghost use Rattle.std.specs.Prelude.{◌≡◌, ◌-◌, ◌^◌, min};
 ghost use Rattle.std.specs.List.{list_all};
 ghost use Rattle.gx_tokens.specs.Lexemes.{is_digit};
 ghost use Rattle.gx_tokens.specs.Numbers.{digits_value, number_value, natural_up_to, signed_in_range, are_digits, is_number, signed_number};

@@ -25,28 +25,20 @@ fn is_printable(byte: u8) -> bool
     matches!(byte, b' '..=b'~')
 }
 
+// How many bytes at the front are those of a word.
 fn word_len(bytes: &[u8]) -> usize
     ensures value { result ≡ prefix_len is_word_byte bytes.now }
     ensures within { result ≤ length bytes.now }
 {
-    for (at, byte) in bytes.iter().enumerate() {
-        if !is_word_byte(*byte) {
-            return at;
-        }
-    }
-    bytes.len()
+    bytes.iter().take_while(|byte| is_word_byte(**byte)).count()
 }
 
+// How many bytes at the front are digits.
 fn digits_len(bytes: &[u8]) -> usize
     ensures value { result ≡ prefix_len is_digit bytes.now }
     ensures within { result ≤ length bytes.now }
 {
-    for (at, byte) in bytes.iter().enumerate() {
-        if !is_digit(*byte) {
-            return at;
-        }
-    }
-    bytes.len()
+    bytes.iter().take_while(|byte| is_digit(**byte)).count()
 }
 
 // Whether each byte is printable. The loop has no other end, so it is compiled to a few

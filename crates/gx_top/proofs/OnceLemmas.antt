@@ -23,7 +23,7 @@ use Rattle.gx_typing.proofs.TypedLaws.{again as typed_again}
 use Rattle.gx_play.specs.declared.ending.Ending.{Ending}
 use Rattle.gx_play.specs.declared.ending.Ending.TheVariants as ending
 use Rattle.gx_requests.specs.Lengths.{text_length}
-use Rattle.gx_play.specs.Endings.{line_of}
+use Rattle.gx_play.specs.Endings.{ending_line}
 use Rattle.gx_requests.specs.Requests.{IsText, IsThere, IsSchemaOf, IsEither, IsNamed, IsAsked, AreRead, AreUnaccepted, IsRefused, equation_of, text_limit}
 use Rattle.gx_play.specs.Played.{IsPlayText}
 use Rattle.gx_top.specs.Tasks.{Task, IsTask, IsToPlay}
@@ -38,22 +38,26 @@ fetch_line None name = codes "refused: missing " ++ name ++ codes "\n"
 fetch_line (Some text) name = codes "refused: too long " ++ name ++ codes "\n"
 
 abbrev checked_line : Result Typing Mistake → Bool → List ℕ
-checked_line (Err mistake) long = line_of (ending.Type mistake.0 mistake.1)
-checked_line (Ok typing) true = line_of ending.TextsTooLong
+checked_line (Err mistake) long = ending_line (ending.Type mistake.0 mistake.1)
+checked_line (Ok typing) true = ending_line ending.TextsTooLong
 checked_line (Ok typing) false = []
 
 abbrev read_line : Schema → Result (List DefinitionTree × List ℕ) Unread → List ℕ
-read_line schema (Ok meaning) = checked_line (typing_of schema meaning.0 meaning.1) (nat_lt text_limit (text_length schema meaning.0))
-read_line schema (Err (unread.Bad line why)) = line_of (ending.Equation line why)
+read_line schema (Ok meaning) =
+    checked_line (typing_of schema meaning.0 meaning.1)
+    (nat_lt text_limit (text_length schema meaning.0))
+read_line schema (Err (unread.Bad line why)) = ending_line (ending.Equation line why)
 read_line schema (Err unread.NoMemory) = []
 
 abbrev texts_line : Result Schema Unread → Result (List DefinitionTree × List ℕ) Unread → List ℕ
 texts_line (Ok schema) equation = read_line schema equation
-texts_line (Err (unread.Bad line why)) equation = line_of (ending.Schema line why)
+texts_line (Err (unread.Bad line why)) equation = ending_line (ending.Schema line why)
 texts_line (Err unread.NoMemory) equation = []
 
-texts_at : (s e : List ℕ) (x : Result Schema Unread) (y : Result (List DefinitionTree × List ℕ) Unread)
-    → schema_of s ≡ x → equation_of e ≡ y → texts_line x y ≡ texts_line (schema_of s) (equation_of e)
+texts_at : (s e : List ℕ) (x : Result Schema Unread)
+    (y : Result (List DefinitionTree × List ℕ) Unread)
+    → schema_of s ≡ x → equation_of e ≡ y
+    → texts_line x y ≡ texts_line (schema_of s) (equation_of e)
 texts_at s e x y p q = λ i. texts_line (sym p i) (sym q i)
 
 read_at : (s e : List ℕ) (schema : Schema) (ds : List DefinitionTree) (lines : List ℕ)
@@ -64,13 +68,17 @@ read_at s e schema ds lines typing long is p q =
     (λ i. checked_line (sym p i) (sym q i)) ∙ texts_at s e (Ok schema) (Ok (ds, lines))
     (schema_again s schema is.schema_means) (equation_read e (ds, lines) is.equation_means)
 
-unaccepted_line : (s e : List ℕ) (why : Ending) → AreUnaccepted s e why → line_of why ≡ texts_line (schema_of s) (equation_of e)
-unaccepted_line s e (ending.Schema line why) r = texts_at s e (Err (unread.Bad line why)) (equation_of e) r refl
-unaccepted_line s e (ending.Equation line why) r = texts_at s e (Ok r.0) (Err (unread.Bad line why)) (schema_again s r.0 r.1) r.2
+unaccepted_line : (s e : List ℕ) (why : Ending) → AreUnaccepted s e why
+    → ending_line why ≡ texts_line (schema_of s) (equation_of e)
+unaccepted_line s e (ending.Schema line why) r =
+    texts_at s e (Err (unread.Bad line why)) (equation_of e) r refl
+unaccepted_line s e (ending.Equation line why) r =
+    texts_at s e (Ok r.0) (Err (unread.Bad line why)) (schema_again s r.0 r.1) r.2
 unaccepted_line s e (ending.Type line why) r =
     read_at s e r.0 r.1 r.2 (Err (line, why)) (nat_lt text_limit (text_length r.0 r.1)) r.3 r.4 refl
 unaccepted_line s e ending.TextsTooLong r =
-    read_at s e r.0 r.1 r.2 (Ok (typing_with (leaves r.0 r.1))) true r.3 (typed_again r.0 r.1 r.2 r.4)
+    read_at s e r.0 r.1 r.2 (Ok (typing_with (leaves r.0 r.1))) true r.3
+    (typed_again r.0 r.1 r.2 r.4)
     (lt-ltb text_limit (text_length r.0 r.1) r.5)
 unaccepted_line s e ending.Words r = absurd r
 unaccepted_line s e (ending.Missing name) r = absurd r
@@ -87,7 +95,8 @@ unaccepted_line s e (ending.Line number why) r = absurd r
 
 abbrev AreNoRequest : List (List ℕ) → List ℕ → Type 0
 AreNoRequest words line =
-    ((a : Action) (schema equation : List ℕ) → IsCounted a → words ≢ request_words a schema equation) × (line ≡ line_of ending.Words)
+    ((a : Action) (schema equation : List ℕ) → IsCounted a
+    → words ≢ request_words a schema equation) × (line ≡ ending_line ending.Words)
 
 record IsLost (words : List (List ℕ)) (texts : Texts) (line : List ℕ) : Type 0 where
   pub name : List ℕ
@@ -103,7 +112,8 @@ record IsJudged (words : List (List ℕ)) (texts : Texts) (line : List ℕ) : Ty
   pub line_is : line ≡ texts_line (schema_of schema) (equation_of equation)
 
 abbrev HasReason : List (List ℕ) → Texts → List ℕ → Type 0
-HasReason words texts line = AreNoRequest words line ⊎ IsLost words texts line ⊎ IsJudged words texts line
+HasReason words texts line = AreNoRequest words line ⊎ IsLost words texts line
+    ⊎ IsJudged words texts line
 
 missing_line : (name : List ℕ) (text : Option (List ℕ)) → text ≡ None
     → codes "refused: missing " ++ name ++ codes "\n" ≡ fetch_line text name
@@ -115,11 +125,13 @@ long_line name (Some text) is = refl
 long_line name None is = absurd is
 
 judged : (words : List (List ℕ)) (texts : Texts) (why : Ending)
-    → ((a : Action) × (s : List ℕ) × (e : List ℕ) × IsAsked words texts a s e × AreUnaccepted s e why) → HasReason words texts (line_of why)
+    → ((a : Action) × (s : List ℕ) × (e : List ℕ) × IsAsked words texts a s e
+    × AreUnaccepted s e why) → HasReason words texts (ending_line why)
 judged words texts why r =
     inr (inr (record { asked = r.0; schema = r.1; equation = r.2; is_asked = r.3; line_is = unaccepted_line r.1 r.2 why r.4 }))
 
-reason : (words : List (List ℕ)) (texts : Texts) (why : Ending) → IsRefused words texts why → HasReason words texts (line_of why)
+reason : (words : List (List ℕ)) (texts : Texts) (why : Ending) → IsRefused words texts why
+    → HasReason words texts (ending_line why)
 reason words texts ending.Words r = inl (r, refl)
 reason words texts (ending.Missing name) r =
     inr (inl (record {
@@ -154,8 +166,10 @@ lost_once : (texts : Texts) (name other schema same equation : List ℕ) → sch
     → (name ≡ schema) ⊎ (IsThere texts schema × (name ≡ equation))
     → (other ≡ same) ⊎ (IsThere texts same × (other ≡ equation)) → name ≡ other
 lost_once texts name other schema same equation is lost missed (inl p) (inl q) = p ∙ is ∙ sym q
-lost_once texts name other schema same equation is lost missed (inl p) (inr q) = absurd (lost (subst (IsThere texts) (sym (p ∙ is)) q.0))
-lost_once texts name other schema same equation is lost missed (inr p) (inl q) = absurd (missed (subst (IsThere texts) (is ∙ sym q) p.0))
+lost_once texts name other schema same equation is lost missed (inl p) (inr q) =
+    absurd (lost (subst (IsThere texts) (sym (p ∙ is)) q.0))
+lost_once texts name other schema same equation is lost missed (inr p) (inl q) =
+    absurd (missed (subst (IsThere texts) (is ∙ sym q) p.0))
 lost_once texts name other schema same equation is lost missed (inr p) (inr q) = p.1 ∙ sym q.1
 
 either_once : (a : Action) (texts : Texts) (name other schema same equation : List ℕ)
@@ -173,42 +187,58 @@ either_once (running device) texts name other schema same equation is lost misse
     lost_once texts name other schema same equation (is tt) lost missed p q
 either_once (inspecting device) texts name other schema same equation is lost missed p q =
     lost_once texts name other schema same equation (is tt) lost missed p q
-either_once (working device blocks records) texts name other schema same equation is lost missed p q = p ∙ sym q
+either_once (working device blocks records) texts name other schema same equation is lost missed p
+    q = p ∙ sym q
 
 name_once : (words : List (List ℕ)) (texts : Texts) (name other : List ℕ) → IsNamed words texts name
-    → IsNamed words texts other → (IsThere texts name → ⊥) → (IsThere texts other → ⊥) → name ≡ other
+    → IsNamed words texts other → (IsThere texts name → ⊥) → (IsThere texts other → ⊥)
+    → name ≡ other
 name_once words texts name other x y lost missed =
-    let same = same_words words x.asked y.asked x.schema_name y.schema_name x.equation_name y.equation_name x.words_are y.words_are in
-    either_once x.asked texts name other x.schema_name y.schema_name x.equation_name same.schemas lost missed x.first
+    let same = same_words words x.asked y.asked x.schema_name y.schema_name x.equation_name
+    y.equation_name x.words_are y.words_are in
+    either_once x.asked texts name other x.schema_name y.schema_name x.equation_name same.schemas
+    lost missed x.first
     (subst (λ a. IsEither a texts other y.schema_name x.equation_name) (sym same.actions)
     (subst (λ k. IsEither y.asked texts other y.schema_name k) (sym same.equations) y.first))
 
-line_once : (words : List (List ℕ)) (texts : Texts) (line other : List ℕ) → HasReason words texts line
+line_once : (words : List (List ℕ)) (texts : Texts) (line other : List ℕ)
+    → HasReason words texts line
     → HasReason words texts other → line ≡ other
 line_once words texts line other (inl x) (inl y) = x.1 ∙ sym y.1
 line_once words texts line other (inl x) (inr (inl y)) =
-    absurd (x.0 y.is_named.asked y.is_named.schema_name y.is_named.equation_name y.is_named.counted y.is_named.words_are)
+    absurd (x.0 y.is_named.asked y.is_named.schema_name y.is_named.equation_name y.is_named.counted
+    y.is_named.words_are)
 line_once words texts line other (inl x) (inr (inr y)) =
-    absurd (x.0 y.asked y.is_asked.schema_name y.is_asked.equation_name y.is_asked.counted y.is_asked.words_are)
+    absurd (x.0 y.asked y.is_asked.schema_name y.is_asked.equation_name y.is_asked.counted
+    y.is_asked.words_are)
 line_once words texts line other (inr (inl x)) (inl y) =
-    absurd (y.0 x.is_named.asked x.is_named.schema_name x.is_named.equation_name x.is_named.counted x.is_named.words_are)
+    absurd (y.0 x.is_named.asked x.is_named.schema_name x.is_named.equation_name x.is_named.counted
+    x.is_named.words_are)
 line_once words texts line other (inr (inl x)) (inr (inl y)) =
     x.line_is ∙ ap (λ n. fetch_line (get texts n) n)
-    (name_once words texts x.name y.name x.is_named y.is_named x.not_there y.not_there) ∙ sym y.line_is
+    (name_once words texts x.name y.name x.is_named y.is_named x.not_there y.not_there)
+    ∙ sym y.line_is
 line_once words texts line other (inr (inl x)) (inr (inr y)) =
-    absurd (x.not_there (named words texts x.name y.asked y.schema y.equation y.is_asked x.is_named))
+    absurd (x.not_there (named words texts x.name y.asked y.schema y.equation y.is_asked
+    x.is_named))
 line_once words texts line other (inr (inr x)) (inl y) =
-    absurd (y.0 x.asked x.is_asked.schema_name x.is_asked.equation_name x.is_asked.counted x.is_asked.words_are)
+    absurd (y.0 x.asked x.is_asked.schema_name x.is_asked.equation_name x.is_asked.counted
+    x.is_asked.words_are)
 line_once words texts line other (inr (inr x)) (inr (inl y)) =
-    absurd (y.not_there (named words texts y.name x.asked x.schema x.equation x.is_asked y.is_named))
+    absurd (y.not_there (named words texts y.name x.asked x.schema x.equation x.is_asked
+    y.is_named))
 line_once words texts line other (inr (inr x)) (inr (inr y)) =
-    let same = one_request words texts x.asked y.asked x.schema y.schema x.equation y.equation x.is_asked y.is_asked in
-    x.line_is ∙ (λ i. texts_line (schema_of (same.schemas i)) (equation_of (same.equations i))) ∙ sym y.line_is
+    let same = one_request words texts x.asked y.asked x.schema y.schema x.equation y.equation
+    x.is_asked y.is_asked in
+    x.line_is ∙ (λ i. texts_line (schema_of (same.schemas i)) (equation_of (same.equations i)))
+    ∙ sym y.line_is
 
-pub refused_once : (words : List (List ℕ)) (texts : Texts) (why other : Ending) → IsRefused words texts why
-    → IsRefused words texts other → line_of why ≡ line_of other
+pub refused_once : (words : List (List ℕ)) (texts : Texts) (why other : Ending)
+    → IsRefused words texts why
+    → IsRefused words texts other → ending_line why ≡ ending_line other
 refused_once words texts why other x y =
-    line_once words texts (line_of why) (line_of other) (reason words texts why x) (reason words texts other y)
+    line_once words texts (ending_line why) (ending_line other) (reason words texts why x)
+    (reason words texts other y)
 
 -- ---- one script under one schema
 
@@ -222,7 +252,8 @@ played_named (running device) is = tt
 played_named (inspecting device) is = tt
 played_named (working device blocks records) is = is
 
-played_there : (a : Action) (texts : Texts) (name text : List ℕ) → IsToPlay a → IsSchemaOf a texts name text → IsText texts name text
+played_there : (a : Action) (texts : Texts) (name text : List ℕ) → IsToPlay a
+    → IsSchemaOf a texts name text → IsText texts name text
 played_there trying texts name text plays is = is
 played_there (running device) texts name text plays is = is
 played_there checking texts name text plays is = absurd plays
@@ -231,23 +262,31 @@ played_there (making device blocks) texts name text plays is = absurd plays
 played_there (inspecting device) texts name text plays is = absurd plays
 played_there (working device blocks records) texts name text plays is = absurd plays
 
-schema_under : (words : List (List ℕ)) (texts : Texts) (under : List ℕ) (t : Task) → IsUnder words texts under
+schema_under : (words : List (List ℕ)) (texts : Texts) (under : List ℕ) (t : Task)
+    → IsUnder words texts under
     → IsTask words texts t → IsSchemaText under t.schema
 schema_under words texts under t is task =
     let asked = task.accepted.2 in
-    let same = same_words words t.action is.0 asked.schema_name is.1 asked.equation_name is.2 asked.words_are is.3 in
-    let there = played_there t.action texts asked.schema_name task.accepted.0 task.to_play asked.schema_there in
-    subst (λ s. IsSchemaText s t.schema) (text_once texts asked.schema_name is.1 task.accepted.0 under
-    (same.schemas (played_named t.action task.to_play)) there.0 is.4) task.accepted.3.read.schema_means
+    let same = same_words words t.action is.0 asked.schema_name is.1 asked.equation_name is.2
+    asked.words_are is.3 in
+    let there = played_there t.action texts asked.schema_name task.accepted.0 task.to_play
+    asked.schema_there in
+    subst (λ s. IsSchemaText s t.schema)
+    (text_once texts asked.schema_name is.1 task.accepted.0 under
+    (same.schemas (played_named t.action task.to_play)) there.0 is.4)
+    task.accepted.3.read.schema_means
 
 text_of_play : (schema : Schema) (start : State) (script : List ℕ) (end close : End) (a b : List ℕ)
-    (kept left : State) → IsPlayText schema start script end a kept → IsPlayText schema start script close b left → a ≡ b
+    (kept left : State) → IsPlayText schema start script end a kept
+    → IsPlayText schema start script close b left → a ≡ b
 text_of_play schema start script end close a b kept left x y =
-    let once = play_once schema (start_at start) (script_lines script) x.answers y.answers x.final y.final end close x.play y.play in
+    let once = play_once schema (start_at start) (script_lines script) x.answers y.answers x.final
+    y.final end close x.play y.play in
     x.text_is ∙ (λ i. once.0 i ++ end_text (once.2 i)) ∙ sym y.text_is
 
 pub one_script_once : (words others : List (List ℕ)) (before other : Content) (start : State)
-    (text more : List ℕ) → PlayOneScript words others before other → IsWholeText words before start text
+    (text more : List ℕ) → PlayOneScript words others before other
+    → IsWholeText words before start text
     → IsWholeText others other start more → text ≡ more
 one_script_once words others before other start text more one x y =
     let same = one_schema one.schema x.task.schema y.task.schema
@@ -255,4 +294,5 @@ one_script_once words others before other start text more one x y =
     (schema_under others other.aside.texts one.schema y.task one.other_under y.is) in
     text_of_play y.task.schema start other.script x.end y.end text more x.kept y.kept
     (subst (λ (t : List ℕ). IsPlayText y.task.schema start t x.end text x.kept) one.script
-    (subst (λ (k : Schema). IsPlayText k start before.script x.end text x.kept) same x.played)) y.played
+    (subst (λ (k : Schema). IsPlayText k start before.script x.end text x.kept) same x.played))
+    y.played

@@ -23,23 +23,27 @@ use Rattle.gx_operations.proofs.NameLemmas.{other_at}
 
 -- ---- a request that was refused
 
-finish_unrefused : (played : Result (Unit {0}) Ending) (mid new : Content) → IfErr played IsPlayEnding
+finish_unrefused : (played : Result (Unit {0}) Ending) (mid new : Content)
+    → IfErr played IsPlayEnding
     → IsFinished played mid new status.Refused → ⊥
 finish_unrefused (Ok x) mid new ends e = never e.0
   where
     never : status.Refused ≡ status.Done → ⊥
     never f = cc
-finish_unrefused (Err why) mid new ends e = subst IsStopStatus (sym (e.status_is (λ f. cc) (λ f. cc))) (stop_status why ends)
+finish_unrefused (Err why) mid new ends e =
+    subst IsStopStatus (sym (e.status_is (λ f. cc) (λ f. cc))) (stop_status why ends)
 
 refused_device : status.Refused ≡ status.Device → ⊥
 refused_device f = cc
 
-pub unopened_unrefused : (why : Unopened) (mid new : Content) → IsEnded (unopened_ending why) mid new status.Refused → ⊥
+pub unopened_unrefused : (why : Unopened) (mid new : Content)
+    → IsEnded (unopened_ending why) mid new status.Refused → ⊥
 unopened_unrefused unopened.Missing mid new e = refused_device (e.status_is (λ f. cc) (λ f. cc))
 unopened_unrefused unopened.Exists mid new e = refused_device (e.status_is (λ f. cc) (λ f. cc))
 unopened_unrefused unopened.Size mid new e = refused_device (e.status_is (λ f. cc) (λ f. cc))
 unopened_unrefused unopened.NoDatabase mid new e = refused_device (e.status_is (λ f. cc) (λ f. cc))
-unopened_unrefused (unopened.OtherTexts place) mid new e = refused_device (e.status_is (λ f. cc) (λ f. cc))
+unopened_unrefused (unopened.OtherTexts place) mid new e =
+    refused_device (e.status_is (λ f. cc) (λ f. cc))
 unopened_unrefused unopened.Fault mid new e = never (e.status_is (λ f. cc) (λ f. cc))
   where
     never : status.Refused ≡ status.Outside → ⊥
@@ -52,19 +56,27 @@ unopened_unrefused unopened.NoMemory mid new e = never (e.status_is (λ f. cc) (
 -- ---- what is left
 
 pub played_left : (words : List (List ℕ)) (device : List ℕ) (old middle opened mid new : Content)
-    (played : Result (Unit {0}) Ending) (s : Status) → middle.now ≡ old.now → (blocks : List (List ℕ))
-    → device_at middle.now device ≡ Some blocks → ((wrong : DeviceWhy) → IsBefore wrong → IsWrong words old wrong → ⊥)
-    → Attaches device middle opened → opened.now.shelf.name ≡ Some device → mid.now.shelf ≡ opened.now.shelf
-    → SameDevices mid new → IfErr played IsPlayEnding → IsFinished played mid new s → LeavesRun words device old new s
-played_left words device old middle opened mid new played s before blocks there right attaches named shelf same ends finished = record {
-  wrong = λ outside wrong is. found_late wrong (λ early. right wrong early is);
-  missing = λ none. absurd (never (sym none ∙ sym (ap (λ n. device_at n device) before) ∙ there));
-  devices = record {
-    refused = λ e. absurd (finish_unrefused played mid new ends (subst (IsFinished played mid new) e finished));
-    others = λ other differ. other_at opened.now new.now device other named (same.shelf ∙ shelf) differ
-        ∙ attaches.others other differ ∙ ap (λ n. device_at n other) before;
-  };
-}
+    (played : Result (Unit {0}) Ending) (s : Status) → middle.now ≡ old.now
+    → (blocks : List (List ℕ))
+    → device_at middle.now device ≡ Some blocks
+    → ((wrong : DeviceWhy) → IsBefore wrong → IsWrong words old wrong → ⊥)
+    → Attaches device middle opened → opened.now.shelf.name ≡ Some device
+    → mid.now.shelf ≡ opened.now.shelf
+    → SameDevices mid new → IfErr played IsPlayEnding → IsFinished played mid new s
+    → LeavesRun words device old new s
+played_left words device old middle opened mid new played s before blocks there right attaches named
+    shelf same ends finished = record {
+      wrong = λ outside wrong is. found_late wrong (λ early. right wrong early is);
+      missing = λ none. absurd
+          (never (sym none ∙ sym (ap (λ n. device_at n device) before) ∙ there));
+      devices = record {
+        refused = λ e. absurd (finish_unrefused played mid new ends
+            (subst (IsFinished played mid new) e finished));
+        others = λ other differ. other_at opened.now new.now device other named (same.shelf
+            ∙ shelf) differ
+            ∙ attaches.others other differ ∙ ap (λ n. device_at n other) before;
+      };
+    }
   where
     never : ◌≡◌ {A = Option (List (List ℕ))} None (Some blocks) → ⊥
     never f = cc
@@ -78,7 +90,8 @@ played_left words device old middle opened mid new played s before blocks there 
     found_late (device_why.OtherEquation place) late = absurd (late tt)
 
 -- a device that is as it was stays so, however it is wrong
-pub stays_itself : (device : List ℕ) (old new : Content) → device_at new.now device ≡ device_at old.now device
+pub stays_itself : (device : List ℕ) (old new : Content)
+    → device_at new.now device ≡ device_at old.now device
     → (wrong : DeviceWhy) → StaysWrong wrong device old new
 stays_itself device old new same (device_why.OtherEquation place) =
     λ blocks there. (blocks, same ∙ there, (recovery_itself blocks, alike_itself blocks))
@@ -109,19 +122,27 @@ device_once a b e = ap device_or e
     device_or (running d) = d
     device_or other = a
 
-pub ran_by_words : (words : List (List ℕ)) (device other schema name equation term : List ℕ) (old new : Content)
+pub ran_by_words : (words : List (List ℕ)) (device other schema name equation term : List ℕ)
+    (old new : Content)
     (s : Status) → words ≡ request_words (running device) schema equation
     → words ≡ request_words (running other) name term
-    → LeavesRun (request_words (running device) schema equation) device old new s → LeavesRun words other old new s
+    → LeavesRun (request_words (running device) schema equation) device old new s
+    → LeavesRun words other old new s
 ran_by_words words device other schema name equation term old new s is too left =
     subst (λ d. LeavesRun words d old new s)
-    (device_once device other (same_words words (running device) (running other) schema name equation term is too).actions)
+    (device_once device other
+    (same_words words (running device) (running other) schema name equation term is
+    too).actions)
     (subst (λ (ws : List (List ℕ)). LeavesRun ws device old new s) (sym is) left)
 
-pub not_ran : (words : List (List ℕ)) (a : Action) (schema equation : List ℕ) (old new : Content) (s : Status)
-    → words ≡ request_words a schema equation → ((device : List ℕ) → a ≡ running device → ⊥) → LeavesRunBy words old new s
+pub not_ran : (words : List (List ℕ)) (a : Action) (schema equation : List ℕ) (old new : Content)
+    (s : Status)
+    → words ≡ request_words a schema equation → ((device : List ℕ) → a ≡ running device → ⊥)
+    → LeavesRunBy words old new s
 not_ran words a schema equation old new s is never =
-    λ device name term too free. absurd (never device (same_words words a (running device) schema name equation term is too).actions)
+    λ device name term too free. absurd
+    (never device (same_words words a (running device) schema name equation term is
+    too).actions)
 
 pub check_is_no_run : (device : List ℕ) → checking ≡ running device → ⊥
 check_is_no_run device e = cc

@@ -16,7 +16,7 @@ use Rattle.gx_model.specs.Runs.{AreFirstLines}
 use Rattle.gx_play.specs.declared.ending.Ending.{Ending}
 use Rattle.gx_play.specs.declared.ending.Ending.TheVariants as ending
 use Rattle.gx_play.specs.declared.status.Status.TheVariants as status
-use Rattle.gx_play.specs.Endings.{line_of, status_of, memory_line, full_line}
+use Rattle.gx_play.specs.Endings.{ending_line, status_of, memory_line, full_line}
 use Rattle.gx_play.specs.Say.{IsCut}
 use Rattle.gx_play.specs.Played.{SaysKeeping, SaysFrontKeeping, IsPlay, AreFirst, IsPlayText, IsStoppedText, IsMemoryText, IsFullText, IsUnfinishedText}
 use Rattle.gx_play.specs.Plays.{IsPlayedOut, IsPlayedFirst, IsPlayedFull, IsPlayedFront, IsPlayedAs}
@@ -30,7 +30,8 @@ first_parts all ran (Ok (Some line)) first = (line ∷ first.0, first.1)
 first_parts all ran (Ok None) first = ([], first.0 ∙ sym (append-nil ran))
 first_parts all ran (Err why) first = ([], first.0 ∙ sym (append-nil ran))
 
-abbrev all_first : (schema : Schema) (start : State) (script answers : List ℕ) (final : Playing) (end : End)
+abbrev all_first : (schema : Schema) (start : State) (script answers : List ℕ) (final : Playing)
+    (end : End)
     → IsPlay schema start script answers final end → AreFirst schema start script answers
 all_first schema start script answers final end play = record {
   ran = play.ran;
@@ -40,16 +41,19 @@ all_first schema start script answers final end play = record {
   runs = play.runs;
 }
 
-module _ (schema : Schema) (ds : List DefinitionTree) (built : Built) (limit : Option Limits) (start : State)
+module _ (schema : Schema) (ds : List DefinitionTree) (built : Built) (limit : Option Limits)
+    (start : State)
     (Holds : State → Type 0) (trees : IsBuiltOf schema ds built) (old mid new : Content) where
   abbrev As : Result (Unit {0}) Ending → Type 0
   As = IsPlayedAs schema built limit start Holds old.script old.now.said mid.now.said
 
   by_end : (P : Ending → Type 0) (why : Ending) → As (Err why)
       → ((number : ℕ) (reason : LineWhy)
-      → IsPlayedOut schema start Holds old.script old.now.said mid.now.said (stopped number reason) → P (ending.Line number reason))
+      → IsPlayedOut schema start Holds old.script old.now.said mid.now.said (stopped number reason)
+      → P (ending.Line number reason))
       → (IsPlayedFirst schema start Holds old.script old.now.said mid.now.said → P ending.NoMemory)
-      → (IsPlayedFull schema built limit start Holds old.script old.now.said mid.now.said → P ending.Full)
+      → (IsPlayedFull schema built limit start Holds old.script old.now.said mid.now.said
+      → P ending.Full)
       → (IsPlayedFront schema start Holds old.script old.now.said mid.now.said → P ending.Fault)
       → P why
   by_end P (ending.Line number reason) is line memory full fault = line number reason is
@@ -85,18 +89,22 @@ module _ (schema : Schema) (ds : List DefinitionTree) (built : Built) (limit : O
 
   stopped_line : (number : ℕ) (reason : LineWhy)
       → IsPlayedOut schema start Holds old.script old.now.said mid.now.said (stopped number reason)
-      → new.now.said ≡ mid.now.said ++ line_of (ending.Line number reason) → Stopped
+      → new.now.said ≡ mid.now.said ++ ending_line (ending.Line number reason) → Stopped
   stopped_line number reason out said = (
-    out.answers ++ line_of (ending.Line number reason),
+    out.answers ++ ending_line (ending.Line number reason),
     out.final.kept,
     (number, reason, record { answers = out.answers; final = out.final; play = out.play; text_is = refl; kept_is = refl }),
-    behind old.now.said mid.now.said new.now.said out.answers (line_of (ending.Line number reason)) out.said said,
+    behind old.now.said mid.now.said new.now.said out.answers
+        (ending_line (ending.Line number reason))
+        out.said said,
     out.holds,
   )
 
-  pub stopped_row : (why : Ending) → As (Err why) → new.now.said ≡ mid.now.said ++ line_of why → status_of why ≡ status.Script → Stopped
+  pub stopped_row : (why : Ending) → As (Err why) → new.now.said ≡ mid.now.said ++ ending_line why
+      → status_of why ≡ status.Script → Stopped
   stopped_row why is =
-      by_end (λ w. new.now.said ≡ mid.now.said ++ line_of w → status_of w ≡ status.Script → Stopped) why is
+      by_end (λ w. new.now.said ≡ mid.now.said ++ ending_line w → status_of w ≡ status.Script
+      → Stopped) why is
       (λ number reason out said e. stopped_line number reason out said)
       (λ first said e. absurd (memory e))
       (λ full said e. absurd (filled e))
@@ -114,19 +122,23 @@ module _ (schema : Schema) (ds : List DefinitionTree) (built : Built) (limit : O
   abbrev Filled : Type 0
   Filled = SaysKeeping (IsFullText schema ds limit start old.script) Holds old new
 
-  full_text : (full : IsPlayedFull schema built limit start Holds old.script old.now.said mid.now.said)
+  full_text : (full : IsPlayedFull schema built limit start Holds old.script old.now.said
+      mid.now.said)
       → IsFullText schema ds limit start old.script (full.answers ++ full_line) full.final.kept
   full_text full = record {
     answers = full.answers;
     final = full.final;
-    full = full_by_state schema ds built limit start old.script full.answers full.final trees full.full;
+    full = full_by_state schema ds built limit start old.script full.answers full.final trees
+        full.full;
     text_is = refl;
     kept_is = refl;
   }
 
-  pub full_row : (why : Ending) → As (Err why) → new.now.said ≡ mid.now.said ++ line_of why → status_of why ≡ status.Full → Filled
+  pub full_row : (why : Ending) → As (Err why) → new.now.said ≡ mid.now.said ++ ending_line why
+      → status_of why ≡ status.Full → Filled
   full_row why is =
-      by_end (λ w. new.now.said ≡ mid.now.said ++ line_of w → status_of w ≡ status.Full → Filled) why is
+      by_end (λ w. new.now.said ≡ mid.now.said ++ ending_line w → status_of w ≡ status.Full
+      → Filled) why is
       (λ number reason out said e. absurd (script e))
       (λ first said e. absurd (memory e))
       (λ full said e. (
@@ -163,7 +175,8 @@ module _ (schema : Schema) (ds : List DefinitionTree) (built : Built) (limit : O
   }
 
   short : (answers : List ℕ) (first : AreFirst schema start old.script answers)
-      → mid.now.said ≡ old.now.said ++ answers → Holds first.final.kept → new.now.said ≡ mid.now.said ++ memory_line → Short
+      → mid.now.said ≡ old.now.said ++ answers → Holds first.final.kept
+      → new.now.said ≡ mid.now.said ++ memory_line → Short
   short answers first is holds said = (
     answers ++ memory_line,
     first.final.kept,
@@ -172,11 +185,13 @@ module _ (schema : Schema) (ds : List DefinitionTree) (built : Built) (limit : O
     holds,
   )
 
-  pub short_row : (why : Ending) → As (Err why) → why ≢ ending.Fault → new.now.said ≡ mid.now.said ++ memory_line → Short
+  pub short_row : (why : Ending) → As (Err why) → why ≢ ending.Fault
+      → new.now.said ≡ mid.now.said ++ memory_line → Short
   short_row why is =
       by_end (λ w. w ≢ ending.Fault → new.now.said ≡ mid.now.said ++ memory_line → Short) why is
       (λ number reason out other said. short out.answers
-      (all_first schema start old.script out.answers out.final (stopped number reason) out.play) out.said out.holds said)
+      (all_first schema start old.script out.answers out.final (stopped number reason) out.play)
+      out.said out.holds said)
       (λ first other said. short first.answers first.first first.said first.holds said)
       (λ full other said. short full.answers (first_of_full full) full.said full.holds said)
       (λ front other said. absurd (other refl))
@@ -191,7 +206,8 @@ module _ (schema : Schema) (ds : List DefinitionTree) (built : Built) (limit : O
   Front = SaysFrontKeeping (IsUnfinishedText schema ds limit start old.script) Holds old new
 
   short_front : (answers : List ℕ) (first : AreFirst schema start old.script answers) (n : ℕ)
-      → mid.now.said ≡ old.now.said ++ answers → Holds first.final.kept → new.now.said ≡ mid.now.said ++ take n memory_line → Front
+      → mid.now.said ≡ old.now.said ++ answers → Holds first.final.kept
+      → new.now.said ≡ mid.now.said ++ take n memory_line → Front
   short_front answers first n is holds said = (
     answers ++ memory_line,
     first.final.kept,
@@ -201,21 +217,23 @@ module _ (schema : Schema) (ds : List DefinitionTree) (built : Built) (limit : O
   )
 
   line_front : (number : ℕ) (reason : LineWhy)
-      → IsPlayedOut schema start Holds old.script old.now.said mid.now.said (stopped number reason) → (n : ℕ)
-      → new.now.said ≡ mid.now.said ++ take n (line_of (ending.Line number reason)) → Front
+      → IsPlayedOut schema start Holds old.script old.now.said mid.now.said (stopped number reason)
+      → (n : ℕ)
+      → new.now.said ≡ mid.now.said ++ take n (ending_line (ending.Line number reason)) → Front
   line_front number reason out n said = (
-    out.answers ++ line_of (ending.Line number reason),
+    out.answers ++ ending_line (ending.Line number reason),
     out.final.kept,
     inl (number, reason, record { answers = out.answers; final = out.final; play = out.play; text_is = refl; kept_is = refl }),
     (
       length out.answers + n,
       front_behind old.now.said mid.now.said new.now.said out.answers
-          (line_of (ending.Line number reason)) n out.said said,
+          (ending_line (ending.Line number reason)) n out.said said,
     ),
     out.holds,
   )
 
-  full_front : (full : IsPlayedFull schema built limit start Holds old.script old.now.said mid.now.said) (n : ℕ)
+  full_front : (full : IsPlayedFull schema built limit start Holds old.script old.now.said
+      mid.now.said) (n : ℕ)
       → new.now.said ≡ mid.now.said ++ take n full_line → Front
   full_front full n said = (
     full.answers ++ full_line,
@@ -225,24 +243,31 @@ module _ (schema : Schema) (ds : List DefinitionTree) (built : Built) (limit : O
     full.holds,
   )
 
-  fault_front : IsPlayedFront schema start Holds old.script old.now.said mid.now.said → new.now.said ≡ mid.now.said → Cut
-  fault_front front same = subst (λ said. IsPlayedFront schema start Holds old.script old.now.said said) (sym same) front
+  fault_front : IsPlayedFront schema start Holds old.script old.now.said mid.now.said
+      → new.now.said ≡ mid.now.said → Cut
+  fault_front front same =
+      subst (λ said. IsPlayedFront schema start Holds old.script old.now.said said) (sym same) front
 
   cut_of : (answers : List ℕ) (first : AreFirst schema start old.script answers) (line : List ℕ)
-      → mid.now.said ≡ old.now.said ++ answers → Holds first.final.kept → IsCut line memory_line mid new
+      → mid.now.said ≡ old.now.said ++ answers → Holds first.final.kept
+      → IsCut line memory_line mid new
       → ((n : ℕ) → new.now.said ≡ mid.now.said ++ take n line → Front) → Front
   cut_of answers first line is holds (n, inl said) own = own n said
   cut_of answers first line is holds (n, inr said) own = short_front answers first n is holds said
 
   pub front_row : (why : Ending) → As (Err why) → (why ≡ ending.Fault → new.now.said ≡ mid.now.said)
-      → IsCut (line_of why) memory_line mid new → Cut ⊎ Front
+      → IsCut (ending_line why) memory_line mid new → Cut ⊎ Front
   front_row why is =
-      by_end (λ w. (w ≡ ending.Fault → new.now.said ≡ mid.now.said) → IsCut (line_of w) memory_line mid new → Cut ⊎ Front) why is
+      by_end (λ w. (w ≡ ending.Fault → new.now.said ≡ mid.now.said)
+      → IsCut (ending_line w) memory_line mid new → Cut ⊎ Front) why is
       (λ number reason out same cut. inr (cut_of out.answers
       (all_first schema start old.script out.answers out.final (stopped number reason) out.play)
-      (line_of (ending.Line number reason)) out.said out.holds cut (λ n said. line_front number reason out n said)))
-      (λ first same cut. inr (cut_of first.answers first.first memory_line first.said first.holds cut
+      (ending_line (ending.Line number reason)) out.said out.holds cut
+      (λ n said. line_front number reason out n said)))
+      (λ first same cut. inr (cut_of first.answers first.first memory_line first.said first.holds
+      cut
       (λ n said. short_front first.answers first.first n first.said first.holds said)))
-      (λ full same cut. inr (cut_of full.answers (first_of_full full) full_line full.said full.holds cut
+      (λ full same cut. inr (cut_of full.answers (first_of_full full) full_line full.said full.holds
+      cut
       (λ n said. full_front full n said)))
       (λ front same cut. inl (fault_front front (same refl)))

@@ -38,29 +38,37 @@ use Rattle.gx_top.proofs.UnhadLemmas.{IsUnhad}
 
 -- ---- over leaves in memory
 
-abbrev pub try_task : (words : List (List ℕ)) (texts : Texts) (x : Schema × Built) → IsPrepared words texts trying x → Task
-try_task words texts x p = record { action = trying; schema = x.0; definitions = p.definitions; typing = p.typing }
+abbrev pub try_task : (words : List (List ℕ)) (texts : Texts) (x : Schema × Built)
+    → IsPrepared words texts trying x → Task
+try_task words texts x p =
+    record { action = trying; schema = x.0; definitions = p.definitions; typing = p.typing }
 
 trying_not_running : (device : List ℕ) → trying ≡ running device → ⊥
 trying_not_running device e = cc
 
 -- no device is wrong there
-try_not_wrong : (words : List (List ℕ)) (old : Content) (t : Task) (wrong : DeviceWhy) → t.action ≡ trying
+try_not_wrong : (words : List (List ℕ)) (old : Content) (t : Task) (wrong : DeviceWhy)
+    → t.action ≡ trying
     → IsTask words old.aside.texts t → IsWrong words old wrong → ⊥
 try_not_wrong words old t wrong action_is task (inl run) =
     trying_not_running run.device (sym action_is
-    ∙ ap (λ (u : Task). u.action) (one_task words old.aside.texts t run.task task run.is) ∙ run.action_is)
-try_not_wrong words old t wrong action_is task (inr make) = made_no_task words old.aside.texts t make.0 task make.1
+    ∙ ap (λ (u : Task). u.action) (one_task words old.aside.texts t run.task task run.is)
+    ∙ run.action_is)
+try_not_wrong words old t wrong action_is task (inr make) =
+    made_no_task words old.aside.texts t make.0 task make.1
 
 pub try_run : (words : List (List ℕ)) (x : Schema × Built) (old middle mid new : Content)
-    (played : Result (Unit {0}) Ending) (s : Status) (p : IsPrepared words old.aside.texts trying x) → SameContent old middle
-    → IsPlayedAs x.0 x.1 None (empty_state x.0) (λ kept. Unit {0}) middle.script middle.now.said mid.now.said played
+    (played : Result (Unit {0}) Ending) (s : Status) (p : IsPrepared words old.aside.texts trying x)
+    → SameContent old middle
+    → IsPlayedAs x.0 x.1 None (empty_state x.0) (λ kept. Unit {0}) middle.script middle.now.said
+    mid.now.said played
     → (played ≡ Ok tt → mid.script ≡ []) → IfErr played IsPlayEnding → IsFinished played mid new s
     → IsRun words (try_task words old.aside.texts x p) old mid new played s
 try_run words x old middle mid new played s p same is heard ends finished =
     let t = try_task words old.aside.texts x p in
     let task : IsTask words old.aside.texts t = record { to_play = tt; accepted = p.accepted } in
-    let here : IsPlayedAs x.0 x.1 None (empty_state x.0) (λ kept. Unit {0}) old.script old.now.said mid.now.said played =
+    let here : IsPlayedAs x.0 x.1 None (empty_state x.0) (λ kept. Unit {0}) old.script old.now.said
+    mid.now.said played =
     subst (λ (n : List ℕ). IsPlayedAs x.0 x.1 None (empty_state x.0)
     (λ kept. Unit {0}) old.script n mid.now.said played) (ap (λ n. n.said) same.now)
     (subst (λ (l : List ℕ). IsPlayedAs x.0 x.1 None (empty_state x.0)
@@ -71,13 +79,16 @@ try_run words x old middle mid new played s p same is heard ends finished =
       built = x.1;
       trees = p.trees;
       answered = λ limit start from.
-          subst (λ (l : Option Limits). IsPlayedAs x.0 x.1 l start (λ kept. Unit {0}) old.script old.now.said
+          subst (λ (l : Option Limits). IsPlayedAs x.0 x.1 l start (λ kept. Unit {0}) old.script
+          old.now.said
           mid.now.said played) (sym from.0)
-          (subst (λ (k : State). IsPlayedAs x.0 x.1 None k (λ kept. Unit {0}) old.script old.now.said
+          (subst (λ (k : State). IsPlayedAs x.0 x.1 None k (λ kept. Unit {0}) old.script
+          old.now.said
           mid.now.said played) (sym from.1) here);
       heard = λ limit start from ok. heard ok;
       play_ending = ends;
-      damaged = λ block found. absurd (subst (λ (r : Result (Unit {0}) Ending). IsPlayedAs x.0 x.1 None
+      damaged = λ block found. absurd
+          (subst (λ (r : Result (Unit {0}) Ending). IsPlayedAs x.0 x.1 None
           (empty_state x.0) (λ kept. Unit {0}) old.script old.now.said mid.now.said r) found here);
       right = λ wrong early is_wrong. try_not_wrong words old t wrong refl task is_wrong;
       finished = finished;
@@ -87,7 +98,8 @@ try_run words x old middle mid new played s p same is heard ends finished =
 
 abbrev pub run_task : (words : List (List ℕ)) (texts : Texts) (device : List ℕ) (x : Stored)
     → IsStoredFor words texts (running device) x → Task
-run_task words texts device x p = record { action = running device; schema = x.schema; definitions = p.definitions; typing = p.typing }
+run_task words texts device x p =
+    record { action = running device; schema = x.schema; definitions = p.definitions; typing = p.typing }
 
 pub device_once : (a b : List ℕ) → running a ≡ running b → a ≡ b
 device_once a b e = ap device_or e
@@ -98,32 +110,45 @@ device_once a b e = ap device_or e
 
 -- What opening the device of that name under these texts gave: what the blocks held that were there, and how the play went from
 -- it. It speaks of what was before, `middle`, and of the machine with the device, `opened`.
-pub record IsOnStore (device : List ℕ) (x : Stored) (schema equation : List ℕ) (specs : List LeafSpec)
-    (middle opened mid : Content) (limit : Limits) (Reaches : List LeafMap → Type 0) (played : Result (Unit {0}) Ending) : Type 0 where
+pub record IsOnStore (device : List ℕ) (x : Stored) (schema equation : List ℕ)
+    (specs : List LeafSpec)
+    (middle opened mid : Content) (limit : Limits) (Reaches : List LeafMap
+    → Type 0) (played : Result (Unit {0}) Ending) : Type 0 where
   pub said : opened.now.said ≡ middle.now.said
   pub script : opened.script ≡ middle.script
   pub named : opened.now.shelf.name ≡ Some device
   pub shelf : mid.now.shelf ≡ opened.now.shelf
   pub begins : IsPrefix opened.now.said mid.now.said
   pub had : OfBlocks device middle (AreOpened schema equation specs)
-  pub holds : (blocks : List (List ℕ)) (maps : List LeafMap) → device_at middle.now device ≡ Some blocks
+  pub holds : (blocks : List (List ℕ)) (maps : List LeafMap)
+      → device_at middle.now device ≡ Some blocks
       → Reopens schema equation specs maps blocks → Reaches maps
-  pub limit_is : (blocks : List (List ℕ)) → device_at middle.now device ≡ Some blocks → limit ≡ limits_on specs (length blocks)
-  pub answered : (s : State) (maps : List LeafMap) → Reaches maps → AreInternal x.schema x.built maps s
+  pub limit_is : (blocks : List (List ℕ)) → device_at middle.now device ≡ Some blocks
+      → limit ≡ limits_on specs (length blocks)
+  pub answered : (s : State) (maps : List LeafMap) → Reaches maps
+      → AreInternal x.schema x.built maps s
       → IsPlayedAs x.schema x.built (Some limit) s
-      (IsSettledIn x.schema x.built schema equation specs mid.now.blocks) opened.script opened.now.said mid.now.said played
-  pub heard : (s : State) (maps : List LeafMap) → Reaches maps → AreInternal x.schema x.built maps s → played ≡ Ok tt → mid.script ≡ []
+      (IsSettledIn x.schema x.built schema equation specs mid.now.blocks) opened.script
+      opened.now.said mid.now.said played
+  pub heard : (s : State) (maps : List LeafMap) → Reaches maps → AreInternal x.schema x.built maps s
+      → played ≡ Ok tt → mid.script ≡ []
 
 -- the same of the texts and kinds that are read out of what is stored
-pub on_store_told : (device : List ℕ) (x : Stored) (schema equation : List ℕ) (specs : List LeafSpec)
+pub on_store_told : (device : List ℕ) (x : Stored) (schema equation : List ℕ)
+    (specs : List LeafSpec)
     (middle opened mid : Content) (limit : Limits) (Reaches : List LeafMap → Type 0)
     (played : Result (Unit {0}) Ending) → schema ≡ x.schema_text → equation ≡ x.equation_text
-    → specs ≡ x.built.specs → IsOnStore device x schema equation specs middle opened mid limit Reaches played
-    → IsOnStore device x x.schema_text x.equation_text x.built.specs middle opened mid limit Reaches played
+    → specs ≡ x.built.specs
+    → IsOnStore device x schema equation specs middle opened mid limit Reaches played
+    → IsOnStore device x x.schema_text x.equation_text x.built.specs middle opened mid limit Reaches
+    played
 on_store_told device x schema equation specs middle opened mid limit Reaches played p q k is =
-    subst (λ (t : List ℕ). IsOnStore device x t x.equation_text x.built.specs middle opened mid limit Reaches played) p
-    (subst (λ (t : List ℕ). IsOnStore device x schema t x.built.specs middle opened mid limit Reaches played) q
-    (subst (λ (l : List LeafSpec). IsOnStore device x schema equation l middle opened mid limit Reaches played) k is))
+    subst (λ (t : List ℕ). IsOnStore device x t x.equation_text x.built.specs middle opened mid
+    limit Reaches played) p
+    (subst (λ (t : List ℕ). IsOnStore device x schema t x.built.specs middle opened mid limit
+    Reaches played) q
+    (subst (λ (l : List LeafSpec). IsOnStore device x schema equation l middle opened mid limit
+    Reaches played) k is))
 
 pub opened_told : (device : List ℕ) (x : Stored) (schema equation : List ℕ) (specs : List LeafSpec)
     (middle : Content) → schema ≡ x.schema_text → equation ≡ x.equation_text → specs ≡ x.built.specs
@@ -134,7 +159,8 @@ opened_told device x schema equation specs middle p q k is =
     (subst (λ (t : List ℕ). OfBlocks device middle (AreOpened schema t x.built.specs)) q
     (subst (λ (l : List LeafSpec). OfBlocks device middle (AreOpened schema equation l)) k is))
 
-pub unopened_told : (device : List ℕ) (x : Stored) (schema equation : List ℕ) (specs : List LeafSpec)
+pub unopened_told : (device : List ℕ) (x : Stored) (schema equation : List ℕ)
+    (specs : List LeafSpec)
     (middle : Content) (why : Unopened) → schema ≡ x.schema_text → equation ≡ x.equation_text
     → specs ≡ x.built.specs → IsUnopened device schema equation specs middle why
     → IsUnopened device x.schema_text x.equation_text x.built.specs middle why
@@ -151,16 +177,20 @@ module _ (words : List (List ℕ)) (device : List ℕ) (x : Stored) (old middle 
   abbrev pub run_is_task : IsTask words old.aside.texts Run
   run_is_task = record { to_play = tt; accepted = p.accepted }
 
-  there : (blocks : List (List ℕ)) → device_at old.now device ≡ Some blocks → device_at middle.now device ≡ Some blocks
+  there : (blocks : List (List ℕ)) → device_at old.now device ≡ Some blocks
+      → device_at middle.now device ≡ Some blocks
   there blocks is = subst (λ n. device_at n device ≡ Some blocks) (sym same.now) is
 
   reopens : (maps : List LeafMap) (blocks : List (List ℕ))
       → Reopens (schema_text x.schema) (equation_text p.definitions) p.typing.specs maps blocks
       → Reopens x.schema_text x.equation_text x.built.specs maps blocks
   reopens maps blocks is =
-      subst (λ (t : List ℕ). Reopens t x.equation_text x.built.specs maps blocks) (sym p.schema_text_is)
-      (subst (λ (t : List ℕ). Reopens (schema_text x.schema) t x.built.specs maps blocks) (sym p.equation_text_is)
-      (subst (λ (k : List LeafSpec). Reopens (schema_text x.schema) (equation_text p.definitions) k maps blocks) (sym p.specs_are) is))
+      subst (λ (t : List ℕ). Reopens t x.equation_text x.built.specs maps blocks)
+      (sym p.schema_text_is)
+      (subst (λ (t : List ℕ). Reopens (schema_text x.schema) t x.built.specs maps blocks)
+      (sym p.equation_text_is)
+      (subst (λ (k : List LeafSpec). Reopens (schema_text x.schema) (equation_text p.definitions) k
+      maps blocks) (sym p.specs_are) is))
 
   had_texts : (blocks : List (List ℕ)) → HasTexts x.schema_text x.equation_text blocks
       → HasTexts (schema_text x.schema) (equation_text p.definitions) blocks
@@ -168,51 +198,71 @@ module _ (words : List (List ℕ)) (device : List ℕ) (x : Stored) (old middle 
       subst (λ (t : List ℕ). HasTexts t (equation_text p.definitions) blocks) p.schema_text_is
       (subst (λ (t : List ℕ). HasTexts x.schema_text t blocks) p.equation_text_is is)
 
-  had_opened : (blocks : List (List ℕ)) → AreOpened x.schema_text x.equation_text x.built.specs blocks
+  had_opened : (blocks : List (List ℕ))
+      → AreOpened x.schema_text x.equation_text x.built.specs blocks
       → AreOpened (schema_text x.schema) (equation_text p.definitions) p.typing.specs blocks
   had_opened blocks is =
-      subst (λ (t : List ℕ). AreOpened t (equation_text p.definitions) p.typing.specs blocks) p.schema_text_is
+      subst (λ (t : List ℕ). AreOpened t (equation_text p.definitions) p.typing.specs blocks)
+      p.schema_text_is
       (subst (λ (t : List ℕ). AreOpened x.schema_text t p.typing.specs blocks) p.equation_text_is
-      (subst (λ (k : List LeafSpec). AreOpened x.schema_text x.equation_text k blocks) p.specs_are is))
+      (subst (λ (k : List LeafSpec). AreOpened x.schema_text x.equation_text k blocks) p.specs_are
+      is))
 
   -- a device that was opened is wrong in no way that is seen before
   pub not_wrong : OfBlocks device middle (AreOpened x.schema_text x.equation_text x.built.specs)
       → (wrong : DeviceWhy) → IsBefore wrong → IsWrong words old wrong → ⊥
   not_wrong had wrong early (inl run) =
       let same_task = one_task words old.aside.texts run.task Run run.is run_is_task in
-      let same_device : run.device ≡ device = device_once run.device device (sym run.action_is ∙ ap (λ (u : Task). u.action) same_task) in
-      had_not_wrong device Run old wrong had.0 (subst (λ n. device_at n device ≡ Some had.0) same.now had.1)
-      (subst (λ k. IsSize k (length had.0)) p.specs_are had.2.size) had.2.magic (had_texts had.0 had.2.texts) early
-      (subst (λ d. IsWrongOn d Run old wrong) same_device (subst (λ u. IsWrongOn run.device u old wrong) same_task run.wrong))
-  not_wrong had wrong early (inr make) = made_no_task words old.aside.texts Run make.0 run_is_task make.1
+      let same_device : run.device ≡ device =
+      device_once run.device device (sym run.action_is ∙ ap (λ (u : Task). u.action) same_task)
+      in
+      had_not_wrong device Run old wrong had.0
+      (subst (λ n. device_at n device ≡ Some had.0) same.now had.1)
+      (subst (λ k. IsSize k (length had.0)) p.specs_are had.2.size) had.2.magic
+      (had_texts had.0 had.2.texts) early
+      (subst (λ d. IsWrongOn d Run old wrong) same_device
+      (subst (λ u. IsWrongOn run.device u old wrong) same_task run.wrong))
+  not_wrong had wrong early (inr make) =
+      made_no_task words old.aside.texts Run make.0 run_is_task make.1
 
   -- where the device that is opened holds a state
   module _ (opened mid : Content) (limit : Limits) (Reaches : List LeafMap → Type 0)
-      (played : Result (Unit {0}) Ending) (o : IsOnStore device x x.schema_text x.equation_text x.built.specs
+      (played : Result (Unit {0}) Ending)
+      (o : IsOnStore device x x.schema_text x.equation_text x.built.specs
       middle opened mid limit Reaches played) where
-    reached : (bound : Option Limits) (start : State) → (h : IsHeldOn Run device old bound start) → Reaches h.maps
-    reached bound start h = o.holds h.blocks h.maps (there h.blocks h.there) (reopens h.maps h.blocks h.reopens)
+    reached : (bound : Option Limits) (start : State) → (h : IsHeldOn Run device old bound start)
+        → Reaches h.maps
+    reached bound start h =
+        o.holds h.blocks h.maps (there h.blocks h.there) (reopens h.maps h.blocks h.reopens)
 
     internal : (bound : Option Limits) (start : State) → (h : IsHeldOn Run device old bound start)
         → AreInternal x.schema x.built h.maps start
     internal bound start h =
-        same_internal x.schema p.definitions h.internal.built x.built h.maps start h.internal.trees p.trees h.internal.is
+        same_internal x.schema p.definitions h.internal.built x.built h.maps start h.internal.trees
+        p.trees h.internal.is
 
-    limit_from : (bound : Option Limits) (start : State) → IsHeldOn Run device old bound start → Some limit ≡ bound
+    limit_from : (bound : Option Limits) (start : State) → IsHeldOn Run device old bound start
+        → Some limit ≡ bound
     limit_from bound start h =
-        ap Some (o.limit_is h.blocks (there h.blocks h.there) ∙ ap (λ k. limits_on k (length h.blocks)) p.specs_are) ∙ sym h.limit_is
+        ap Some (o.limit_is h.blocks (there h.blocks h.there)
+        ∙ ap (λ k. limits_on k (length h.blocks)) p.specs_are) ∙ sym h.limit_is
 
     abbrev Settled : State → Type 0
-    Settled = IsSettledIn x.schema x.built x.schema_text x.equation_text x.built.specs mid.now.blocks
+    Settled = IsSettledIn x.schema x.built x.schema_text x.equation_text x.built.specs
+        mid.now.blocks
 
     from_start : (bound : Option Limits) (start : State) → IsHeldOn Run device old bound start
-        → IsPlayedAs x.schema x.built bound start Settled old.script old.now.said mid.now.said played
+        → IsPlayedAs x.schema x.built bound start Settled old.script old.now.said mid.now.said
+        played
     from_start bound start h =
-        subst (λ (l : Option Limits). IsPlayedAs x.schema x.built l start Settled old.script old.now.said
+        subst (λ (l : Option Limits). IsPlayedAs x.schema x.built l start Settled old.script
+        old.now.said
         mid.now.said played) (limit_from bound start h)
-        (subst (λ (n : List ℕ). IsPlayedAs x.schema x.built (Some limit) start Settled old.script n mid.now.said
+        (subst (λ (n : List ℕ). IsPlayedAs x.schema x.built (Some limit) start Settled old.script n
+        mid.now.said
         played) (o.said ∙ ap (λ n. n.said) same.now)
-        (subst (λ (l : List ℕ). IsPlayedAs x.schema x.built (Some limit) start Settled l opened.now.said
+        (subst (λ (l : List ℕ). IsPlayedAs x.schema x.built (Some limit) start Settled l
+        opened.now.said
         mid.now.said played) (o.script ∙ same.script)
         (o.answered start h.maps (reached bound start h) (internal bound start h))))
 
@@ -220,25 +270,32 @@ module _ (words : List (List ℕ)) (device : List ℕ) (x : Stored) (old middle 
         → IsSettled x.schema_text x.equation_text x.built.specs maps blocks
         → IsSettled (schema_text x.schema) (equation_text p.definitions) p.typing.specs maps blocks
     settled_texts maps blocks is =
-        subst (λ (t : List ℕ). IsSettled t (equation_text p.definitions) p.typing.specs maps blocks) p.schema_text_is
-        (subst (λ (t : List ℕ). IsSettled x.schema_text t p.typing.specs maps blocks) p.equation_text_is
-        (subst (λ (k : List LeafSpec). IsSettled x.schema_text x.equation_text k maps blocks) p.specs_are is))
+        subst (λ (t : List ℕ). IsSettled t (equation_text p.definitions) p.typing.specs maps blocks)
+        p.schema_text_is
+        (subst (λ (t : List ℕ). IsSettled x.schema_text t p.typing.specs maps blocks)
+        p.equation_text_is
+        (subst (λ (k : List LeafSpec). IsSettled x.schema_text x.equation_text k maps blocks)
+        p.specs_are is))
 
     -- what is said then changes nothing of the device
-    left : (new : Content) → SameDevices mid new → (s : State) → Settled s → IsSettledOn Run device new s
+    left : (new : Content) → SameDevices mid new → (s : State) → Settled s
+        → IsSettledOn Run device new s
     left new devices s is = record {
       blocks = new.now.blocks;
-      there = named_at new.now device (ap (λ (h : Shelf). h.name) devices.shelf ∙ ap (λ (h : Shelf). h.name) o.shelf ∙ o.named);
+      there = named_at new.now device (ap (λ (h : Shelf). h.name) devices.shelf
+          ∙ ap (λ (h : Shelf). h.name) o.shelf ∙ o.named);
       maps = is.0;
       settled = subst (λ (b : List (List ℕ)). IsSettled (schema_text x.schema)
-          (equation_text p.definitions) p.typing.specs is.0 b) (sym devices.blocks) (settled_texts is.0 mid.now.blocks is.1);
+          (equation_text p.definitions) p.typing.specs is.0 b) (sym devices.blocks)
+          (settled_texts is.0 mid.now.blocks is.1);
       internal = record { built = x.built; trees = p.trees; is = is.2 };
     }
 
     had : IsOpenedOn Run device old
     had = (o.had.0, subst (λ n. device_at n device ≡ Some o.had.0) same.now o.had.1, had_opened o.had.0 o.had.2)
 
-    pub device_run : (new : Content) (s : Status) → IfErr played IsPlayEnding → IsFinished played mid new s
+    pub device_run : (new : Content) (s : Status) → IfErr played IsPlayEnding
+        → IsFinished played mid new s
         → SameDevices mid new → IsRun words Run old mid new played s
     device_run new s ends finished devices = record {
       task = run_is_task;
@@ -246,8 +303,10 @@ module _ (words : List (List ℕ)) (device : List ℕ) (x : Stored) (old middle 
       built = x.built;
       trees = p.trees;
       answered = λ bound start h. held_as x.schema x.built bound start Settled
-          (IsSettledOn Run device new) old.script old.now.said mid.now.said played (left new devices) (from_start bound start h);
-      heard = λ bound start h ok. o.heard start h.maps (reached bound start h) (internal bound start h) ok;
+          (IsSettledOn Run device new) old.script old.now.said mid.now.said played
+          (left new devices) (from_start bound start h);
+      heard = λ bound start h ok. o.heard start h.maps (reached bound start h)
+          (internal bound start h) ok;
       play_ending = ends;
       damaged = λ block found. (
         inl (record {
@@ -257,11 +316,14 @@ module _ (words : List (List ℕ)) (device : List ℕ) (x : Stored) (old middle 
           action_is = refl;
           wrong = record {
             had = had;
-            stateless = λ bound start h. subst (λ (r : Result (Unit {0}) Ending). IsPlayedAs x.schema x.built
-                bound start Settled old.script old.now.said mid.now.said r) found (from_start bound start h);
+            stateless = λ bound start h.
+                subst (λ (r : Result (Unit {0}) Ending). IsPlayedAs x.schema x.built
+                bound start Settled old.script old.now.said mid.now.said r) found
+                (from_start bound start h);
           };
         }),
-        subst (λ (n : List ℕ). IsPrefix n mid.now.said) (o.said ∙ ap (λ n. n.said) same.now) o.begins,
+        subst (λ (n : List ℕ). IsPrefix n mid.now.said) (o.said ∙ ap (λ n. n.said) same.now)
+            o.begins,
       );
       right = not_wrong o.had;
       finished = finished;
@@ -269,29 +331,40 @@ module _ (words : List (List ℕ)) (device : List ℕ) (x : Stored) (old middle 
 
   -- ---- a device that isn't opened
 
-  unopened_texts : (why : Unopened) → IsUnopened device x.schema_text x.equation_text x.built.specs middle why
-      → IsUnopened device (schema_text x.schema) (equation_text p.definitions) p.typing.specs middle why
+  unopened_texts : (why : Unopened)
+      → IsUnopened device x.schema_text x.equation_text x.built.specs middle why
+      → IsUnopened device (schema_text x.schema) (equation_text p.definitions) p.typing.specs middle
+      why
   unopened_texts why is =
-      subst (λ (t : List ℕ). IsUnopened device t (equation_text p.definitions) p.typing.specs middle why) p.schema_text_is
-      (subst (λ (t : List ℕ). IsUnopened device x.schema_text t p.typing.specs middle why) p.equation_text_is
-      (subst (λ (k : List LeafSpec). IsUnopened device x.schema_text x.equation_text k middle why) p.specs_are is))
+      subst (λ (t : List ℕ). IsUnopened device t (equation_text p.definitions) p.typing.specs middle
+      why) p.schema_text_is
+      (subst (λ (t : List ℕ). IsUnopened device x.schema_text t p.typing.specs middle why)
+      p.equation_text_is
+      (subst (λ (k : List LeafSpec). IsUnopened device x.schema_text x.equation_text k middle why)
+      p.specs_are is))
 
   wrong_as : (wrong : DeviceWhy) → IsWrongOn device Run old wrong → IsWrong words old wrong
-  wrong_as wrong is = inl (record { task = Run; is = run_is_task; device = device; action_is = refl; wrong = is })
+  wrong_as wrong is = inl
+      (record { task = Run; is = run_is_task; device = device; action_is = refl; wrong = is })
 
-  back : (blocks : List (List ℕ)) → device_at middle.now device ≡ Some blocks → device_at old.now device ≡ Some blocks
+  back : (blocks : List (List ℕ)) → device_at middle.now device ≡ Some blocks
+      → device_at old.now device ≡ Some blocks
   back blocks is = subst (λ n. device_at n device ≡ Some blocks) same.now is
 
   by_why : (why : Unopened) → IsUnopened device (schema_text x.schema)
-      (equation_text p.definitions) p.typing.specs middle why → IsUnhad words old (unopened_ending why)
-  by_why unopened.Missing is = (wrong_as device_why.Missing (subst (λ n. device_at n device ≡ None) same.now is), tt)
+      (equation_text p.definitions) p.typing.specs middle why
+      → IsUnhad words old (unopened_ending why)
+  by_why unopened.Missing is =
+      (wrong_as device_why.Missing (subst (λ n. device_at n device ≡ None) same.now is), tt)
   by_why unopened.Exists is = absurd is.2
   by_why unopened.Size is = (wrong_as device_why.Size (is.0, back is.0 is.1, is.2), tt)
   by_why unopened.NoDatabase is = (wrong_as device_why.NoDatabase (is.0, back is.0 is.1, is.2), tt)
-  by_why (unopened.OtherTexts place) is = (wrong_as (device_why.OtherEquation place) (is.0, back is.0 is.1, is.2), tt)
+  by_why (unopened.OtherTexts place) is =
+      (wrong_as (device_why.OtherEquation place) (is.0, back is.0 is.1, is.2), tt)
   by_why unopened.Fault is = tt
   by_why unopened.NoMemory is = tt
 
   pub unopened_unhad : (why : Unopened)
-      → IsUnopened device x.schema_text x.equation_text x.built.specs middle why → IsUnhad words old (unopened_ending why)
+      → IsUnopened device x.schema_text x.equation_text x.built.specs middle why
+      → IsUnhad words old (unopened_ending why)
   unopened_unhad why is = by_why why (unopened_texts why is)

@@ -20,7 +20,7 @@ use Rattle.gx_play.specs.declared.ending.Ending.{Ending}
 use Rattle.gx_play.specs.declared.ending.Ending.TheVariants as ending
 use Rattle.gx_play.specs.declared.status.Status.{Status}
 use Rattle.gx_play.specs.declared.status.Status.TheVariants as status
-use Rattle.gx_play.specs.Endings.{status_of, memory_line, full_line, device_line, line_of, IsEnded}
+use Rattle.gx_play.specs.Endings.{status_of, memory_line, full_line, device_line, ending_line, IsEnded}
 use Rattle.gx_play.specs.Played.{SaysFront, MayBeFullAt}
 use Rattle.gx_play.specs.Say.{IsCut, SameDevices}
 use Rattle.gx_requests.specs.declared.opened.Stored.{Stored}
@@ -41,7 +41,8 @@ use Rattle.gx_top.proofs.CompleteLemmas.{same_words, one_acceptance, task_not_wo
 -- ---- what was said of the workload, or that there was no memory
 
 abbrev pub IsWorkedOr : Task → List ℕ → ℕ → ℕ → Content → Content → Status → Type 0
-IsWorkedOr t device blocks records old new status.Memory = new.now.said ≡ old.now.said ++ memory_line
+IsWorkedOr t device blocks records old new status.Memory =
+    new.now.said ≡ old.now.said ++ memory_line
 IsWorkedOr t device blocks records old new s = IsWorked t device blocks records old new s
 
 pub record WorksOr (words : List (List ℕ)) (old new : Content) (s : Status) : Type 0 where
@@ -59,7 +60,8 @@ record Asks : Type 0 where
   pub number : List ℕ
 
 asks_of : Action → Asks
-asks_of (working device digits number) = record { device = device; digits = digits; number = number }
+asks_of (working device digits number) =
+    record { device = device; digits = digits; number = number }
 asks_of other = record { device = []; digits = []; number = [] }
 
 record SameWork {words : List (List ℕ)} {texts : Texts} {blocks count records many : ℕ}
@@ -74,19 +76,23 @@ one_work : (words : List (List ℕ)) (texts : Texts) (blocks count records many 
 unfolding asks_of
 one_work words texts blocks count records many r q =
     let same = one_acceptance words texts (working r.device r.digits r.number)
-    (working q.device q.digits q.number) r.schema q.schema r.definitions q.definitions r.typing q.typing r.accepted q.accepted in
+    (working q.device q.digits q.number) r.schema q.schema r.definitions q.definitions r.typing
+    q.typing r.accepted q.accepted in
     let asks = ap asks_of same.actions in
     record {
       devices = ap (λ (a : Asks). a.device) asks;
       tasks = λ i. record { action = same.actions i; schema = same.schemas i; definitions = same.definitions i; typing = same.typings i };
-      counts = sym r.counted.value_is ∙ ap (λ (w : List ℕ). digits_value w) (ap (λ (a : Asks). a.digits) asks) ∙ q.counted.value_is;
+      counts = sym r.counted.value_is
+          ∙ ap (λ (w : List ℕ). digits_value w) (ap (λ (a : Asks). a.digits) asks)
+          ∙ q.counted.value_is;
       numbers = sym r.recorded.count.value_is ∙ ap (λ (w : List ℕ). digits_value w)
           (ap (λ (a : Asks). a.number) asks) ∙ q.recorded.count.value_is;
     }
 
 -- what was said, as another reading of the words has it
 row_of : (words : List (List ℕ)) (old new : Content) (s : Status) (count many : ℕ)
-    (q : IsToWork words old.aside.texts count many) (w : WorksOr words old new s) → IsWorkedOr (worked q) q.device count many old new s
+    (q : IsToWork words old.aside.texts count many) (w : WorksOr words old new s)
+    → IsWorkedOr (worked q) q.device count many old new s
 row_of words old new s count many q w =
     let same = one_work words old.aside.texts w.blocks count w.records many w.request q in
     subst (λ (x : Task × List ℕ × ℕ × ℕ). IsWorkedOr x.0 x.1 x.2 x.3 old new s)
@@ -94,16 +100,22 @@ row_of words old new s count many q w =
 
 -- ---- how the request ends
 
-work_said : (words : List (List ℕ)) (old new : Content) (s : Status) → WorksOr words old new s → IsSaid words old new s
+work_said : (words : List (List ℕ)) (old new : Content) (s : Status) → WorksOr words old new s
+    → IsSaid words old new s
 work_said words old new status.Done w =
-    inr (inr (inr (inr (record { blocks = w.blocks; records = w.records; request = w.request; row = w.row }))))
-work_said words old new status.Full w = inr (record { blocks = w.blocks; records = w.records; request = w.request; row = w.row })
-work_said words old new status.Device w = inr (inr (record { blocks = w.blocks; records = w.records; request = w.request; row = w.row }))
+    inr (inr (inr (inr (record
+    { blocks = w.blocks; records = w.records; request = w.request; row = w.row }))))
+work_said words old new status.Full w =
+    inr (record { blocks = w.blocks; records = w.records; request = w.request; row = w.row })
+work_said words old new status.Device w =
+    inr (inr (record { blocks = w.blocks; records = w.records; request = w.request; row = w.row }))
 work_said words old new status.Outside w =
-    inr (inr (inr (inr (record { blocks = w.blocks; records = w.records; request = w.request; row = w.row }))))
+    inr (inr (inr (inr (record
+    { blocks = w.blocks; records = w.records; request = w.request; row = w.row }))))
 work_said words old new status.Memory w = inl (record {
   said = w.row;
-  starts = λ t task. absurd (task_not_worked words old.aside.texts t w.blocks w.records task w.request);
+  starts = λ t task. absurd
+      (task_not_worked words old.aside.texts t w.blocks w.records task w.request);
 })
 work_said words old new status.Script w = absurd w.row
 work_said words old new status.Refused w = absurd w.row
@@ -112,8 +124,10 @@ pub work_end : (words : List (List ℕ)) (old new : Content) (s : Status) → Wo
     → new.script ≡ old.script → IsOutcome words old new s
 work_end words old new s w unheard = record {
   said = work_said words old new s w;
-  heard = λ done t task limit start from. absurd (task_not_worked words old.aside.texts t w.blocks w.records task w.request);
-  heard_explained = λ done r. absurd (explained_not_worked words old.aside.texts w.blocks w.records r w.request);
+  heard = λ done t task limit start from. absurd
+      (task_not_worked words old.aside.texts t w.blocks w.records task w.request);
+  heard_explained = λ done r. absurd
+      (explained_not_worked words old.aside.texts w.blocks w.records r w.request);
   unheard = λ none other. unheard;
   unheard_wrong = λ wrong. unheard;
 }
@@ -121,52 +135,68 @@ work_end words old new s w unheard = record {
 -- ---- the status that is due
 
 can_status : (words : List (List ℕ)) (old new : Content) (s : Status) (can : CanWork words old)
-    → IsWorkedOr (worked can.request) can.request.device can.blocks can.records old new s → s ≢ status.Outside
+    → IsWorkedOr (worked can.request) can.request.device can.blocks can.records old new s
+    → s ≢ status.Outside
     → (s ≡ status.Done) ⊎ (s ≡ status.Memory)
 can_status words old new status.Done can row outside = inl refl
 can_status words old new status.Memory can row outside = inr refl
-can_status words old new status.Full can row outside = absurd (can.roomy row.1.1.answers row.1.1.final row.1.1.full)
+can_status words old new status.Full can row outside =
+    absurd (can.roomy row.1.1.answers row.1.1.final row.1.1.full)
 can_status words old new status.Device can row outside = absurd (can.right row.1.0 row.1.1)
 can_status words old new status.Outside can row outside = absurd (outside refl)
 can_status words old new status.Script can row outside = absurd row
 can_status words old new status.Refused can row outside = absurd row
 
-unworkable_status : (words : List (List ℕ)) (old new : Content) (s : Status) (un : IsUnworkable words old)
-    → IsWorkedOr (worked un.request) un.request.device un.blocks un.records old new s → s ≢ status.Outside
+unworkable_status : (words : List (List ℕ)) (old new : Content) (s : Status)
+    (un : IsUnworkable words old)
+    → IsWorkedOr (worked un.request) un.request.device un.blocks un.records old new s
+    → s ≢ status.Outside
     → (s ≡ status.Device) ⊎ (s ≡ status.Memory)
 unworkable_status words old new status.Device un row outside = inl refl
 unworkable_status words old new status.Memory un row outside = inr refl
 unworkable_status words old new status.Done un row outside =
-    absurd (not_both un.request.typing.specs un.request.device un.blocks old un.why row.0.0 row.0.1 un.wrong)
+    absurd (not_both un.request.typing.specs un.request.device un.blocks old un.why row.0.0 row.0.1
+    un.wrong)
 unworkable_status words old new status.Full un row outside =
-    absurd (not_both un.request.typing.specs un.request.device un.blocks old un.why row.0.0 row.0.1 un.wrong)
+    absurd (not_both un.request.typing.specs un.request.device un.blocks old un.why row.0.0 row.0.1
+    un.wrong)
 unworkable_status words old new status.Outside un row outside = absurd (outside refl)
 unworkable_status words old new status.Script un row outside = absurd row
 unworkable_status words old new status.Refused un row outside = absurd row
 
-pub work_due : (words : List (List ℕ)) (old new : Content) (s : Status) → WorksOr words old new s → IsAsDue words old s
+pub work_due : (words : List (List ℕ)) (old new : Content) (s : Status) → WorksOr words old new s
+    → IsAsDue words old s
 work_due words old new s w due can outside = by_due due can
   where
     by_due : (due : Status) → IsDueStatus words old due → (s ≡ due) ⊎ (s ≡ status.Memory)
-    by_due status.Done (inl (t, task, play)) = absurd (task_not_worked words old.aside.texts t w.blocks w.records task w.request)
-    by_due status.Done (inr (inl checkable)) = absurd (checked_not_worked words old w.blocks w.records checkable w.request)
+    by_due status.Done (inl (t, task, play)) =
+        absurd (task_not_worked words old.aside.texts t w.blocks w.records task w.request)
+    by_due status.Done (inr (inl checkable)) =
+        absurd (checked_not_worked words old w.blocks w.records checkable w.request)
     by_due status.Done (inr (inr (inl make))) =
-        absurd (made_not_worked words old.aside.texts make.blocks w.blocks w.records make.request w.request)
+        absurd (made_not_worked words old.aside.texts make.blocks w.blocks w.records make.request
+        w.request)
     by_due status.Done (inr (inr (inr (inl (r, text, ends))))) =
         absurd (explained_not_worked words old.aside.texts w.blocks w.records r w.request)
     by_due status.Done (inr (inr (inr (inr (inl sound))))) =
         absurd (inspected_not_worked words old.aside.texts w.blocks w.records sound.0 w.request)
     by_due status.Done (inr (inr (inr (inr (inr can))))) =
-        can_status words old new s can (row_of words old new s can.blocks can.records can.request w) outside
+        can_status words old new s can (row_of words old new s can.blocks can.records can.request w)
+        outside
     by_due status.Script (number, why, inl (t, task, play)) =
         absurd (task_not_worked words old.aside.texts t w.blocks w.records task w.request)
     by_due status.Script (number, why, inr (r, text, ends)) =
         absurd (explained_not_worked words old.aside.texts w.blocks w.records r w.request)
-    by_due status.Device (inl wrong) = absurd (wrong_not_worked words old wrong.why w.blocks w.records wrong.wrong w.request)
-    by_due status.Device (inr (inl wrong)) = absurd (inspected_not_worked words old.aside.texts w.blocks w.records wrong.0 w.request)
+    by_due status.Device (inl wrong) =
+        absurd (wrong_not_worked words old wrong.why w.blocks w.records wrong.wrong w.request)
+    by_due status.Device (inr (inl wrong)) =
+        absurd (inspected_not_worked words old.aside.texts w.blocks w.records wrong.0 w.request)
     by_due status.Device (inr (inr un)) =
-        unworkable_status words old new s un (row_of words old new s un.blocks un.records un.request w) outside
-    by_due status.Refused refused = absurd (worked_not_refused words old.aside.texts w.blocks w.records refused.0 w.request refused.1)
+        unworkable_status words old new s un
+        (row_of words old new s un.blocks un.records un.request w) outside
+    by_due status.Refused refused =
+        absurd (worked_not_refused words old.aside.texts w.blocks w.records refused.0 w.request
+        refused.1)
     by_due status.Memory due = absurd due
     by_due status.Full due = absurd due
     by_due status.Outside due = absurd due
@@ -176,17 +206,21 @@ work_due words old new s w due can outside = by_due due can
 -- the device that can't be had stays
 device_left : (x : Stored) (device : List ℕ) (count records : ℕ) (middle mid new : Content)
     (r : Result (List ℕ) Ending) (s : Status) → IsWorking x device count records middle mid r
-    → IsTold r mid new s → s ≡ status.Device → device_at mid.now device ≡ device_at middle.now device
-device_left x device count records middle mid new (Ok line) s is (inl told) e = never (sym e ∙ told.0)
+    → IsTold r mid new s → s ≡ status.Device
+    → device_at mid.now device ≡ device_at middle.now device
+device_left x device count records middle mid new (Ok line) s is (inl told) e =
+    never (sym e ∙ told.0)
   where
     never : {A : Type 0} → status.Device ≡ status.Done → A
     never f = absurd (let g : ⊥ = cc in g)
-device_left x device count records middle mid new (Ok line) s is (inr told) e = never (sym e ∙ told.0)
+device_left x device count records middle mid new (Ok line) s is (inr told) e =
+    never (sym e ∙ told.0)
   where
     never : {A : Type 0} → status.Device ≡ status.Outside → A
     never f = absurd (let g : ⊥ = cc in g)
 device_left x device count records middle mid new (Err why) s is told e =
-    by_why why is (sym (told.status_is (λ f. not_outside (sym e ∙ f)) (λ f. not_memory (sym e ∙ f))) ∙ e)
+    by_why why is (sym (told.status_is (λ f. not_outside (sym e ∙ f)) (λ f. not_memory (sym e ∙ f)))
+    ∙ e)
   where
     not_outside : status.Device ≡ status.Outside → ⊥
     not_outside f = cc
@@ -213,7 +247,8 @@ device_left x device count records middle mid new (Err why) s is told e =
 
 -- such a request isn't refused
 told_unrefused : (x : Stored) (device : List ℕ) (count records : ℕ) (middle mid new : Content)
-    (r : Result (List ℕ) Ending) → IsWorking x device count records middle mid r → IsTold r mid new status.Refused → ⊥
+    (r : Result (List ℕ) Ending) → IsWorking x device count records middle mid r
+    → IsTold r mid new status.Refused → ⊥
 told_unrefused x device count records middle mid new (Ok line) is (inl told) = never told.0
   where
     never : status.Refused ≡ status.Done → ⊥
@@ -222,9 +257,11 @@ told_unrefused x device count records middle mid new (Ok line) is (inr told) = n
   where
     never : status.Refused ≡ status.Outside → ⊥
     never f = cc
-told_unrefused x device count records middle mid new (Err why) is told = by_why why is (told.status_is (λ f. cc) (λ f. cc))
+told_unrefused x device count records middle mid new (Err why) is told =
+    by_why why is (told.status_is (λ f. cc) (λ f. cc))
   where
-    by_why : (why : Ending) → IsWorking x device count records middle mid (Err why) → status.Refused ≡ status_of why → ⊥
+    by_why : (why : Ending) → IsWorking x device count records middle mid (Err why)
+        → status.Refused ≡ status_of why → ⊥
     by_why (ending.Device why) is d = cc
     by_why ending.Full is d = cc
     by_why ending.NoMemory is d = cc
@@ -265,14 +302,16 @@ module _ (words : List (List ℕ)) (device digits number : List ℕ) (count reco
   abbrev pub Asked : Task
   Asked = worked Request
 
-  typed : (P : List ℕ → List ℕ → List LeafSpec → Type 0) → P x.schema_text x.equation_text x.built.specs
+  typed : (P : List ℕ → List ℕ → List LeafSpec → Type 0)
+      → P x.schema_text x.equation_text x.built.specs
       → P (schema_text x.schema) (equation_text p.definitions) p.typing.specs
   typed P is =
       subst (λ t. P t (equation_text p.definitions) p.typing.specs) p.schema_text_is
       (subst (λ t. P x.schema_text t p.typing.specs) p.equation_text_is
       (subst (λ k. P x.schema_text x.equation_text k) p.specs_are is))
 
-  module _ (mid new : Content) (devices : SameDevices mid new) (unsaid : mid.now.said ≡ middle.now.said) where
+  module _ (mid new : Content) (devices : SameDevices mid new)
+      (unsaid : mid.now.said ≡ middle.now.said) where
     said_before : mid.now.said ≡ old.now.said
     said_before = unsaid ∙ ap (λ n. n.said) same.now
 
@@ -286,13 +325,15 @@ module _ (words : List (List ℕ)) (device digits number : List ℕ) (count reco
       internal = record { built = x.built; trees = p.trees; is = is.2 };
     }
 
-    free_for : (P : List (List ℕ) → Type 0) → IsNewDevice x device count middle mid P → IsFreeFor Asked device count old
+    free_for : (P : List (List ℕ) → Type 0) → IsNewDevice x device count middle mid P
+        → IsFreeFor Asked device count old
     free_for P made =
         (subst (λ (ks : List LeafSpec). IsSize ks count) p.specs_are made.size, sym (ap (λ n. device_at n device) same.now) ∙ made.free)
 
     -- played to its end
     text_of : (line : List ℕ) → (made : IsNewDevice x device count middle mid
-        (λ after. IsPlayedOn x count records after (Ok line))) → IsWorkText Asked device count records new line
+        (λ after. IsPlayedOn x count records after (Ok line)))
+        → IsWorkText Asked device count records new line
     unfolding settled_on
     text_of line made =
         let out = made.left.2 in
@@ -307,7 +348,8 @@ module _ (words : List (List ℕ)) (device digits number : List ℕ) (count reco
 
     -- up to a full device
     full_of : (made : IsNewDevice x device count middle mid
-        (λ after. IsPlayedOn x count records after (Err ending.Full))) → IsWorkFull Asked device count records new full_line
+        (λ after. IsPlayedOn x count records after (Err ending.Full)))
+        → IsWorkFull Asked device count records new full_line
     unfolding settled_on
     full_of made =
         let out = made.left.2 in
@@ -315,17 +357,21 @@ module _ (words : List (List ℕ)) (device digits number : List ℕ) (count reco
           answers = out.answers;
           final = out.final;
           full =
-              full_by_state work_schema p.definitions x.built (Some (limits_on p.typing.specs count))
+              full_by_state work_schema p.definitions x.built
+              (Some (limits_on p.typing.specs count))
               (empty_state work_schema) (work_script records) out.answers out.final
               (subst (λ (k : Schema). IsBuiltOf k p.definitions x.built) is_work p.trees)
-              (subst (λ (ks : List LeafSpec). MayBeFullAt work_schema x.built (Some (limits_on ks count))
-              (empty_state work_schema) (work_script records) out.answers out.final) p.specs_are out.full);
+              (subst (λ (ks : List LeafSpec). MayBeFullAt work_schema x.built
+              (Some (limits_on ks count))
+              (empty_state work_schema) (work_script records) out.answers out.final) p.specs_are
+              out.full);
           settled = settled_on made.left.0 out.final.kept made.left.1 out.holds;
           count = made.many;
           text_is = refl;
         }
 
-    unmade : (why : DeviceWhy) → IsUnmakable x.built.specs device count middle why → IsUnmakable Asked.typing.specs device count old why
+    unmade : (why : DeviceWhy) → IsUnmakable x.built.specs device count middle why
+        → IsUnmakable Asked.typing.specs device count old why
     unmade device_why.Exists h =
         (subst (λ (ks : List LeafSpec). IsSize ks count) p.specs_are h.0, subst (λ m. IsSome (device_at m device)) same.now h.1)
     unmade device_why.Size h = subst (λ (ks : List LeafSpec). ¬ IsSize ks count) p.specs_are h
@@ -340,22 +386,34 @@ module _ (words : List (List ℕ)) (device digits number : List ℕ) (count reco
     Row = IsWorkedOr Asked device count records old new
 
     cut_front : (line : List ℕ) → IsWorkedText Asked device count records old new line
-        → IsCut line memory_line mid new → SaysFront (IsWorkedText Asked device count records old new) old new
-    cut_front line found (n, inl said) = (line, found, (n, said ∙ ap (λ s. s ++ take n line) said_before))
-    cut_front line found (n, inr said) = (memory_line, inr (inr (inr refl)), (n, said ∙ ap (λ s. s ++ take n memory_line) said_before))
+        → IsCut line memory_line mid new
+        → SaysFront (IsWorkedText Asked device count records old new) old new
+    cut_front line found (n, inl said) =
+        (line, found, (n, said ∙ ap (λ s. s ++ take n line) said_before))
+    cut_front line found (n, inr said) =
+        (memory_line, inr (inr (inr refl)), (n, said ∙ ap (λ s. s ++ take n memory_line) said_before))
 
     -- an ending whose line is said with its status
-    ended : (why : Ending) (s : Status) → IsWorkedText Asked device count records old new (line_of why)
-        → (new.now.said ≡ mid.now.said ++ line_of why → Row (status_of why)) → IsEnded why mid new s → Row s
-    ended why status.Outside found main e = cut_front (line_of why) found (e.cut refl)
+    ended : (why : Ending) (s : Status)
+        → IsWorkedText Asked device count records old new (ending_line why)
+        → (new.now.said ≡ mid.now.said ++ ending_line why → Row (status_of why))
+        → IsEnded why mid new s
+        → Row s
+    ended why status.Outside found main e = cut_front (ending_line why) found (e.cut refl)
     ended why status.Memory found main e = e.memory refl ∙ ap (λ s. s ++ memory_line) said_before
-    ended why status.Done found main e = subst Row (sym (e.status_is (λ f. cc) (λ f. cc))) (main (e.said (λ f. cc) (λ f. cc)))
-    ended why status.Refused found main e = subst Row (sym (e.status_is (λ f. cc) (λ f. cc))) (main (e.said (λ f. cc) (λ f. cc)))
-    ended why status.Script found main e = subst Row (sym (e.status_is (λ f. cc) (λ f. cc))) (main (e.said (λ f. cc) (λ f. cc)))
-    ended why status.Full found main e = subst Row (sym (e.status_is (λ f. cc) (λ f. cc))) (main (e.said (λ f. cc) (λ f. cc)))
-    ended why status.Device found main e = subst Row (sym (e.status_is (λ f. cc) (λ f. cc))) (main (e.said (λ f. cc) (λ f. cc)))
+    ended why status.Done found main e =
+        subst Row (sym (e.status_is (λ f. cc) (λ f. cc))) (main (e.said (λ f. cc) (λ f. cc)))
+    ended why status.Refused found main e =
+        subst Row (sym (e.status_is (λ f. cc) (λ f. cc))) (main (e.said (λ f. cc) (λ f. cc)))
+    ended why status.Script found main e =
+        subst Row (sym (e.status_is (λ f. cc) (λ f. cc))) (main (e.said (λ f. cc) (λ f. cc)))
+    ended why status.Full found main e =
+        subst Row (sym (e.status_is (λ f. cc) (λ f. cc))) (main (e.said (λ f. cc) (λ f. cc)))
+    ended why status.Device found main e =
+        subst Row (sym (e.status_is (λ f. cc) (λ f. cc))) (main (e.said (λ f. cc) (λ f. cc)))
 
-    not_played : (why : Ending) (s : Status) → IsWorking x device count records middle mid (Err why) → IsEnded why mid new s → Row s
+    not_played : (why : Ending) (s : Status) → IsWorking x device count records middle mid (Err why)
+        → IsEnded why mid new s → Row s
     not_played (ending.Device why) s is e =
         ended (ending.Device why) s (inr (inr (inl (why, unmade why is.0, refl))))
         (λ said. (device_line why, (why, unmade why is.0, refl), said ∙ ap (λ t. t ++ device_line why) said_before)) e
@@ -366,9 +424,11 @@ module _ (words : List (List ℕ)) (device digits number : List ℕ) (count reco
           (full_line, full_of is, said ∙ ap (λ t. t ++ full_line) said_before),
         )) e
     not_played ending.NoMemory s is e =
-        ended ending.NoMemory s (inr (inr (inr refl))) (λ said. said ∙ ap (λ t. t ++ memory_line) said_before) e
+        ended ending.NoMemory s (inr (inr (inr refl))) (λ said. said
+        ∙ ap (λ t. t ++ memory_line) said_before) e
     not_played ending.Fault s is e =
-        subst Row (sym (e.fault refl)) (memory_line, inr (inr (inr refl)), (0, e.silent refl ∙ said_before ∙ sym (append-nil old.now.said)))
+        subst Row (sym (e.fault refl))
+        (memory_line, inr (inr (inr refl)), (0, e.silent refl ∙ said_before ∙ sym (append-nil old.now.said)))
     not_played ending.Words s is e = absurd is
     not_played (ending.Missing name) s is e = absurd is
     not_played (ending.TooLong name) s is e = absurd is
@@ -381,7 +441,8 @@ module _ (words : List (List ℕ)) (device digits number : List ℕ) (count reco
     not_played (ending.Made blocks pages) s is e = absurd is
 
     played_row : (line : List ℕ) (s : Status)
-        → (made : IsNewDevice x device count middle mid (λ after. IsPlayedOn x count records after (Ok line)))
+        → (made : IsNewDevice x device count middle mid
+        (λ after. IsPlayedOn x count records after (Ok line)))
         → IsTold (Ok line) mid new s → Row s
     played_row line s made (inl told) =
         subst Row (sym told.0) (
@@ -391,24 +452,29 @@ module _ (words : List (List ℕ)) (device digits number : List ℕ) (count reco
     played_row line s made (inr told) =
         subst Row (sym told.0) (line, inl (text_of line made), (told.1.0, told.1.1 ∙ ap (λ t. t ++ take told.1.0 line) said_before))
 
-    pub work_row : (r : Result (List ℕ) Ending) (s : Status) → IsWorking x device count records middle mid r → IsTold r mid new s → Row s
+    pub work_row : (r : Result (List ℕ) Ending) (s : Status)
+        → IsWorking x device count records middle mid r → IsTold r mid new s → Row s
     work_row (Ok line) s is told = played_row line s is told
     work_row (Err why) s is told = not_played why s is told
 
-    pub working_of : (r : Result (List ℕ) Ending) (s : Status) → IsWorking x device count records middle mid r
+    pub working_of : (r : Result (List ℕ) Ending) (s : Status)
+        → IsWorking x device count records middle mid r
         → IsTold r mid new s → WorksOr words old new s
-    working_of r s is told = record { blocks = count; records = records; request = Request; row = work_row r s is told }
+    working_of r s is told =
+        record { blocks = count; records = records; request = Request; row = work_row r s is told }
 
     -- ---- what is left of the devices
 
     holds_first : (blocks : List (List ℕ)) → device_at mid.now device ≡ Some blocks
         → HoldsFirst x records blocks → HoldsWork Asked device records new blocks
-    holds_first blocks there (inl none) = inl (typed (λ schema equation specs. IsNoneOrEmpty schema equation specs blocks) none)
+    holds_first blocks there (inl none) =
+        inl (typed (λ schema equation specs. IsNoneOrEmpty schema equation specs blocks) none)
     holds_first blocks there (inr first) =
         inr (record { answers = first.answers; first = first.first; settled = settled_on blocks first.first.final.kept there first.holds })
 
     full_first : (made : IsNewDevice x device count middle mid
-        (λ after. IsPlayedOn x count records after (Err ending.Full))) → IsWorkFirst Asked device records new
+        (λ after. IsPlayedOn x count records after (Err ending.Full)))
+        → IsWorkFirst Asked device records new
     full_first made =
         let out = made.left.2 in
         record {
@@ -417,12 +483,16 @@ module _ (words : List (List ℕ)) (device digits number : List ℕ) (count reco
           settled = settled_on made.left.0 out.final.kept made.left.1 out.holds;
         }
 
-    first_by : (why : Ending) → IsWorking x device count records middle mid (Err why) → (why ≡ ending.Fault → ⊥)
-        → device_at middle.now device ≡ None → (blocks : List (List ℕ)) → device_at mid.now device ≡ Some blocks
+    first_by : (why : Ending) → IsWorking x device count records middle mid (Err why)
+        → (why ≡ ending.Fault → ⊥)
+        → device_at middle.now device ≡ None → (blocks : List (List ℕ))
+        → device_at mid.now device ≡ Some blocks
         → HoldsWork Asked device records new blocks
-    first_by ending.NoMemory is fault none blocks there = holds_first blocks there (is none blocks there)
+    first_by ending.NoMemory is fault none blocks there =
+        holds_first blocks there (is none blocks there)
     first_by ending.Full is fault none blocks there = inr (full_first is)
-    first_by (ending.Device why) is fault none blocks there = absurd (not_there blocks (sym none ∙ sym is.1 ∙ there))
+    first_by (ending.Device why) is fault none blocks there =
+        absurd (not_there blocks (sym none ∙ sym is.1 ∙ there))
     first_by ending.Fault is fault none blocks there = absurd (fault refl)
     first_by ending.Words is fault none blocks there = absurd is
     first_by (ending.Missing name) is fault none blocks there = absurd is
@@ -436,39 +506,51 @@ module _ (words : List (List ℕ)) (device digits number : List ℕ) (count reco
     first_by (ending.Made blocks pages) is fault none others there = absurd is
 
     memory_left : (r : Result (List ℕ) Ending) → IsWorking x device count records middle mid r
-        → IsTold r mid new status.Memory → device_at middle.now device ≡ None → (blocks : List (List ℕ))
+        → IsTold r mid new status.Memory → device_at middle.now device ≡ None
+        → (blocks : List (List ℕ))
         → device_at mid.now device ≡ Some blocks → HoldsWork Asked device records new blocks
-    memory_left (Ok line) is (inl told) none blocks there = absurd (let e : status.Memory ≡ status.Done = told.0 in cc)
-    memory_left (Ok line) is (inr told) none blocks there = absurd (let e : status.Memory ≡ status.Outside = told.0 in cc)
+    memory_left (Ok line) is (inl told) none blocks there =
+        absurd (let e : status.Memory ≡ status.Done = told.0 in cc)
+    memory_left (Ok line) is (inr told) none blocks there =
+        absurd (let e : status.Memory ≡ status.Outside = told.0 in cc)
     memory_left (Err why) is told none blocks there =
-        first_by why is (λ f. let e : status.Memory ≡ status.Outside = told.fault f in cc) none blocks there
+        first_by why is (λ f. let e : status.Memory ≡ status.Outside = told.fault f in
+        cc) none blocks there
 
     pub work_left : Attaches device middle mid → KeepsDevice device middle mid
         → (r : Result (List ℕ) Ending) (s : Status) → IsWorking x device count records middle mid r
         → IsTold r mid new s → LeavesWorked words device old new s
     work_left attaches keeps r s is told = record {
       wrong = λ e. devices_same mid new devices device
-          ∙ device_left x device count records middle mid new r s is told e ∙ ap (λ n. device_at n device) same.now;
+          ∙ device_left x device count records middle mid new r s is told e
+          ∙ ap (λ n. device_at n device) same.now;
       memory = λ e none blocks there others many q.
           let one = one_work words old.aside.texts count others records many Request q in
-          subst (λ (y : Task × ℕ). HoldsWork y.0 device y.1 new blocks) (λ i. (one.tasks i, one.numbers i))
-          (memory_left r is (subst (IsTold r mid new) e told) (ap (λ n. device_at n device) same.now ∙ none)
+          subst (λ (y : Task × ℕ). HoldsWork y.0 device y.1 new blocks)
+          (λ i. (one.tasks i, one.numbers i))
+          (memory_left r is (subst (IsTold r mid new) e told) (ap (λ n. device_at n device) same.now
+          ∙ none)
           blocks (sym (devices_same mid new devices device) ∙ there));
-      there = λ blocks was. devices_same mid new devices device ∙ keeps blocks (ap (λ n. device_at n device) same.now ∙ was);
+      there = λ blocks was. devices_same mid new devices device
+          ∙ keeps blocks (ap (λ n. device_at n device) same.now ∙ was);
       devices = record {
-        refused = λ e. absurd (told_unrefused x device count records middle mid new r is (subst (IsTold r mid new) e told));
-        others = λ other differ. devices_same mid new devices other ∙ attaches.others other differ ∙ ap (λ n. device_at n other) same.now;
+        refused = λ e. absurd (told_unrefused x device count records middle mid new r is
+            (subst (IsTold r mid new) e told));
+        others = λ other differ. devices_same mid new devices other ∙ attaches.others other differ
+            ∙ ap (λ n. device_at n other) same.now;
       };
     }
 
 -- ---- a request that isn't carried out
 
-pub unprepared_worked : (words : List (List ℕ)) (device : List ℕ) (old mid new : Content) (s : Status)
+pub unprepared_worked : (words : List (List ℕ)) (device : List ℕ) (old mid new : Content)
+    (s : Status)
     → mid.now ≡ old.now → SameDevices mid new → LeavesWorked words device old new s
 unprepared_worked words device old mid new s before same = record {
   wrong = λ e. stays_at device;
   there = λ blocks was. stays_at device ∙ was;
-  memory = λ e none blocks there count records r. absurd (not_there blocks (sym (stays_at device ∙ none) ∙ there));
+  memory = λ e none blocks there count records r. absurd
+      (not_there blocks (sym (stays_at device ∙ none) ∙ there));
   devices = unprepared_devices device old mid new s before same;
 }
   where
@@ -478,19 +560,27 @@ unprepared_worked words device old mid new s before same = record {
 -- ---- of the words
 
 pub worked_by_words : (words : List (List ℕ))
-    (device digits number other blocks many schema name equation term : List ℕ) (old new : Content) (s : Status)
-    → words ≡ request_words (working device digits number) schema equation → words ≡ request_words (working other blocks many) name term
-    → LeavesWorked (request_words (working device digits number) schema equation) device old new s → LeavesWorked words other old new s
+    (device digits number other blocks many schema name equation term : List ℕ) (old new : Content)
+    (s : Status)
+    → words ≡ request_words (working device digits number) schema equation
+    → words ≡ request_words (working other blocks many) name term
+    → LeavesWorked (request_words (working device digits number) schema equation) device old new s
+    → LeavesWorked words other old new s
 unfolding asks_of
-worked_by_words words device digits number other blocks many schema name equation term old new s is too left =
+worked_by_words words device digits number other blocks many schema name equation term old new s is
+    too left =
     subst (λ d. LeavesWorked words d old new s)
     (ap (λ (a : Asks). a.device) (ap asks_of
-    (same_words words (working device digits number) (working other blocks many) schema name equation term is too).actions))
+    (same_words words (working device digits number) (working other blocks many) schema name
+    equation term is too).actions))
     (subst (λ (ws : List (List ℕ)). LeavesWorked ws device old new s) (sym is) left)
 
 pub not_worked : (words : List (List ℕ)) (a : Action) (schema equation : List ℕ) (old new : Content)
     (s : Status) → words ≡ request_words a schema equation
-    → ((device digits number : List ℕ) → a ≡ working device digits number → ⊥) → LeavesWorkedBy words old new s
+    → ((device digits number : List ℕ) → a ≡ working device digits number → ⊥)
+    → LeavesWorkedBy words old new s
 not_worked words a schema equation old new s is never =
     λ device digits number name term counted too free. absurd
-    (never device digits number (same_words words a (working device digits number) schema name equation term is too).actions)
+    (never device digits number
+    (same_words words a (working device digits number) schema name equation term is
+    too).actions)

@@ -7,7 +7,7 @@ use Rattle.gx_commands.specs.Commands.{place_reason}
 use Rattle.gx_script.specs.Grammar.{IsLineOf}
 use Rattle.gx_types.specs.declared.built.Built.{Built}
 use Rattle.gx_model.specs.States.{State}
-use Rattle.gx_model.specs.Play.{seen_state, is_inside, next_of}
+use Rattle.gx_model.specs.Play.{seen_state, is_inside, after_command}
 use Rattle.gx_states.specs.Internal.{state_entries}
 use Rattle.gx_engine.specs.Moments.{MayWantRoom}
 use Rattle.gx_play.specs.Played.{AreFirst}
@@ -25,5 +25,5 @@ AreEnough schema built l start script =
     → first.later ≡ line ∷ later → IsLineOf schema line command
     → place_reason (is_inside first.final) command ≡ None
     → MayWantRoom schema first.final command
-    → need l built (seen_state first.final) (seen_state (next_of schema first.final command))
+    → need l built (seen_state first.final) (seen_state (after_command schema first.final command))
     ≤ l.pages

@@ -13,7 +13,7 @@ use Rattle.gx_model.specs.Play.{Playing, End, good, stopped}
 use Rattle.gx_play.specs.declared.ending.Ending.{Ending}
 use Rattle.gx_play.specs.declared.status.Status.{Status}
 use Rattle.gx_play.specs.declared.status.Status.TheVariants as status
-use Rattle.gx_play.specs.Endings.{line_of, status_of, memory_line}
+use Rattle.gx_play.specs.Endings.{ending_line, status_of, memory_line}
 use Rattle.gx_requests.specs.Requests.{IsRefused, IsAccepted}
 use Rattle.gx_play.specs.Summaries.{summary_of, accepted_line}
 use Rattle.gx_play.specs.Played.{SaysText, SaysFront, SaysKeeping, SaysFrontKeeping, IsPlay, IsPlayText, IsStoppedText, IsMemoryText, MayBeFull, IsFullText, IsUnfinishedText}
@@ -33,7 +33,7 @@ pub record IsRefusalText (words : List (List ℕ)) (before : Content) (text : Li
   pub ending : Ending
   pub refused : IsRefused words before.aside.texts ending
   pub status_is : status_of ending ≡ status.Refused
-  pub text_is : text ≡ line_of ending
+  pub text_is : text ≡ ending_line ending
 
 -- the line of the leaves of the accepted texts that are to be checked
 abbrev pub IsAcceptedText : List (List ℕ) → Content → List ℕ → Type 0

@@ -12,7 +12,7 @@ ghost use Rattle.gx_model.specs.States.{State};
 ghost use Rattle.gx_store.specs.Device.{Reopens};
 ghost use Rattle.gx_requests.specs.Words.{texts_of};
 ghost use Rattle.gx_play.specs.Built.{IsBuiltOf};
-ghost use Rattle.gx_play.specs.Endings.{line_of};
+ghost use Rattle.gx_play.specs.Endings.{ending_line};
 ghost use Rattle.gx_play.specs.Played.{MayBeFull};
 ghost use Rattle.gx_requests.specs.Requests.{IsRefused};
 ghost use Rattle.gx_top.specs.Needs.{AreEnough};
@@ -22,7 +22,7 @@ ghost use Rattle.gx_top.specs.Tries.{IsWholeText, PlayOneScript};
 pub fn one_reason(words: &[String])
     ensures { (texts : Texts) (why other : TheEnding)
         → IsRefused (texts_of words.now) texts why → IsRefused (texts_of words.now) texts other
-        → line_of why ≡ line_of other }
+        → ending_line why ≡ ending_line other }
 {}
 
 /// All requests that play one script under one schema from one state, each to its end or to the

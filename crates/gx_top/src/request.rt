@@ -61,12 +61,12 @@ use std::alloc::Global;
 /// After `Done`, `Script`, `Full` and `Memory` of `run` the device is settled with the last state
 /// that the lines kept which were answered; after `Memory` where none was, it may also hold exactly
 /// the states that it held. After `Outside` it is settled with the last state that first lines
-/// kept, and these are all of whose answers anything was said; or all of their answers was said,
-/// and the next line is a commit. Where no line was answered, it may hold the states that it held,
-/// or nothing was said and no block of it was written but by recovery. After `Refused` all devices
-/// are as they were. With any status but `Outside` so is one of another size or with no magic, and
-/// one of other texts reads as before, and no block of it was written but by recovery. Whatever it
-/// answers, no device is made, and those of other names are as they were.
+/// kept, of whose answers all was said but perhaps an end of the last one's; or all of their
+/// answers was said, and the next line is a commit. Where no line was answered, it may hold the
+/// states that it held, or nothing was said and no block of it was written but by recovery. After
+/// `Refused` all devices are as they were. With any status but `Outside` so is one of another size
+/// or with no magic, and one of other texts reads as before, and no block of it was written but by
+/// recovery. Whatever it answers, no device is made, and those of other names are as they were.
 ///
 /// After `Done` of `inspect` the device is settled with the state that it held. With any status but
 /// `Outside` one that held a state holds it, one that can be opened is opened with what it held,

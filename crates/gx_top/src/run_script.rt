@@ -19,10 +19,11 @@ use std::alloc::Global;
 /// the device is another than was asked for. Where the device held a state, it is settled after
 /// `Done`, `Script` and `Full`, and after `Memory` where the answer of a line was said, with the
 /// last state that was kept; after `Memory` with no answer so, or it holds what it held. After
-/// `Outside` it is settled so for the lines of whose answers anything was said, unless the next
-/// line is a commit; or no line was answered. With any status but `Outside` a device that is wrong
-/// stays as it was, but that recovery may have settled one of other texts. No line is answered on
-/// one that is wrong. None is made, devices of other names stay, and after `Refused` all.
+/// `Outside` it is settled so for the lines whose answers were said, but perhaps for an end of the
+/// last one's, unless the next line is a commit; or no line was answered. With any status but
+/// `Outside` a device that is wrong stays as it was, but that recovery may have settled one of
+/// other texts. No line is answered on one that is wrong. None is made, devices of other names
+/// stay, and after `Refused` all.
 pub fn run_script<M: Machine + Drop>(
     alloc: Global,
     schema: &str,

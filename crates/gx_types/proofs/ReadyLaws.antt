@@ -18,7 +18,7 @@ use Rattle.gx_partition.specs.Places.{kind_at, IsPlace}
 use Rattle.gx_partition.specs.declared.place.Where.{Where}
 use Rattle.gx_partition.specs.declared.place.Where.TheVariants.{Key, Rest}
 use Rattle.gx_equation.specs.declared.heads.Head.{Head}
-use Rattle.gx_equation.specs.Trees.{Tree, Trees, node, kid}
+use Rattle.gx_equation.specs.Trees.{TermTree, Trees, node, kid}
 use Rattle.gx_types.specs.FileForms.{IsFileForm}
 use Rattle.gx_equation.specs.Printing.{IsTerm}
 use Rattle.gx_types.proofs.FormLaws.{kept}
@@ -31,10 +31,12 @@ use Rattle.gx_typing.specs.Typing.{count}
 
 -- ---- children
 
-pub kids_ready : (n : ℕ) (form : Form) (top : Head) (kids : Trees) → IsReady n form (node top kids) → AreReady n (kid_form top form) 0 kids
+pub kids_ready : (n : ℕ) (form : Form) (top : Head) (kids : Trees) → IsReady n form (node top kids)
+    → AreReady n (kid_form top form) 0 kids
 kids_ready n form top kids r = go r.levels r.few_levels r.term r.records
   where
-    go : (levels : ℕ) → levels ≤ 16 → IsTerm levels (node top kids) → IsFileForm levels form → AreReady n (kid_form top form) 0 kids
+    go : (levels : ℕ) → levels ≤ 16 → IsTerm levels (node top kids) → IsFileForm levels form
+        → AreReady n (kid_form top form) 0 kids
     go zero le term fits = absurd term
     go (suc levels) le term fits =
         let few : n + (leaves_at top + leaf_counts kids) ≤ 255 = r.few in
@@ -42,17 +44,20 @@ kids_ready n form top kids r = go r.levels r.few_levels r.term r.records
           levels = levels;
           few_levels = omega arith;
           terms = term.2;
-          records = λ c from below. kept top form (count kids) levels term.0 r.typed.0 (omega arith) fits c (omega arith);
+          records = λ c from below. kept top form (count kids) levels term.0 r.typed.0
+              (omega arith) fits c (omega arith);
           typed = r.typed.1;
           few = omega arith;
         }
 
-pub first_ready : (n : ℕ) (forms : ℕ → Form) (i : ℕ) (t : Tree) (ts : Trees) → AreReady n forms i (kid t ts) → IsReady n (forms i) t
+pub first_ready : (n : ℕ) (forms : ℕ → Form) (i : ℕ) (t : TermTree) (ts : Trees)
+    → AreReady n forms i (kid t ts) → IsReady n (forms i) t
 first_ready n forms i t ts r =
     let few : n + (leaf_count t + leaf_counts ts) ≤ 255 = r.few in
     record { levels = r.levels; few_levels = r.few_levels; term = r.terms.0; records = r.records i (omega arith) (omega arith); typed = r.typed.0; few = omega arith }
 
-pub others_ready : (n : ℕ) (forms : ℕ → Form) (i : ℕ) (t : Tree) (ts : Trees) → AreReady n forms i (kid t ts) → AreReady (n + leaf_count t) forms (suc i) ts
+pub others_ready : (n : ℕ) (forms : ℕ → Form) (i : ℕ) (t : TermTree) (ts : Trees)
+    → AreReady n forms i (kid t ts) → AreReady (n + leaf_count t) forms (suc i) ts
 others_ready n forms i t ts r =
     let few : n + (leaf_count t + leaf_counts ts) ≤ 255 = r.few in
     record {
@@ -73,9 +78,11 @@ other_name a b ne = go (pointwise nat_eq a b) refl
     go true e = absurd (ne ((bytes_decides a b).0 e))
     go false e = refl
 
-pub first_kind_is : (fs : List Field) (name : List ℕ) (i : ℕ) → IsFirstOf fs name i → (i < length fs) × (kind_in fs name ≡ Some (slice_index_or fs i no_field).kind)
+pub first_kind_is : (fs : List Field) (name : List ℕ) (i : ℕ) → IsFirstOf fs name i
+    → (i < length fs) × (kind_in fs name ≡ Some (slice_index_or fs i no_field).kind)
 first_kind_is [] name i is = absurd is
-first_kind_is (f ∷ fs) name zero is = (omega arith, cond-true (pointwise nat_eq f.name name) _ _ ((bytes_decides f.name name).1 is))
+first_kind_is (f ∷ fs) name zero is =
+    (omega arith, cond-true (pointwise nat_eq f.name name) _ _ ((bytes_decides f.name name).1 is))
 first_kind_is (f ∷ fs) name (suc i) is =
     let more = first_kind_is fs name i is.1 in
     (omega arith, cond-false (pointwise nat_eq f.name name) _ _ (other_name f.name name is.0) ∙ more.1)
@@ -84,12 +91,15 @@ pub within : (form : Form) (name : List ℕ) (at : Where) → IsPlaceOf form nam
 within form name (Key i) is = (first_kind_is form.keys name i is).0
 within form name (Rest i) is = (first_kind_is form.fields name i is.1).0
 
-pub kind_is : (form : Form) (name : List ℕ) (at : Where) (kind : Kind) → IsPlaceOf form name at → IsField form name kind → kind_at at form ≡ kind
-kind_is form name (Key i) kind is (inl field) = some_same (sym (first_kind_is form.keys name i is).1 ∙ field)
+pub kind_is : (form : Form) (name : List ℕ) (at : Where) (kind : Kind) → IsPlaceOf form name at
+    → IsField form name kind → kind_at at form ≡ kind
+kind_is form name (Key i) kind is (inl field) =
+    some_same (sym (first_kind_is form.keys name i is).1 ∙ field)
   where
     some_same : {a b : Kind} → ◌≡◌ {A = Option Kind} (Some a) (Some b) → a ≡ b
     some_same e = cc
-kind_is form name (Key i) kind is (inr field) = absurd (no_some (sym (first_kind_is form.keys name i is).1 ∙ field.no_key))
+kind_is form name (Key i) kind is (inr field) =
+    absurd (no_some (sym (first_kind_is form.keys name i is).1 ∙ field.no_key))
   where
     no_some : {a : Kind} → ◌≡◌ {A = Option Kind} (Some a) None → ⊥
     no_some e = cc
@@ -97,7 +107,8 @@ kind_is form name (Rest i) kind is (inl field) = absurd (no_some (sym field ∙ 
   where
     no_some : {a : Kind} → ◌≡◌ {A = Option Kind} (Some a) None → ⊥
     no_some e = cc
-kind_is form name (Rest i) kind is (inr field) = some_same (sym (first_kind_is form.fields name i is.1).1 ∙ field.is)
+kind_is form name (Rest i) kind is (inr field) =
+    some_same (sym (first_kind_is form.fields name i is.1).1 ∙ field.is)
   where
     some_same : {a b : Kind} → ◌≡◌ {A = Option Kind} (Some a) (Some b) → a ≡ b
     some_same e = cc
@@ -111,13 +122,16 @@ bound_fits (kinds.Text most) (values.Text t) is sized = is
 bound_fits (kinds.Text most) (values.Bytes t) is sized = absurd is
 bound_fits (kinds.Bytes most) v is sized = absurd is
 
-pub bounds_fit : (k : Kind) (vs : List Value) → AllByRecursion (IsBoundFor k) vs → AreSized vs → AllByRecursion (Fits k) vs
+pub bounds_fit : (k : Kind) (vs : List Value) → AllByRecursion (IsBoundFor k) vs → AreSized vs
+    → AllByRecursion (Fits k) vs
 bounds_fit k [] are sized = tt
 bounds_fit k (v ∷ vs) are sized = (bound_fits k v are.0 sized.0, bounds_fit k vs are.1 sized.1)
 
-below_all : (a b : Value) (vs : List Value) → value_cmp a b ≡ Less → AllByRecursion (λ v. value_cmp b v ≡ Less) vs → AllByRecursion (λ v. value_cmp a v ≡ Less) vs
+below_all : (a b : Value) (vs : List Value) → value_cmp a b ≡ Less
+    → AllByRecursion (λ v. value_cmp b v ≡ Less) vs → AllByRecursion (λ v. value_cmp a v ≡ Less) vs
 below_all a b [] less all = tt
-below_all a b (v ∷ vs) less all = (value_cmp_total.trans a b v less all.0, below_all a b vs less all.1)
+below_all a b (v ∷ vs) less all =
+    (value_cmp_total.trans a b v less all.0, below_all a b vs less all.1)
 
 pub sorted_bounds : (vs : List Value) → AscendStrictly vs → IsStrictlySortedBy value_cmp vs
 unfolding IsStrictlySortedBy

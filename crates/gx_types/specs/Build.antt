@@ -11,7 +11,7 @@ use Rattle.gx_equation.specs.declared.heads.Head.{Head}
 use Rattle.gx_equation.specs.declared.heads.Head.TheVariants as heads
 use Rattle.gx_equation.specs.declared.heads.Linkset.{Linkset}
 use Rattle.gx_equation.specs.Printing.{IsTerm}
-use Rattle.gx_equation.specs.Trees.{Tree, Trees, node, none, kid, kids_from, list_of, SideTree, file_side, link_side, DefinitionTree}
+use Rattle.gx_equation.specs.Trees.{TermTree, Trees, node, none, kid, kids_from, list_of, SideTree, file_side, link_side, DefinitionTree}
 use Rattle.gx_partition.specs.declared.place.Where.{Where}
 use Rattle.gx_partition.specs.declared.place.Where.TheVariants.{Key, Rest}
 use Rattle.gx_stack.specs.declared.node.Node.{Node}
@@ -34,7 +34,7 @@ use Rattle.gx_ports.specs.declared.kinds.TheConstants.{MAX_LEAVES}
 -- ---- how many leaves there are
 
 abbrev mutual
-  pub leaf_count : Tree → ℕ
+  pub leaf_count : TermTree → ℕ
   leaf_count (node top kids) = leaves_at top + leaf_counts kids
 
   pub leaf_counts : Trees → ℕ
@@ -69,7 +69,7 @@ abbrev pub IsPlaceOf : Form → List ℕ → Where → Type 0
 IsPlaceOf form name (Key i) = IsFirstOf form.keys name i
 IsPlaceOf form name (Rest i) = (kind_in form.keys name ≡ None) × IsFirstOf form.fields name i
 
-abbrev pub kids_of : Tree → Trees
+abbrev pub kids_of : TermTree → Trees
 kids_of (node top kids) = kids
 
 -- the mapping is that of the head, for the records of the form
@@ -84,7 +84,7 @@ IsLeafOf n form top kids m f = ⊥
 -- the node is what the term means for the records of the form; its leaves have the numbers from n
 -- on, in the order of the text
 abbrev mutual
-  pub IsTreeOf : ℕ → Form → Tree → NodeTree AnyMapping → Type 0
+  pub IsTreeOf : ℕ → Form → TermTree → NodeTree AnyMapping → Type 0
   IsTreeOf n form (node top kids) (leaf m f) = IsLeafOf n form top kids m f
   IsTreeOf n form (node top kids) (layer m ks) =
       IsMappingOf top form m × AreTreesOf n (kid_form top form) 0 kids ks
@@ -111,7 +111,7 @@ AreTreesOfFiles n (file ∷ files) (d ∷ ds) (x ∷ xs) =
 AreTreesOfFiles n files ds xs = ⊥
 
 -- the nodes are what the side of a link means, whose files have keys of the kinds o and m
-pub record IsLinkTreeOf (n : ℕ) (o m : Kind) (linkset : Linkset) (ts : List Tree)
+pub record IsLinkTreeOf (n : ℕ) (o m : Kind) (linkset : Linkset) (ts : List TermTree)
     (x : LinkTree) : Type 0 where
   pub head : linkset_of x ≡ linkset
   pub trees : AreTreesOf n (link_form linkset o m) 0 (kids_from ts) (link_kids x)
@@ -133,7 +133,7 @@ AreTreesOfLinks files n links ds xs = ⊥
 
 -- a typed term of at most so many levels, whose leaves, numbered from n on, are among the first
 -- `MAX_LEAVES`
-pub record IsReady (n : ℕ) (form : Form) (t : Tree) : Type 0 where
+pub record IsReady (n : ℕ) (form : Form) (t : TermTree) : Type 0 where
   pub levels : ℕ
   pub few_levels : levels ≤ 16
   pub term : IsTerm levels t
@@ -163,7 +163,7 @@ AreReadyFiles n (file ∷ files) (d ∷ ds) =
 
 -- the side of a link whose files have keys of the kinds o and m; a program counts the bytes of its
 -- fields exactly
-pub record IsReadyLink (n : ℕ) (o m : Kind) (linkset : Linkset) (ts : List Tree) : Type 0 where
+pub record IsReadyLink (n : ℕ) (o m : Kind) (linkset : Linkset) (ts : List TermTree) : Type 0 where
   pub terms : AreReady n (link_form linkset o m) 0 (kids_from ts)
   pub narrow_owner : width_of o ≤ 101
   pub narrow_member : width_of m ≤ 101

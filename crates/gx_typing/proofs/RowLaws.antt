@@ -28,11 +28,13 @@ use Rattle.gx_typing.specs.Typed.{IsDataField, IsField, AreDataFields, IsCodeFor
 
 -- ---- steps
 
-pub behind_ok : {A B E : Type 0} (r : Result A E) (f : A → Result B E) (y : B) → (r >>= f) ≡ Ok y → (x : A) × (r ≡ Ok x) × (f x ≡ Ok y)
+pub behind_ok : {A B E : Type 0} (r : Result A E) (f : A → Result B E) (y : B) → (r >>= f) ≡ Ok y
+    → (x : A) × (r ≡ Ok x) × (f x ≡ Ok y)
 behind_ok (Ok x) f y h = (x, refl, h)
 behind_ok (Err e) f y h = absurd cc
 
-pub ok_behind : {A B E : Type 0} (r : Result A E) (f : A → Result B E) (x : A) (y : Result B E) → r ≡ Ok x → f x ≡ y → (r >>= f) ≡ y
+pub ok_behind : {A B E : Type 0} (r : Result A E) (f : A → Result B E) (x : A) (y : Result B E)
+    → r ≡ Ok x → f x ≡ y → (r >>= f) ≡ y
 ok_behind r f x y is goes = ap (λ s. s >>= f) is ∙ goes
 
 pub tested_ok : (reason : TypeWhy) (b : Bool) (u : Unit {0}) → tested reason b ≡ Ok u → b ≡ true
@@ -76,7 +78,8 @@ ok_data None None kind h is = absurd cc
 ok_data None (Some k) kind h is = cc
 ok_data (Some key) p kind h is = absurd cc
 
-any_ok : (o p : Option Kind) (kind : Kind) → any_from o p ≡ Ok kind → (o ≡ Some kind) ⊎ ((o ≡ None) × (p ≡ Some kind))
+any_ok : (o p : Option Kind) (kind : Kind) → any_from o p ≡ Ok kind
+    → (o ≡ Some kind) ⊎ ((o ≡ None) × (p ≡ Some kind))
 any_ok None None kind h = absurd cc
 any_ok None (Some k) kind h = inr (refl, cc)
 any_ok (Some key) p kind h = inl cc
@@ -85,37 +88,51 @@ ok_any : (o p : Option Kind) (kind : Kind) → o ≡ Some kind → any_from o p 
 ok_any None p kind h = absurd cc
 ok_any (Some key) p kind h = cc
 
-field_found : (form : Form) (name : List ℕ) (kind : Kind) → data_kind form name ≡ Ok kind → IsDataField form name kind
-field_found form name kind h = let d = data_ok (kind_in form.keys name) (kind_in form.fields name) kind h in record { no_key = d.0; is = d.1 }
+field_found : (form : Form) (name : List ℕ) (kind : Kind) → data_kind form name ≡ Ok kind
+    → IsDataField form name kind
+field_found form name kind h = let d =
+    data_ok (kind_in form.keys name) (kind_in form.fields name) kind h in
+    record { no_key = d.0; is = d.1 }
 
-field_again : (form : Form) (name : List ℕ) (kind : Kind) → IsDataField form name kind → data_kind form name ≡ Ok kind
-field_again form name kind d = ok_data (kind_in form.keys name) (kind_in form.fields name) kind d.no_key d.is
+field_again : (form : Form) (name : List ℕ) (kind : Kind) → IsDataField form name kind
+    → data_kind form name ≡ Ok kind
+field_again form name kind d =
+    ok_data (kind_in form.keys name) (kind_in form.fields name) kind d.no_key d.is
 
-any_found : (form : Form) (name : List ℕ) (kind : Kind) → any_kind form name ≡ Ok kind → IsField form name kind
-any_found form name kind h = elim (any_ok (kind_in form.keys name) (kind_in form.fields name) kind h) [
-  | inl is ↦ inl is
-  | inr d ↦ inr (record { no_key = d.0; is = d.1 })
-]
+any_found : (form : Form) (name : List ℕ) (kind : Kind) → any_kind form name ≡ Ok kind
+    → IsField form name kind
+any_found form name kind h =
+    elim (any_ok (kind_in form.keys name) (kind_in form.fields name) kind h) [
+      | inl is ↦ inl is
+      | inr d ↦ inr (record { no_key = d.0; is = d.1 })
+    ]
 
 none_then : (o p : Option Kind) → o ≡ None → any_from o p ≡ data_from o p
 none_then None p h = refl
 none_then (Some key) p h = absurd cc
 
-any_again : (form : Form) (name : List ℕ) (kind : Kind) → IsField form name kind → any_kind form name ≡ Ok kind
-any_again form name kind (inl is) = ok_any (kind_in form.keys name) (kind_in form.fields name) kind is
-any_again form name kind (inr d) = none_then (kind_in form.keys name) (kind_in form.fields name) d.no_key ∙ field_again form name kind d
+any_again : (form : Form) (name : List ℕ) (kind : Kind) → IsField form name kind
+    → any_kind form name ≡ Ok kind
+any_again form name kind (inl is) =
+    ok_any (kind_in form.keys name) (kind_in form.fields name) kind is
+any_again form name kind (inr d) =
+    none_then (kind_in form.keys name) (kind_in form.fields name) d.no_key
+    ∙ field_again form name kind d
 
-is_data_ok : (o p : Option Kind) → (not (is_some o) && is_some p) ≡ true → (kind : Kind) × (o ≡ None) × (p ≡ Some kind)
+is_data_ok : (o p : Option Kind) → (not (is_some o) && is_some p) ≡ true
+    → (kind : Kind) × (o ≡ None) × (p ≡ Some kind)
 is_data_ok None None h = absurd cc
 is_data_ok None (Some k) h = (k, refl, refl)
 is_data_ok (Some key) p h = absurd cc
 
-ok_is_data : (o p : Option Kind) (kind : Kind) → o ≡ None → p ≡ Some kind → (not (is_some o) && is_some p) ≡ true
+ok_is_data : (o p : Option Kind) (kind : Kind) → o ≡ None → p ≡ Some kind
+    → (not (is_some o) && is_some p) ≡ true
 ok_is_data None None kind h is = absurd cc
 ok_is_data None (Some k) kind h is = refl
 ok_is_data (Some key) p kind h is = absurd cc
 
-names_found : (form : Form) (names : List (List ℕ)) → are_data form names ≡ true → AreDataFields form names
+names_found : (form : Form) (names : List (List ℕ)) → are_data form names ≡ true
+    → AreDataFields form names
 names_found form [] h = tt
 names_found form (name ∷ names) h =
     let both = then_true (is_data form name && not (has_name names name)) (are_data form names) h in
@@ -123,25 +140,32 @@ names_found form (name ∷ names) h =
     let d = is_data_ok (kind_in form.keys name) (kind_in form.fields name) here.0 in
     ((d.0, record { no_key = d.1; is = d.2 }), not_true (has_name names name) here.1, names_found form names both.1)
 
-names_again : (form : Form) (names : List (List ℕ)) → AreDataFields form names → are_data form names ≡ true
+names_again : (form : Form) (names : List (List ℕ)) → AreDataFields form names
+    → are_data form names ≡ true
 names_again form [] h = refl
 names_again form (name ∷ names) h =
     true_then (is_data form name && not (has_name names name)) (are_data form names)
-    (true_both (is_data form name) (not (has_name names name)) (ok_is_data (kind_in form.keys name) (kind_in form.fields name) h.0.0 h.0.1.no_key h.0.1.is) (true_not (has_name names name) h.1))
+    (true_both (is_data form name) (not (has_name names name))
+    (ok_is_data (kind_in form.keys name) (kind_in form.fields name) h.0.0 h.0.1.no_key h.0.1.is)
+    (true_not (has_name names name) h.1))
     (names_again form names h.2)
 
-any_filter : {X : Type 0} (p : X → Bool) (xs : List X) → list_any p xs ≡ true → 0 < length (filter p xs)
+any_filter : {X : Type 0} (p : X → Bool) (xs : List X) → list_any p xs ≡ true
+    → 0 < length (filter p xs)
 any_filter p [] h = absurd cc
 any_filter p (x ∷ xs) h =
-    elim (p x) as (λ b. (b || list_any p xs) ≡ true → 0 < length (cond b (x ∷ filter p xs) (filter p xs))) [
+    elim (p x) as (λ b. (b || list_any p xs) ≡ true
+    → 0 < length (cond b (x ∷ filter p xs) (filter p xs))) [
       | true ↦ λ e. omega arith
       | false ↦ λ e. any_filter p xs e
     ] h
 
-filter_any : {X : Type 0} (p : X → Bool) (xs : List X) → 0 < length (filter p xs) → list_any p xs ≡ true
+filter_any : {X : Type 0} (p : X → Bool) (xs : List X) → 0 < length (filter p xs)
+    → list_any p xs ≡ true
 filter_any p [] h = absurd (omega arith)
 filter_any p (x ∷ xs) h =
-    elim (p x) as (λ b. 0 < length (cond b (x ∷ filter p xs) (filter p xs)) → (b || list_any p xs) ≡ true) [
+    elim (p x) as (λ b. 0 < length (cond b (x ∷ filter p xs) (filter p xs))
+    → (b || list_any p xs) ≡ true) [
       | true ↦ λ e. refl
       | false ↦ λ e. filter_any p xs e
     ] h
@@ -190,27 +214,35 @@ ok_bound kinds.Int (values.Int n) h = refl
 ok_bound kinds.Int (values.Text text) h = absurd h
 ok_bound kinds.Int (values.Bytes bytes) h = absurd h
 ok_bound (kinds.Text most) (values.Int n) h = absurd h
-ok_bound (kinds.Text most) (values.Text text) h = true_both (nat_le (length text) most) (list_all is_printable text) (nat_le_from_at_most (length text) most h.0) h.1
+ok_bound (kinds.Text most) (values.Text text) h =
+    true_both (nat_le (length text) most) (list_all is_printable text)
+    (nat_le_from_at_most (length text) most h.0) h.1
 ok_bound (kinds.Text most) (values.Bytes bytes) h = absurd h
 ok_bound (kinds.Bytes most) v h = absurd h
 
-bounds_ok : (k : Kind) (bounds : List Value) → list_all (is_bound k) bounds ≡ true → AllByRecursion (IsBoundFor k) bounds
+bounds_ok : (k : Kind) (bounds : List Value) → list_all (is_bound k) bounds ≡ true
+    → AllByRecursion (IsBoundFor k) bounds
 bounds_ok k [] h = tt
-bounds_ok k (v ∷ vs) h = let both = and_parts (is_bound k v) (list_all (is_bound k) vs) h in (bound_ok k v both.0, bounds_ok k vs both.1)
+bounds_ok k (v ∷ vs) h = let both = and_parts (is_bound k v) (list_all (is_bound k) vs) h in
+    (bound_ok k v both.0, bounds_ok k vs both.1)
 
-ok_bounds : (k : Kind) (bounds : List Value) → AllByRecursion (IsBoundFor k) bounds → list_all (is_bound k) bounds ≡ true
+ok_bounds : (k : Kind) (bounds : List Value) → AllByRecursion (IsBoundFor k) bounds
+    → list_all (is_bound k) bounds ≡ true
 ok_bounds k [] h = refl
-ok_bounds k (v ∷ vs) h = true_both (is_bound k v) (list_all (is_bound k) vs) (ok_bound k v h.0) (ok_bounds k vs h.1)
+ok_bounds k (v ∷ vs) h =
+    true_both (is_bound k v) (list_all (is_bound k) vs) (ok_bound k v h.0) (ok_bounds k vs h.1)
 
 ascends_ok : (bounds : List Value) → ascends bounds ≡ true → AscendStrictly bounds
 ascends_ok [] h = tt
 ascends_ok (b ∷ []) h = tt
-ascends_ok (b ∷ c ∷ bs) h = let both = then_true (is_lt (value_cmp b c)) (ascends (c ∷ bs)) h in (less_from_lt (value_cmp b c) both.0, ascends_ok (c ∷ bs) both.1)
+ascends_ok (b ∷ c ∷ bs) h = let both = then_true (is_lt (value_cmp b c)) (ascends (c ∷ bs)) h in
+    (less_from_lt (value_cmp b c) both.0, ascends_ok (c ∷ bs) both.1)
 
 ok_ascends : (bounds : List Value) → AscendStrictly bounds → ascends bounds ≡ true
 ok_ascends [] h = refl
 ok_ascends (b ∷ []) h = refl
-ok_ascends (b ∷ c ∷ bs) h = true_then (is_lt (value_cmp b c)) (ascends (c ∷ bs)) (ap is_lt h.0) (ok_ascends (c ∷ bs) h.1)
+ok_ascends (b ∷ c ∷ bs) h =
+    true_then (is_lt (value_cmp b c)) (ascends (c ∷ bs)) (ap is_lt h.0) (ok_ascends (c ∷ bs) h.1)
 
 -- ---- leaves and bytes
 
@@ -247,7 +279,8 @@ ok_one (f ∷ g ∷ fs) h = absurd h
 -- ---- heads
 
 some_each : (n kids : ℕ) → (nat_lt 0 n && kids == n) ≡ true → (0 < n) × (kids ≡ n)
-some_each n kids h = let both = and_parts (nat_lt 0 n) (kids == n) h in (positive n both.0, same kids n both.1)
+some_each n kids h = let both = and_parts (nat_lt 0 n) (kids == n) h in
+    (positive n both.0, same kids n both.1)
   where
     positive : (n : ℕ) → nat_lt 0 n ≡ true → 0 < n
     positive n e = grind (arith, nat_tests)
@@ -261,15 +294,18 @@ each_some n kids some each = grind (arith, nat_tests)
 equal_ok : (a b : ℕ) → (a == b) ≡ true → a ≡ b
 equal_ok a b e = grind (arith, nat_tests)
 
-pub row_found : (top : Head) (form : Form) (kids : ℕ) (u : Unit {0}) → row top form kids ≡ Ok u → IsMet top form kids
+pub row_found : (top : Head) (form : Form) (kids : ℕ) (u : Unit {0}) → row top form kids ≡ Ok u
+    → IsMet top form kids
 row_found (heads.Leaf kind) form kids u h =
     let body = behind_ok (leaf_body form.fields) _ _ h in
     let key = behind_ok (tested why.KeyLength (nat_le (widths form.keys) 400)) _ _ body.2 in
     record {
       bytes = body.0;
       fields = data_found form.fields body.0 body.1;
-      key = at_most_from_nat_le (widths form.keys) 400 (tested_ok why.KeyLength (nat_le (widths form.keys) 400) key.0 key.1);
-      entry = at_most_from_nat_le (widths form.keys + body.0) 1000 (tested_ok why.EntryLength (nat_le (widths form.keys + body.0) 1000) u key.2);
+      key = at_most_from_nat_le (widths form.keys) 400
+          (tested_ok why.KeyLength (nat_le (widths form.keys) 400) key.0 key.1);
+      entry = at_most_from_nat_le (widths form.keys + body.0) 1000
+          (tested_ok why.EntryLength (nat_le (widths form.keys + body.0) 1000) u key.2);
     }
 row_found heads.Actual form kids u h = tt
 row_found (heads.Encode name code) form kids u h =
@@ -279,47 +315,71 @@ row_found (heads.Segment names) form kids u h =
     let n = behind_ok (tested why.FieldName (are_data form names)) _ _ h in
     record {
       named = names_found form names (tested_ok why.FieldName (are_data form names) n.0 n.1);
-      others = any_filter (λ f. not (has_name names f.name)) form.fields (tested_ok why.Groups (leaves_some form.fields names) u n.2);
+      others = any_filter (λ f. not (has_name names f.name)) form.fields
+          (tested_ok why.Groups (leaves_some form.fields names) u n.2);
     }
 row_found heads.Transpose form kids u h =
-    let both = some_each (length form.fields) kids (tested_ok why.Children (nat_lt 0 (length form.fields) && kids == length form.fields) u h) in
+    let both = some_each (length form.fields) kids
+    (tested_ok why.Children (nat_lt 0 (length form.fields) && kids == length form.fields) u h)
+    in
     record { some = both.0; each = both.1 }
 row_found (heads.Partition name bounds) form kids u h =
     let k = behind_ok (any_kind form name) _ _ h in
-    let fitting = behind_ok (tested why.FieldKind (is_key_kind k.0 && list_all (is_bound k.0) bounds)) _ _ k.2 in
+    let fitting = behind_ok
+    (tested why.FieldKind (is_key_kind k.0 && list_all (is_bound k.0) bounds)) _ _ k.2 in
     let ordered = behind_ok (tested why.Bounds (ascends bounds)) _ _ fitting.2 in
-    let both = and_parts (is_key_kind k.0) (list_all (is_bound k.0) bounds) (tested_ok why.FieldKind (is_key_kind k.0 && list_all (is_bound k.0) bounds) fitting.0 fitting.1) in
+    let both = and_parts (is_key_kind k.0) (list_all (is_bound k.0) bounds)
+    (tested_ok why.FieldKind (is_key_kind k.0 && list_all (is_bound k.0) bounds) fitting.0
+    fitting.1) in
     record {
       kind = k.0;
       field = any_found form name k.0 k.1;
       key_kind = key_kind_ok k.0 both.0;
       fit = bounds_ok k.0 bounds both.1;
       ascend = ascends_ok bounds (tested_ok why.Bounds (ascends bounds) ordered.0 ordered.1);
-      each = equal_ok kids (suc (length bounds)) (tested_ok why.Children (kids == suc (length bounds)) u ordered.2);
+      each = equal_ok kids (suc (length bounds))
+          (tested_ok why.Children (kids == suc (length bounds)) u ordered.2);
     }
-row_found (heads.Divide size) form kids u h = one_ok form.fields (tested_ok why.OneBytes (one_bytes form.fields) u h)
+row_found (heads.Divide size) form kids u h =
+    one_ok form.fields (tested_ok why.OneBytes (one_bytes form.fields) u h)
 row_found (heads.Index name) form kids u h =
     let k = behind_ok (data_kind form name) _ _ h in
     record { kind = k.0; field = field_found form name k.0 k.1; key_kind = key_kind_ok k.0 (tested_ok why.FieldKind (is_key_kind k.0) u k.2) }
 
-pub row_again : (top : Head) (form : Form) (kids : ℕ) → IsMet top form kids → row top form kids ≡ Ok tt
+pub row_again : (top : Head) (form : Form) (kids : ℕ) → IsMet top form kids
+    → row top form kids ≡ Ok tt
 row_again (heads.Leaf kind) form kids m =
     ok_behind (leaf_body form.fields) _ m.bytes _ (data_again form.fields m.bytes m.fields)
-    (ok_behind (tested why.KeyLength (nat_le (widths form.keys) 400)) _ tt _ (ok_tested why.KeyLength (nat_le (widths form.keys) 400) (nat_le_from_at_most (widths form.keys) 400 m.key))
-    (ok_tested why.EntryLength (nat_le (widths form.keys + m.bytes) 1000) (nat_le_from_at_most (widths form.keys + m.bytes) 1000 m.entry)))
+    (ok_behind (tested why.KeyLength (nat_le (widths form.keys) 400)) _ tt _
+    (ok_tested why.KeyLength (nat_le (widths form.keys) 400)
+    (nat_le_from_at_most (widths form.keys) 400 m.key))
+    (ok_tested why.EntryLength (nat_le (widths form.keys + m.bytes) 1000)
+    (nat_le_from_at_most (widths form.keys + m.bytes) 1000 m.entry)))
 row_again heads.Actual form kids m = refl
 row_again (heads.Encode name code) form kids m =
-    ok_behind (data_kind form name) _ m.kind _ (field_again form name m.kind m.field) (ok_tested why.FieldKind (is_coded code m.kind) (ok_code code m.kind m.coded))
+    ok_behind (data_kind form name) _ m.kind _ (field_again form name m.kind m.field)
+    (ok_tested why.FieldKind (is_coded code m.kind) (ok_code code m.kind m.coded))
 row_again (heads.Segment names) form kids m =
-    ok_behind (tested why.FieldName (are_data form names)) _ tt _ (ok_tested why.FieldName (are_data form names) (names_again form names m.named))
-    (ok_tested why.Groups (leaves_some form.fields names) (filter_any (λ f. not (has_name names f.name)) form.fields m.others))
-row_again heads.Transpose form kids m = ok_tested why.Children (nat_lt 0 (length form.fields) && kids == length form.fields) (each_some (length form.fields) kids m.some m.each)
+    ok_behind (tested why.FieldName (are_data form names)) _ tt _
+    (ok_tested why.FieldName (are_data form names) (names_again form names m.named))
+    (ok_tested why.Groups (leaves_some form.fields names)
+    (filter_any (λ f. not (has_name names f.name)) form.fields m.others))
+row_again heads.Transpose form kids m =
+    ok_tested why.Children (nat_lt 0 (length form.fields) && kids == length form.fields)
+    (each_some (length form.fields) kids m.some m.each)
 row_again (heads.Partition name bounds) form kids m =
     ok_behind (any_kind form name) _ m.kind _ (any_again form name m.kind m.field)
-    (ok_behind (tested why.FieldKind (is_key_kind m.kind && list_all (is_bound m.kind) bounds)) _ tt _
-    (ok_tested why.FieldKind (is_key_kind m.kind && list_all (is_bound m.kind) bounds) (true_both (is_key_kind m.kind) (list_all (is_bound m.kind) bounds) (ok_key_kind m.kind m.key_kind) (ok_bounds m.kind bounds m.fit)))
-    (ok_behind (tested why.Bounds (ascends bounds)) _ tt _ (ok_tested why.Bounds (ascends bounds) (ok_ascends bounds m.ascend))
-    (ok_tested why.Children (kids == suc (length bounds)) (same_number kids (suc (length bounds)) m.each))))
-row_again (heads.Divide size) form kids m = ok_tested why.OneBytes (one_bytes form.fields) (ok_one form.fields m)
+    (ok_behind (tested why.FieldKind (is_key_kind m.kind && list_all (is_bound m.kind) bounds)) _
+    tt _
+    (ok_tested why.FieldKind (is_key_kind m.kind && list_all (is_bound m.kind) bounds)
+    (true_both (is_key_kind m.kind) (list_all (is_bound m.kind) bounds)
+    (ok_key_kind m.kind m.key_kind) (ok_bounds m.kind bounds m.fit)))
+    (ok_behind (tested why.Bounds (ascends bounds)) _ tt _
+    (ok_tested why.Bounds (ascends bounds) (ok_ascends bounds m.ascend))
+    (ok_tested why.Children (kids == suc (length bounds))
+    (same_number kids (suc (length bounds)) m.each))))
+row_again (heads.Divide size) form kids m =
+    ok_tested why.OneBytes (one_bytes form.fields) (ok_one form.fields m)
 row_again (heads.Index name) form kids m =
-    ok_behind (data_kind form name) _ m.kind _ (field_again form name m.kind m.field) (ok_tested why.FieldKind (is_key_kind m.kind) (ok_key_kind m.kind m.key_kind))
+    ok_behind (data_kind form name) _ m.kind _ (field_again form name m.kind m.field)
+    (ok_tested why.FieldKind (is_key_kind m.kind) (ok_key_kind m.kind m.key_kind))

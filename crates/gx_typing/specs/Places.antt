@@ -5,7 +5,7 @@ use Rattle.gx_values.specs.declared.records.Form.{Form}
 use Rattle.gx_schema.specs.declared.schema.Schema.{Schema}
 use Rattle.gx_equation.specs.declared.heads.Head.{Head}
 use Rattle.gx_equation.specs.declared.heads.Head.TheVariants as heads
-use Rattle.gx_equation.specs.Trees.{Tree, Trees, node, none, kid, kids_from, SideTree, file_side, link_side, DefinitionTree}
+use Rattle.gx_equation.specs.Trees.{TermTree, Trees, node, none, kid, kids_from, SideTree, file_side, link_side, DefinitionTree}
 use Rattle.gx_typing.specs.declared.reasons.TypeWhy.{TypeWhy}
 use Rattle.gx_typing.specs.declared.reasons.TypeWhy.TheVariants as why
 use Rattle.gx_typing.specs.declared.dues.Due.{Due}
@@ -14,7 +14,7 @@ use Rattle.gx_typing.specs.declared.dues.Stored.TheVariants as stored
 use Rattle.gx_typing.specs.Dues.{dues}
 use Rattle.gx_forms.specs.Forms.{kid_form, link_form}
 use Rattle.gx_typing.specs.Rows.{◌>>=◌, tested, row}
-use Rattle.gx_typing.specs.Typing.{here, behind, count}
+use Rattle.gx_typing.specs.Typing.{here, other_lines, count}
 
 pub data Place : Type 0 where
   -- the name of a definition, and the name that is due
@@ -62,13 +62,13 @@ IsFirstFault before [] lines line reason = ⊥
 IsFirstFault before (p ∷ ps) lines line reason =
     ((asked before p ≡ Err reason) × (here lines ≡ line))
     ⊎ ((asked before p ≡ Ok tt) × IsFirstFault (before
-    + leaves_of_place p) ps (behind lines) line reason)
+    + leaves_of_place p) ps (other_lines lines) line reason)
 
 -- ---- the places of a text; none is listed behind one that fails whatever follows
 
 -- a head stands before its children
 abbrev mutual
-  pub places_of_term : Form → Tree → List Place
+  pub places_of_term : Form → TermTree → List Place
   places_of_term form (node top kids) =
       a_head top form (count kids) ∷ places_of_terms (kid_form top form) 0 kids
 

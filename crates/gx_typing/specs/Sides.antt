@@ -8,7 +8,7 @@ use Rattle.gx_typing.specs.declared.dues.Stored.{Stored}
 use Rattle.gx_typing.specs.declared.dues.Stored.TheVariants as stored
 use Rattle.gx_typing.specs.declared.typing.Typing.{Typing}
 use Rattle.gx_forms.specs.Forms.{link_form}
-use Rattle.gx_typing.specs.Typing.{Mistake, here, behind, typed_at, kids_typed}
+use Rattle.gx_typing.specs.Typing.{Mistake, here, other_lines, typed_at, kids_typed}
 
 -- Where a file has the side of a link, or a link that of a file, the line is that of the side's
 -- first head.
@@ -20,7 +20,7 @@ abbrev pub link_typed : ℕ → Kind → Kind → SideTree → List ℕ → Typi
     → Result (List ℕ × Typing) Mistake
 link_typed owner o m (file_side t) lines typing = Err (here lines, why.Linkset)
 link_typed owner o m (link_side linkset ts) lines typing =
-    kids_typed owner (link_form linkset o m) 0 (kids_from ts) (behind lines) typing
+    kids_typed owner (link_form linkset o m) 0 (kids_from ts) (other_lines lines) typing
 
 abbrev pub side_typed : ℕ → Stored → SideTree → List ℕ → Typing → Result (List ℕ × Typing) Mistake
 side_typed owner (stored.File form) side lines typing = file_typed owner form side lines typing

@@ -18,7 +18,7 @@ use Rattle.gx_ports.specs.declared.kinds.LeafSpec.{LeafSpec}
 use Rattle.gx_schema.specs.declared.schema.Schema.{Schema}
 use Rattle.gx_equation.specs.declared.heads.Head.{Head}
 use Rattle.gx_equation.specs.declared.heads.Head.TheVariants as heads
-use Rattle.gx_equation.specs.Trees.{Tree, Trees, node, none, kid, kids_from, SideTree, file_side, link_side, DefinitionTree}
+use Rattle.gx_equation.specs.Trees.{TermTree, Trees, node, none, kid, kids_from, SideTree, file_side, link_side, DefinitionTree}
 use Rattle.gx_typing.specs.declared.dues.Due.{Due}
 use Rattle.gx_typing.specs.declared.dues.Stored.{Stored}
 use Rattle.gx_typing.specs.declared.dues.Stored.TheVariants as stored
@@ -126,7 +126,7 @@ IsMet (heads.Index name) form kids = IsIndexed name form
 
 -- the head's condition is met, and each child is typed at the form that the head gives it
 abbrev mutual
-  pub IsTypedTerm : Form → Tree → Type 0
+  pub IsTypedTerm : Form → TermTree → Type 0
   IsTypedTerm form (node top kids) =
       IsMet top form (count kids) × AreTypedTerms (kid_form top form) 0 kids
 
@@ -145,7 +145,7 @@ leaf_here owner (heads.Leaf kind) form = record { owner = owner; spec = leaf_spe
 leaf_here owner other form = []
 
 abbrev mutual
-  pub leaves_of : ℕ → Form → Tree → List Leaf
+  pub leaves_of : ℕ → Form → TermTree → List Leaf
   leaves_of owner form (node top kids) =
       leaf_here owner top form ++ leaves_of_kids owner (kid_form top form) 0 kids
 

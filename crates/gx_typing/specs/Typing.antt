@@ -4,7 +4,7 @@ use Rattle.gx_values.specs.declared.records.Form.{Form}
 use Rattle.gx_ports.specs.declared.kinds.LeafSpec.{LeafSpec}
 use Rattle.gx_equation.specs.declared.heads.Head.{Head}
 use Rattle.gx_equation.specs.declared.heads.Head.TheVariants as heads
-use Rattle.gx_equation.specs.Trees.{Tree, Trees, node, none, kid}
+use Rattle.gx_equation.specs.Trees.{TermTree, Trees, node, none, kid}
 use Rattle.gx_typing.specs.declared.reasons.TypeWhy.{TypeWhy}
 use Rattle.gx_typing.specs.declared.reasons.TypeWhy.TheVariants as why
 use Rattle.gx_typing.specs.declared.reasons.Untyped.{Untyped}
@@ -25,9 +25,9 @@ abbrev pub here : List ℕ → ℕ
 here [] = 0
 here (line ∷ lines) = line
 
-abbrev pub behind : List ℕ → List ℕ
-behind [] = []
-behind (line ∷ lines) = lines
+abbrev pub other_lines : List ℕ → List ℕ
+other_lines [] = []
+other_lines (line ∷ lines) = lines
 
 abbrev pub at : {A : Type 0} → List ℕ → Result A TypeWhy → Result A Mistake
 at lines (Ok x) = Ok x
@@ -38,7 +38,7 @@ count none = 0
 count (kid t ts) = suc (count ts)
 
 -- what the head of a term asks of the form that it gets
-abbrev pub term_row : Form → Tree → Result (Unit {0}) TypeWhy
+abbrev pub term_row : Form → TermTree → Result (Unit {0}) TypeWhy
 term_row form (node top kids) = row top form (count kids)
 
 -- the leaves before and one more of the definition, of which there may be `MAX_LEAVES`
@@ -55,11 +55,11 @@ with_head owner other form typing = Ok typing
 
 -- a term of a definition at a form, behind the leaves before: the lines left and the leaves so far
 abbrev mutual
-  pub typed_at : ℕ → Form → Tree → List ℕ → Typing → Result (List ℕ × Typing) Mistake
+  pub typed_at : ℕ → Form → TermTree → List ℕ → Typing → Result (List ℕ × Typing) Mistake
   typed_at owner form (node top kids) lines typing = do
     met ← at lines (row top form (count kids))
     more ← at lines (with_head owner top form typing)
-    kids_typed owner (kid_form top form) 0 kids (behind lines) more
+    kids_typed owner (kid_form top form) 0 kids (other_lines lines) more
 
   pub kids_typed : ℕ → (ℕ → Form) → ℕ → Trees → List ℕ → Typing → Result (List ℕ × Typing) Mistake
   kids_typed owner forms i none lines typing = Ok (lines, typing)

@@ -9,13 +9,13 @@ use Rattle.gx_typing.specs.declared.typing.Typing.{Typing}
 use Rattle.gx_typing.specs.Dues.{dues}
 use Rattle.gx_typing.specs.Rows.{◌>>=◌, tested}
 use Rattle.gx_typing.specs.Sides.{side_typed}
-use Rattle.gx_typing.specs.Typing.{Mistake, here, behind, at}
+use Rattle.gx_typing.specs.Typing.{Mistake, here, other_lines, at}
 
 abbrev pub definition_typed : ℕ → Due → DefinitionTree → List ℕ → Typing
     → Result (List ℕ × Typing) Mistake
 definition_typed owner due d lines typing = do
   named ← at lines (tested why.Definition (pointwise nat_eq due.name d.name))
-  side_typed owner due.stored d.side (behind lines) typing
+  side_typed owner due.stored d.side (other_lines lines) typing
 
 -- The definitions, of which the first has this number. Behind the last place stands the text's last
 -- line.

@@ -8,7 +8,7 @@ ghost use Rattle.gx_forms.specs.Forms.{one_field};
 ghost use Rattle.gx_typing.specs.Leaves.{leaf_spec};
 ghost use Rattle.gx_forms.specs.Narrow.{narrow};
 ghost use Rattle.gx_typing.specs.Rows.{leaf_row};
-ghost use Rattle.gx_typing.specs.Typing.{Answers, at, here, behind, with_leaf, typed_at, kids_typed};
+ghost use Rattle.gx_typing.specs.Typing.{Answers, at, here, other_lines, with_leaf, typed_at, kids_typed};
 
 use crate::reasons::{TypeWhy, Untyped};
 use crate::rows::term_row;
@@ -31,7 +31,7 @@ pub fn here(lines: &[u32]) -> u32
 
 /// The lines of the places behind the one that is due.
 pub fn behind(lines: &[u32]) -> &[u32]
-    ensures { result.now ≡ behind lines.now }
+    ensures { result.now ≡ other_lines lines.now }
 {
     match lines {
         [_, rest @ ..] => rest,

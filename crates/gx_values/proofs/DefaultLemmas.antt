@@ -36,7 +36,8 @@ pub default_again : (field : Field) → is_default field (default_of field) ≡ 
 default_again field = ap is_eq (tied_itself value_cmp_total (default_of field))
 
 pub default_only : (field : Field) (v : Value) → is_default field v ≡ true → v ≡ default_of field
-default_only field v is = value_cmp_same v (default_of field) (tied (value_cmp v (default_of field)) is)
+default_only field v is =
+    value_cmp_same v (default_of field) (tied (value_cmp v (default_of field)) is)
   where
     tied : (o : Ordering) → is_eq o ≡ true → o ≡ Equal
     tied Less e = cc

@@ -8,14 +8,14 @@ use Rattle.std.proofs.lemmas.Bool.{and_from, le-leb}
 use Rattle.gx_tokens.proofs.NumberLaws.{number_value-decimal, IsNumber-decimal, is_number-true}
 use Rattle.gx_tokens.specs.Numbers.{is_number, number_value}
 use Rattle.gx_values.specs.Values.{is_printable}
-use Rattle.gx_commands.specs.Words.{Word, Bare, Quoted, is_character, is_comment, IsWord}
+use Rattle.gx_commands.specs.Words.{Word, Bare, Quoted, is_character, is_comment, IsLineWord}
 use Rattle.gx_commands.specs.Commands.{IsOfSchema}
 use Rattle.gx_script.specs.Names.{file_number, link_number, field_number}
 use Rattle.gx_script.specs.Grammar.{CommandWords, IsLineOf, FileName, LinkName, FieldName, IsLiteral}
 use Rattle.gx_work.specs.declared.task.Task.{Task}
 use Rattle.gx_work.specs.declared.task.Task.TheVariants as task
 use Rattle.gx_work.specs.Schema.{work_schema, emp}
-use Rattle.gx_work.specs.Tasks.{int, pay_of, room_of, owner_of, room_text, command_of, line_text}
+use Rattle.gx_work.specs.Tasks.{int, pay_of, room_of, department_of, room_text, command_of, line_text}
 use Rattle.gx_work.proofs.WordLemmas.{spaced, IsGood, words_are, all_characters, number_good, quoted_good, IsPlain, plain_decimal, plain_unquoted}
 
 -- the numbers of a task are no greater than those of the largest workload
@@ -32,7 +32,7 @@ words_of task.Begin = Bare (codes "begin") ∷ []
 words_of task.Commit = Bare (codes "commit") ∷ []
 words_of (task.Department d) = Bare (codes "insert") ∷ Bare (codes "dept") ∷ Bare (decimal d) ∷ Quoted (codes "dept " ++ decimal d) ∷ []
 words_of (task.Employee i) = Bare (codes "insert") ∷ Bare (codes "emp") ∷ Bare (decimal i) ∷ Quoted (codes "emp " ++ decimal i) ∷ Bare (decimal (pay_of i)) ∷ Quoted (room_of i) ∷ []
-words_of (task.Connection i) = Bare (codes "connect") ∷ Bare (codes "works") ∷ Bare (decimal (owner_of i)) ∷ Bare (decimal i) ∷ []
+words_of (task.Connection i) = Bare (codes "connect") ∷ Bare (codes "works") ∷ Bare (decimal (department_of i)) ∷ Bare (decimal i) ∷ []
 words_of (task.Raise i) = Bare (codes "update") ∷ Bare (codes "emp") ∷ Bare (decimal i) ∷ Bare (codes "pay") ∷ Bare (codes "1500") ∷ []
 words_of task.FindByPay = Bare (codes "find") ∷ Bare (codes "emp") ∷ Bare (codes "where") ∷ Bare (codes "pay") ∷ Bare (codes "=") ∷ Bare (codes "1500") ∷ []
 words_of task.FindByLink = Bare (codes "find") ∷ Bare (codes "emp") ∷ Bare (codes "of") ∷ Bare (codes "works") ∷ Bare (codes "3") ∷ []
@@ -45,10 +45,12 @@ room_same : (b : Bool) → 32 ∷ (34 ∷ cond b [] (codes "r7") ++ 34 ∷ []) +
 room_same true = refl
 room_same false = refl
 
-to_the_right : (a b c d p t : List ℕ) → a ++ d ++ b ++ d ++ c ++ p ++ t ≡ a ++ (d ++ (b ++ (d ++ (c ++ (p ++ t)))))
+to_the_right : (a b c d p t : List ℕ)
+    → a ++ d ++ b ++ d ++ c ++ p ++ t ≡ a ++ (d ++ (b ++ (d ++ (c ++ (p ++ t)))))
 to_the_right a b c d p t = simp append_assoc
 
-quoted_twice : (d a b x y : List ℕ) → (d ++ (a ++ ((d ++ b) ++ x))) ++ y ≡ d ++ (a ++ (d ++ (b ++ (x ++ y))))
+quoted_twice : (d a b x y : List ℕ)
+    → (d ++ (a ++ ((d ++ b) ++ x))) ++ y ≡ d ++ (a ++ (d ++ (b ++ (x ++ y))))
 quoted_twice d a b x y = simp append_assoc
 
 employee_line : (d p r t : List ℕ) → t ≡ 32 ∷ (34 ∷ r ++ 34 ∷ []) ++ 10 ∷ []
@@ -64,7 +66,9 @@ pub line_is : (t : Task) → line_text t ≡ line_of t ++ 10 ∷ []
 line_is task.Begin = refl
 line_is task.Commit = refl
 line_is (task.Department d) = simp append_assoc
-line_is (task.Employee i) = employee_line (decimal i) (decimal (pay_of i)) (room_of i) (room_text i) (sym (room_same (eqb (i % 2) 0)))
+line_is (task.Employee i) =
+    employee_line (decimal i) (decimal (pay_of i)) (room_of i) (room_text i)
+    (sym (room_same (eqb (i % 2) 0)))
 line_is (task.Connection i) = simp append_assoc
 line_is (task.Raise i) = simp append_assoc
 line_is task.FindByPay = refl
@@ -72,10 +76,12 @@ line_is task.FindByLink = refl
 
 -- ---- good words
 
-bare : (text : List ℕ) → IsWord (Bare text) → list_all is_character text ≡ true → IsGood (Bare text)
+bare : (text : List ℕ) → IsLineWord (Bare text) → list_all is_character text ≡ true
+    → IsGood (Bare text)
 bare text w c = record { is_word = w; characters = c }
 
-plain_front : (front text : List ℕ) → AllByRecursion IsPlain front → AllByRecursion IsPlain text → AllByRecursion IsPlain (front ++ text)
+plain_front : (front text : List ℕ) → AllByRecursion IsPlain front → AllByRecursion IsPlain text
+    → AllByRecursion IsPlain (front ++ text)
 plain_front [] text h k = k
 plain_front (b ∷ bs) text h k = (h.0, plain_front bs text h.1 k)
 
@@ -111,7 +117,8 @@ good_emp : IsGood (Bare (codes "emp"))
 good_emp = bare _ (λ e. omega arith, (refl, (refl, (refl, tt)))) refl
 
 good_connect : IsGood (Bare (codes "connect"))
-good_connect = bare _ (λ e. omega arith, (refl, (refl, (refl, (refl, (refl, (refl, (refl, tt)))))))) refl
+good_connect = bare _ (λ e. omega arith, (refl, (refl, (refl, (refl, (refl, (refl, (refl, tt))))))))
+    refl
 
 good_works : IsGood (Bare (codes "works"))
 good_works = bare _ (λ e. omega arith, (refl, (refl, (refl, (refl, (refl, tt)))))) refl
@@ -143,11 +150,16 @@ good_3 = bare _ (λ e. omega arith, (refl, tt)) refl
 pub good_words : (t : Task) → IsSmall t → AllByRecursion IsGood (words_of t)
 good_words task.Begin s = (good_begin, tt)
 good_words task.Commit s = (good_commit, tt)
-good_words (task.Department d) s = (good_insert, (good_dept, (number_good d (omega arith), (quoted_good _ (plain_dept d (omega arith)), tt))))
-good_words (task.Employee i) s = (good_insert, (good_emp, (number_good i (omega arith), (quoted_good _ (plain_emp i (omega arith)), (number_good (pay_of i) (omega arith), (quoted_good (room_of i) (plain_room (eqb (i % 2) 0)), tt))))))
-good_words (task.Connection i) s = (good_connect, (good_works, (number_good (owner_of i) (omega arith), (number_good i (omega arith), tt))))
-good_words (task.Raise i) s = (good_update, (good_emp, (number_good i (omega arith), (good_pay, (good_1500, tt)))))
-good_words task.FindByPay s = (good_find, (good_emp, (good_where, (good_pay, (good_equal, (good_1500, tt))))))
+good_words (task.Department d) s =
+    (good_insert, (good_dept, (number_good d (omega arith), (quoted_good _ (plain_dept d (omega arith)), tt))))
+good_words (task.Employee i) s =
+    (good_insert, (good_emp, (number_good i (omega arith), (quoted_good _ (plain_emp i (omega arith)), (number_good (pay_of i) (omega arith), (quoted_good (room_of i) (plain_room (eqb (i % 2) 0)), tt))))))
+good_words (task.Connection i) s =
+    (good_connect, (good_works, (number_good (department_of i) (omega arith), (number_good i (omega arith), tt))))
+good_words (task.Raise i) s =
+    (good_update, (good_emp, (number_good i (omega arith), (good_pay, (good_1500, tt)))))
+good_words task.FindByPay s =
+    (good_find, (good_emp, (good_where, (good_pay, (good_equal, (good_1500, tt))))))
 good_words task.FindByLink s = (good_find, (good_emp, (good_of, (good_works, (good_3, tt)))))
 
 no_comment : (t : Task) → is_comment (line_of t) ≡ false
@@ -192,7 +204,8 @@ means_3 = (refl, refl)
 words_mean : (t : Task) → IsSmall t → CommandWords work_schema (command_of t) (words_of t) []
 words_mean task.Begin s = refl
 words_mean task.Commit s = refl
-words_mean (task.Department d) s = (_, refl, (_, dept_name _, (_, (_, refl, number_means d (omega arith)), (_, (_, refl, plain_unquoted _ (plain_dept d (omega arith))), refl))))
+words_mean (task.Department d) s =
+    (_, refl, (_, dept_name _, (_, (_, refl, number_means d (omega arith)), (_, (_, refl, plain_unquoted _ (plain_dept d (omega arith))), refl))))
 words_mean (task.Employee i) s = (
   _,
   refl,
@@ -210,16 +223,21 @@ words_mean (task.Employee i) s = (
     ),
   ),
 )
-words_mean (task.Connection i) s = (_, refl, (_, works_name _, (_, (_, refl, number_means (owner_of i) (omega arith)), (_, refl, number_means i (omega arith)))))
-words_mean (task.Raise i) s = (_, refl, (_, emp_name _, (_, (_, refl, number_means i (omega arith)), (_, pay_name _, (_, refl, means_1500)))))
-words_mean task.FindByPay s = (_, refl, (_, emp_name _, (_, (_, refl, (_, pay_name _, (_, refl, (_, refl, means_1500)))), (_, refl, inl (refl, refl)))))
-words_mean task.FindByLink s = (_, refl, (_, emp_name _, (_, refl, (_, (_, refl, (_, works_name _, (_, refl, means_3))), inl (refl, refl)))))
+words_mean (task.Connection i) s =
+    (_, refl, (_, works_name _, (_, (_, refl, number_means (department_of i) (omega arith)), (_, refl, number_means i (omega arith)))))
+words_mean (task.Raise i) s =
+    (_, refl, (_, emp_name _, (_, (_, refl, number_means i (omega arith)), (_, pay_name _, (_, refl, means_1500)))))
+words_mean task.FindByPay s =
+    (_, refl, (_, emp_name _, (_, (_, refl, (_, pay_name _, (_, refl, (_, refl, means_1500)))), (_, refl, inl (refl, refl)))))
+words_mean task.FindByLink s =
+    (_, refl, (_, emp_name _, (_, refl, (_, (_, refl, (_, works_name _, (_, refl, means_3))), inl (refl, refl)))))
 
 -- ---- what fits the schema
 
 printable : (text : List ℕ) → AllByRecursion IsPlain text → IsTrue (list_all is_printable text)
 printable [] h = refl
-printable (b ∷ bs) h = and_from _ _ (and_from _ _ (le-leb 32 b h.0.low) (le-leb b 126 h.0.high)) (printable bs h.1)
+printable (b ∷ bs) h = and_from _ _ (and_from _ _ (le-leb 32 b h.0.low) (le-leb b 126 h.0.high))
+    (printable bs h.1)
 
 short : (k n : ℕ) → 0 < k → n < 10 ^ k → n < 2 ^ 64 → length (decimal n) ≤ k
 short = length-decimal-le
@@ -240,9 +258,12 @@ fits task.Commit s = tt
 fits (task.Department d) s = (omega arith, (omega arith, ((dept_short d s, printable (codes "dept " ++ decimal d) (plain_dept d (omega arith))), tt)))
 fits (task.Employee i) s = (omega arith, (omega arith, ((emp_short i s, printable (codes "emp " ++ decimal i) (plain_emp i (omega arith))), (omega arith, ((room_short (eqb (i % 2) 0), printable (room_of i) (plain_room (eqb (i % 2) 0))), tt)))))
 fits (task.Connection i) s = (omega arith, omega arith, omega arith)
-fits (task.Raise i) s = (omega arith, omega arith, (record { past_key = omega arith; in_file = omega arith; fits = omega arith }, tt), (tt, tt))
-fits task.FindByPay s = record { file = omega arith; conds = (record { in_file = omega arith; fits = omega arith }, tt); of = tt; order = omega arith }
-fits task.FindByLink s = record { file = omega arith; conds = tt; of = (omega arith, refl, omega arith); order = omega arith }
+fits (task.Raise i) s =
+    (omega arith, omega arith, (record { past_key = omega arith; in_file = omega arith; fits = omega arith }, tt), (tt, tt))
+fits task.FindByPay s =
+    record { file = omega arith; conds = (record { in_file = omega arith; fits = omega arith }, tt); of = tt; order = omega arith }
+fits task.FindByLink s =
+    record { file = omega arith; conds = tt; of = (omega arith, refl, omega arith); order = omega arith }
 
 -- the line of a task means its command
 pub line_means : (t : Task) → IsSmall t → IsLineOf work_schema (line_of t) (command_of t)
@@ -269,9 +290,18 @@ raise_length i x = omega (arith, length-append i (codes " pay 1500"))
 pub line_short : (t : Task) → IsSmall t → length (line_of t) ≤ 50
 line_short task.Begin s = omega arith
 line_short task.Commit s = omega arith
-line_short (task.Department d) s = dept_length (decimal d) (short 5 d (omega arith) (omega arith) (omega arith))
-line_short (task.Employee i) s = employee_length (decimal i) (decimal (pay_of i)) (room_of i) (short 5 i (omega arith) (omega arith) (omega arith)) (short 5 (pay_of i) (omega arith) (omega arith) (omega arith)) (room_short (eqb (i % 2) 0))
-line_short (task.Connection i) s = connection_length (decimal (owner_of i)) (decimal i) (short 5 (owner_of i) (omega arith) (omega arith) (omega arith)) (short 5 i (omega arith) (omega arith) (omega arith))
-line_short (task.Raise i) s = raise_length (decimal i) (short 5 i (omega arith) (omega arith) (omega arith))
+line_short (task.Department d) s =
+    dept_length (decimal d) (short 5 d (omega arith) (omega arith) (omega arith))
+line_short (task.Employee i) s =
+    employee_length (decimal i) (decimal (pay_of i)) (room_of i)
+    (short 5 i (omega arith) (omega arith) (omega arith))
+    (short 5 (pay_of i) (omega arith) (omega arith) (omega arith))
+    (room_short (eqb (i % 2) 0))
+line_short (task.Connection i) s =
+    connection_length (decimal (department_of i)) (decimal i)
+    (short 5 (department_of i) (omega arith) (omega arith) (omega arith))
+    (short 5 i (omega arith) (omega arith) (omega arith))
+line_short (task.Raise i) s =
+    raise_length (decimal i) (short 5 i (omega arith) (omega arith) (omega arith))
 line_short task.FindByPay s = omega arith
 line_short task.FindByLink s = omega arith

@@ -4,7 +4,7 @@ use Rattle.std.specs.Fmt.{digits}
 use Rattle.gx_schema.specs.Printing.{schema_text}
 use Rattle.gx_schema.specs.Rules.{IsFile, IsLink, IsSchema}
 use Rattle.gx_schema.specs.Grammar.{IsSchemaText}
-use Rattle.gx_schema.specs.Reading.{size_at, kind_at, field_at, fields_at, file_at, link_at, item_at, items_at, schema_of}
+use Rattle.gx_schema.specs.Reading.{size_at, kind_at, field_behind, fields_at, file_behind, link_behind, item_at, items_behind, schema_of}
 use Rattle.gx_schema.proofs.SchemaLaws.{read_found}
 use Rattle.gx_schema.proofs.WellFormedLaws.{well_formed}
 use Rattle.gx_schema.specs.WellFormed.{IsWellFormed}
@@ -66,7 +66,8 @@ pub work_rules : IsSchema work_schema
 work_rules = record { some = omega arith; files = (dept_rules, (emp_rules, tt)); links = (works_rules, tt) }
 
 read_again : schema_of schema_lines ≡ Ok work_schema
-unfolding size_at kind_at field_at fields_at file_at link_at item_at items_at number_value
+unfolding size_at kind_at field_behind fields_at file_behind link_behind item_at items_behind
+    number_value
 read_again = refl
 
 -- the text means the schema

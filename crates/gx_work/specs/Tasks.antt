@@ -21,8 +21,8 @@ abbrev pub room_of : ℕ → List ℕ
 room_of i = if i % 2 == 0 then [] else codes "r7"
 
 -- the department that an employee works for
-abbrev pub owner_of : ℕ → ℕ
-owner_of i = i % 10
+abbrev pub department_of : ℕ → ℕ
+department_of i = i % 10
 
 -- the employees of the pay that the raises give
 abbrev pub by_pay : Find
@@ -53,7 +53,7 @@ command_of (task.Department d) =
 command_of (task.Employee i) =
     command.Insert 1 (int i ∷ value.Text (codes "emp " ++ decimal i) ∷ int (pay_of i)
     ∷ value.Text (room_of i) ∷ [])
-command_of (task.Connection i) = command.Connect 0 (int (owner_of i)) (int i)
+command_of (task.Connection i) = command.Connect 0 (int (department_of i)) (int i)
 command_of (task.Raise i) = command.Update 1 (int i) (record { field = 2; value = int 1500 } ∷ [])
 command_of task.FindByPay = command.Find by_pay
 command_of task.FindByLink = command.Find by_link
@@ -72,7 +72,7 @@ line_text (task.Employee i) =
     codes "insert emp " ++ decimal i ++ codes " \"emp " ++ decimal i ++ codes "\" "
     ++ decimal (pay_of i) ++ room_text i
 line_text (task.Connection i) =
-    codes "connect works " ++ decimal (owner_of i) ++ codes " " ++ decimal i ++ codes "\n"
+    codes "connect works " ++ decimal (department_of i) ++ codes " " ++ decimal i ++ codes "\n"
 line_text (task.Raise i) = codes "update emp " ++ decimal i ++ codes " pay 1500\n"
 line_text task.FindByPay = codes "find emp where pay = 1500\n"
 line_text task.FindByLink = codes "find emp of works 3\n"

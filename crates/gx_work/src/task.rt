@@ -1,7 +1,7 @@
 // The lines of the workload's script.
 ghost use Rattle.std.specs.Prelude.{◌≡◌, ◌++◌, IfOk};
 ghost use Rattle.std.specs.Fmt.{decimal};
-ghost use Rattle.gx_work.specs.Tasks.{pay_of, owner_of, room_text, line_text};
+ghost use Rattle.gx_work.specs.Tasks.{pay_of, department_of, room_text, line_text};
 
 use gx_values::NoMemory;
 use itoa::Buffer;
@@ -93,7 +93,7 @@ fn push_raise(out: &mut Vec<u8>, number: u32) -> Result<(), NoMemory>
 
 // The department that an employee works for.
 fn owner(number: u32) -> u32
-    ensures { result ≡ owner_of number }
+    ensures { result ≡ department_of number }
 {
     number % 10
 }

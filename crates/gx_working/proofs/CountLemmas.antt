@@ -23,7 +23,8 @@ onto_digits zero n acc h = h
 onto_digits (suc k) n acc h =
     let glyph = glyph_is (n % 10) (omega arith) in
     elim (eqb (n / 10) 0) as (λ b. AreDigits
-    (cond b (digit_glyph false (n % 10) ∷ acc) (digits_onto k 10 false (n / 10) (digit_glyph false (n % 10) ∷ acc)))) [
+    (cond b (digit_glyph false (n % 10) ∷ acc)
+    (digits_onto k 10 false (n / 10) (digit_glyph false (n % 10) ∷ acc)))) [
       | true ↦ (glyph, h)
       | false ↦ onto_digits k (n / 10) (digit_glyph false (n % 10) ∷ acc) (glyph, h)
     ]
@@ -32,7 +33,8 @@ onto_some : (k n : ℕ) (acc : List ℕ) → 0 < length acc → 0 < length (digi
 onto_some zero n acc h = h
 onto_some (suc k) n acc h =
     elim (eqb (n / 10) 0) as (λ b. 0 < length
-    (cond b (digit_glyph false (n % 10) ∷ acc) (digits_onto k 10 false (n / 10) (digit_glyph false (n % 10) ∷ acc)))) [
+    (cond b (digit_glyph false (n % 10) ∷ acc)
+    (digits_onto k 10 false (n / 10) (digit_glyph false (n % 10) ∷ acc)))) [
       | true ↦ omega arith
       | false ↦ onto_some k (n / 10) (digit_glyph false (n % 10) ∷ acc) (omega arith)
     ]
@@ -44,7 +46,8 @@ decimal_digits n = onto_digits 64 n [] tt
 first_some : (k n : ℕ) → 0 < length (digits_onto (suc k) 10 false n [])
 first_some k n =
     elim (eqb (n / 10) 0) as (λ b. 0 < length
-    (cond b (digit_glyph false (n % 10) ∷ []) (digits_onto k 10 false (n / 10) (digit_glyph false (n % 10) ∷ [])))) [
+    (cond b (digit_glyph false (n % 10) ∷ [])
+    (digits_onto k 10 false (n / 10) (digit_glyph false (n % 10) ∷ [])))) [
       | true ↦ omega arith
       | false ↦ onto_some k (n / 10) (digit_glyph false (n % 10) ∷ []) (omega arith)
     ]
@@ -70,12 +73,16 @@ number_behind front answer n e = record {
 nothing_behind : (answer : List ℕ) → answer ≡ codes "refused: no record\n" → IsBehind answer []
 nothing_behind answer e = record { front = codes "refused: no recor"; byte = 100; last = 10; parts = e; no_digit = refl; are_digits = tt }
 
-pub some_count : (answer ds : List ℕ) (n : ℕ) → ((others : List ℕ) → IsBehind answer others → ds ≡ others)
+pub some_count : (answer ds : List ℕ) (n : ℕ)
+    → ((others : List ℕ) → IsBehind answer others → ds ≡ others)
     → 0 < length ds → TellsCount answer n → ds ≡ decimal n
 some_count answer ds n one some (inl h) = one (decimal n) (number_behind h.0 answer n h.1)
-some_count answer ds n one some (inr h) = absurd (omega (arith, ap length (one [] (nothing_behind answer h.0))))
+some_count answer ds n one some (inr h) =
+    absurd (omega (arith, ap length (one [] (nothing_behind answer h.0))))
 
-pub no_count : (answer ds : List ℕ) (n : ℕ) → ((others : List ℕ) → IsBehind answer others → ds ≡ others)
+pub no_count : (answer ds : List ℕ) (n : ℕ)
+    → ((others : List ℕ) → IsBehind answer others → ds ≡ others)
     → length ds ≡ 0 → TellsCount answer n → codes "0" ≡ decimal n
-no_count answer ds n one none (inl h) = absurd (omega (arith, decimal_some n, ap length (one (decimal n) (number_behind h.0 answer n h.1))))
+no_count answer ds n one none (inl h) =
+    absurd (omega (arith, decimal_some n, ap length (one (decimal n) (number_behind h.0 answer n h.1))))
 no_count answer ds n one none (inr h) = sym (decimal_digit 0 (omega arith)) ∙ ap decimal (sym h.1)

@@ -45,7 +45,8 @@ use Rattle.gx_working.proofs.WorkedLemmas.{IsUpTo, up_to_start, AreFew, played_n
 
 -- ---- what the answer of a find tells
 
-list_tells : (def : FileDef) (f : _) (test : _) (order : _) (text : List ℕ) → IsListText def f test order text
+list_tells : (def : FileDef) (f : _) (test : _) (order : _) (text : List ℕ)
+    → IsListText def f test order text
     → TellsCount text (length (filter test (fin.entries f)))
 list_tells def f test order text h =
     inl (
@@ -61,13 +62,15 @@ tells_or : (b : Bool) (text : List ℕ) (Reply : List ℕ → Type 0) (count : �
 tells_or true text Reply count list h = inr (h, refl)
 tells_or false text Reply count list h = list h
 
-pub find_tells : (p : Playing) (q : Find) (text : List ℕ) → IsAnswered work_schema p (command.Find q) text
+pub find_tells : (p : Playing) (q : Find) (text : List ℕ)
+    → IsAnswered work_schema p (command.Find q) text
     → TellsCount text (found_count work_schema (seen_state p) q)
 find_tells p q text h =
     tells_or (lacks_of work_schema (seen_state p) q.of) text
     (IsReply work_schema (seen_state p) (command.Find q))
     (length (filter (is_chosen (seen_state p) q) (fin.entries (file_in (seen_state p) q.file))))
-    (list_tells (file_at work_schema q.file) (file_in (seen_state p) q.file) (is_chosen (seen_state p) q) q.order text) h
+    (list_tells (file_at work_schema q.file) (file_in (seen_state p) q.file)
+    (is_chosen (seen_state p) q) q.order text) h
 
 -- ---- one part after another
 
@@ -84,34 +87,43 @@ find_few (task.Employee i) h = absurd h
 find_few (task.Connection i) h = absurd h
 find_few (task.Raise i) h = absurd h
 
-pub after_changes : {S : Type 0} (g : Ghosts S) (n : ℕ) (s : State) (e f : Engine S) (script text : List ℕ)
-    → n ≤ 10000 → schema_of e ≡ work_schema → IsAt g (start_at s) e → script ≡ lines_text (changes n)
+pub after_changes : {S : Type 0} (g : Ghosts S) (n : ℕ) (s : State) (e f : Engine S)
+    (script text : List ℕ)
+    → n ≤ 10000 → schema_of e ≡ work_schema → IsAt g (start_at s) e
+    → script ≡ lines_text (changes n)
     → IsPlayedTo (beside g answers.Kept) (start_at s) (script_lines script) (with_answers e [])
     (with_answers f text) (Ok tt) → IsUpTo g s (changes n) ((n + 19) / 20 + 2) f
 after_changes g n s e f script text le schema_is at script_is played =
     let r = changes_run n (start_at s) le refl refl in
     up_to_next g s [] (changes n) 0 ((n + 19) / 20 + 2) e f text (up_to_start g s e at) r
-    (played_next g (start_at s) (changes n) ((n + 19) / 20 + 2) e f text (changes_few n le) r schema_is
-    (subst (λ t. IsPlayedTo (beside g answers.Kept) (start_at s) (script_lines t) (with_answers e [])
+    (played_next g (start_at s) (changes n) ((n + 19) / 20 + 2) e f text
+    (changes_few n le) r schema_is
+    (subst (λ t. IsPlayedTo (beside g answers.Kept) (start_at s) (script_lines t)
+    (with_answers e [])
     (with_answers f text) (Ok tt)) script_is played))
 
 -- a find was played behind these tasks
-pub record IsFoundBehind {S : Type 0} (g : Ghosts S) (s : State) (done : List Task) (t : Task) (p : Playing)
+pub record IsFoundBehind {S : Type 0} (g : Ghosts S) (s : State) (done : List Task) (t : Task)
+    (p : Playing)
     (f : Engine S) (text : List ℕ) : Type 0 where
   pub next : IsUpTo g s (done ++ t ∷ []) p.commits f
   pub answered : IsAnswered work_schema p (command_of t) text
   pub same : seen_state next.final ≡ seen_state p
 
 pub after_find : {S : Type 0} (g : Ghosts S) (s : State) (done : List Task) (t : Task) (commits : ℕ)
-    (e f : Engine S) (text : List ℕ) → IsFind t → schema_of e ≡ work_schema → (u : IsUpTo g s done commits e)
-    → IsPlayedTo (beside g answers.Kept) u.final (script_lines (lines_text (t ∷ []))) (with_answers e [])
+    (e f : Engine S) (text : List ℕ) → IsFind t → schema_of e ≡ work_schema
+    → (u : IsUpTo g s done commits e)
+    → IsPlayedTo (beside g answers.Kept) u.final (script_lines (lines_text (t ∷ [])))
+    (with_answers e [])
     (with_answers f text) (Ok tt) → IsFoundBehind g s done t u.final f text
 after_find g s done t commits e f text find schema_is u played =
     let runs = find_runs t u.final find u.outside in
-    let next = played_next g u.final (t ∷ []) u.final.commits e f text (find_few t find) runs.run schema_is played in
+    let next = played_next g u.final (t ∷ []) u.final.commits e f text (find_few t find) runs.run
+    schema_is played in
     record {
       next = up_to_next g s done (t ∷ []) commits u.final.commits e f text u runs.run next;
-      answered = subst (IsAnswered work_schema u.final (command_of t)) (sym next.text_is) runs.answered;
+      answered = subst (IsAnswered work_schema u.final (command_of t))
+          (sym next.text_is) runs.answered;
       same = runs.same;
     }
 
@@ -121,54 +133,72 @@ after_find g s done t commits e f text find schema_is u played =
 moved : {S : Type 0} (g : Ghosts S) (n : ℕ) (s : State) (e : Engine S) (leaves : S) (built : Built)
     (limit : Option Limits) (result : Result (List ℕ) Ending) → built_of e ≡ built
     → g.limit (leaves_of e) ≡ limit
-    → IsWorkedAs (built_of e) (g.limit (leaves_of e)) s (KeepsState g work_schema (built_of e) leaves) n result
+    → IsWorkedAs (built_of e) (g.limit (leaves_of e)) s
+    (KeepsState g work_schema (built_of e) leaves) n result
     → IsWorkedAs built limit s (KeepsState g work_schema built leaves) n result
 moved g n s e leaves built limit result built_is limit_is h =
-    subst (λ (b : Built). IsWorkedAs b limit s (KeepsState g work_schema b leaves) n result) built_is
-    (subst (λ (l : Option Limits). IsWorkedAs (built_of e) l s (KeepsState g work_schema (built_of e) leaves) n result) limit_is h)
+    subst (λ (b : Built). IsWorkedAs b limit s (KeepsState g work_schema b leaves) n result)
+    built_is
+    (subst (λ (l : Option Limits). IsWorkedAs (built_of e) l s
+    (KeepsState g work_schema (built_of e) leaves) n result) limit_is h)
 
-pub no_changes : {S : Type 0} (g : Ghosts S) (n : ℕ) (s : State) (e f : Engine S) (script text : List ℕ)
+pub no_changes : {S : Type 0} (g : Ghosts S) (n : ℕ) (s : State) (e f : Engine S)
+    (script text : List ℕ)
     (end : PlayEnd) → n ≤ 10000 → schema_of e ≡ work_schema → IsAt g (start_at s) e
     → script ≡ lines_text (changes n) → ((block : ℕ) → end ≡ play_end.Stop (stop.Damaged block) → ⊥)
-    → IsPlayedTo (beside g answers.Kept) (start_at s) (script_lines script) (with_answers e []) (with_answers f text) (Err end)
-    → IsWorkedAs (built_of e) (g.limit (leaves_of e)) s (KeepsState g work_schema (built_of e) (leaves_of f)) n (Err (ending_of end))
+    → IsPlayedTo (beside g answers.Kept) (start_at s) (script_lines script) (with_answers e [])
+    (with_answers f text) (Err end)
+    → IsWorkedAs (built_of e) (g.limit (leaves_of e)) s
+    (KeepsState g work_schema (built_of e) (leaves_of f)) n (Err (ending_of end))
 no_changes g n s e f script text end le schema_is at script_is sound played =
     worked_part g n s [] (changes n) (task.FindByPay ∷ task.FindByLink ∷ []) 0
     ((n + 19) / 20 + 2) e f text le refl (changes_few n le) schema_is (up_to_start g s e at) end
     (changes_run n (start_at s) le refl refl) sound
-    (subst (λ t. IsPlayedTo (beside g answers.Kept) (start_at s) (script_lines t) (with_answers e [])
+    (subst (λ t. IsPlayedTo (beside g answers.Kept) (start_at s) (script_lines t)
+    (with_answers e [])
     (with_answers f text) (Err end)) script_is played)
 
-pub no_find : {S : Type 0} (g : Ghosts S) (n : ℕ) (s : State) (done later : List Task) (t : Task) (commits : ℕ)
-    (e f : Engine S) (built : Built) (limit : Option Limits) (text : List ℕ) (end : PlayEnd) → n ≤ 10000
+pub no_find : {S : Type 0} (g : Ghosts S) (n : ℕ) (s : State) (done later : List Task) (t : Task)
+    (commits : ℕ)
+    (e f : Engine S) (built : Built) (limit : Option Limits) (text : List ℕ) (end : PlayEnd)
+    → n ≤ 10000
     → tasks n ≡ done ++ t ∷ [] ++ later → IsFind t → schema_of e ≡ work_schema → built_of e ≡ built
     → g.limit (leaves_of e) ≡ limit → (u : IsUpTo g s done commits e)
     → ((block : ℕ) → end ≡ play_end.Stop (stop.Damaged block) → ⊥)
-    → IsPlayedTo (beside g answers.Kept) u.final (script_lines (lines_text (t ∷ []))) (with_answers e []) (with_answers f text) (Err end)
-    → IsWorkedAs built limit s (KeepsState g work_schema built (leaves_of f)) n (Err (ending_of end))
-no_find g n s done later t commits e f built limit text end le all find schema_is built_is limit_is u sound played =
+    → IsPlayedTo (beside g answers.Kept) u.final (script_lines (lines_text (t ∷ [])))
+    (with_answers e []) (with_answers f text) (Err end)
+    → IsWorkedAs built limit s (KeepsState g work_schema built (leaves_of f)) n
+    (Err (ending_of end))
+no_find g n s done later t commits e f built limit text end le all find schema_is built_is limit_is
+    u sound played =
     moved g n s e (leaves_of f) built limit (Err (ending_of end)) built_is limit_is
     (worked_part g n s done (t ∷ []) later commits u.final.commits e f text le all
     (find_few t find) schema_is u end (find_runs t u.final find u.outside).run sound played)
 
 -- what is kept where tasks ran
-pub keeps_up_to : {S : Type 0} (g : Ghosts S) (s : State) (done : List Task) (commits : ℕ) (e : Engine S)
-    (built : Built) → schema_of e ≡ work_schema → built_of e ≡ built → (u : IsUpTo g s done commits e)
+pub keeps_up_to : {S : Type 0} (g : Ghosts S) (s : State) (done : List Task) (commits : ℕ)
+    (e : Engine S)
+    (built : Built) → schema_of e ≡ work_schema → built_of e ≡ built
+    → (u : IsUpTo g s done commits e)
     → KeepsState g work_schema built (leaves_of e) u.final.kept
 keeps_up_to {S = S} g s done commits e built schema_is built_is u =
     subst (λ (k : Schema). KeepsState g k built (leaves_of e) u.final.kept) schema_is
-    (subst (λ (b : Built). KeepsState g (schema_of e) b (leaves_of e) u.final.kept) built_is (kept_at g u.final e e refl refl u.at))
+    (subst (λ (b : Built). KeepsState g (schema_of e) b (leaves_of e) u.final.kept) built_is
+    (kept_at g u.final e e refl refl u.at))
 
 -- ---- where it is done
 
-pub done_first : {S : Type 0} (g : Ghosts S) (n : ℕ) (s : State) (done later : List Task) (commits : ℕ)
+pub done_first : {S : Type 0} (g : Ghosts S) (n : ℕ) (s : State) (done later : List Task)
+    (commits : ℕ)
     (e : Engine S) (built : Built) → n ≤ 10000 → tasks n ≡ done ++ later → schema_of e ≡ work_schema
-    → built_of e ≡ built → IsUpTo g s done commits e → IsWorkedFirst s (KeepsState g work_schema built (leaves_of e)) n
+    → built_of e ≡ built → IsUpTo g s done commits e
+    → IsWorkedFirst s (KeepsState g work_schema built (leaves_of e)) n
 done_first g n s done later commits e built le all schema_is built_is u =
     worked_so_far g n s done later commits e (KeepsState g work_schema built (leaves_of e)) le all u
     (keeps_up_to g s done commits e built schema_is built_is u)
 
-pub done_all : {S : Type 0} (g : Ghosts S) (n : ℕ) (s : State) (done : List Task) (commits : ℕ) (e : Engine S)
+pub done_all : {S : Type 0} (g : Ghosts S) (n : ℕ) (s : State) (done : List Task) (commits : ℕ)
+    (e : Engine S)
     (built : Built) (line : List ℕ) → n ≤ 10000 → tasks n ≡ done → schema_of e ≡ work_schema
     → built_of e ≡ built → (u : IsUpTo g s done commits e) → line ≡ work_text n u.final
     → IsWorkedOut s (KeepsState g work_schema built (leaves_of e)) n line
@@ -202,7 +232,8 @@ pub worked_over : {S : Type 0} (g : Ghosts S) (n : ℕ) (s : State) (e f : Engin
     (KeepsState g work_schema (built_of e) (leaves_of f)) n result
     → IsWorkedAs built (g.limit leaves) s (KeepsState g work_schema built left) n result
 worked_over {S = S} g n s e f leaves left built result built_is leaves_is left_is h =
-    subst (λ (l : S). IsWorkedAs built (g.limit leaves) s (KeepsState g work_schema built l) n result) (sym left_is)
+    subst (λ (l : S). IsWorkedAs built (g.limit leaves) s (KeepsState g work_schema built l) n
+    result) (sym left_is)
     (moved g n s e (leaves_of f) built (g.limit leaves) result built_is (ap g.limit leaves_is) h)
 
 -- the line of the last moment, by the moments of the finds
@@ -211,7 +242,10 @@ pub line_of_last : (n commits : ℕ) (p q r : Playing) (line : List ℕ) → see
     → line ≡ work_line n (found_count work_schema (seen_state p) by_pay)
     (found_count work_schema (seen_state q) by_link) commits → line ≡ work_text n r
 line_of_last n commits p q r line first second k e =
-    e ∙ ap (λ s. work_line n (found_count work_schema s by_pay) (found_count work_schema (seen_state q) by_link)
+    e ∙ ap (λ s. work_line n (found_count work_schema s by_pay)
+    (found_count work_schema (seen_state q) by_link)
     commits) (sym (second ∙ first))
-    ∙ ap (λ s. work_line n (found_count work_schema (seen_state r) by_pay) (found_count work_schema s by_link) commits) (sym second)
-    ∙ ap (work_line n (found_count work_schema (seen_state r) by_pay) (found_count work_schema (seen_state r) by_link)) (sym k)
+    ∙ ap (λ s. work_line n (found_count work_schema (seen_state r) by_pay)
+    (found_count work_schema s by_link) commits) (sym second)
+    ∙ ap (work_line n (found_count work_schema (seen_state r) by_pay)
+    (found_count work_schema (seen_state r) by_link)) (sym k)

@@ -1,5 +1,5 @@
 // Databases of one heap under a key of one int.
-ghost use Rattle.std.specs.Prelude.{◌≡◌, ◌≤◌, IsTrue, length};
+ghost use Rattle.std.specs.Prelude.{◌≡◌, ◌≤◌, IsTrue};
 ghost use Rattle.gx_leaves.specs.Kinds.{are_built};
 ghost use Rattle.gx_ports.specs.Roots.{root_pages};
 

@@ -1,5 +1,5 @@
 // Each call on a file of each kind, with the entries and the pages worked out by hand.
-ghost use Rattle.std.specs.Prelude.{◌+◌, ◌≤◌, length};
+ghost use Rattle.std.specs.Prelude.{◌+◌};
 
 use crate::files::{File, OWNER, ROOT, made};
 use Step::{Put, Remove, Select};

@@ -23,7 +23,8 @@ int_field name = record { name = name; kind = kind.Int }
 pair_form : List ℕ → List ℕ → Form
 pair_form k v = record { keys = int_field k ∷ []; fields = int_field v ∷ [] }
 
-by_key : (k v : List ℕ) → IsPartition (pair_form k v) (Key 0) (value.Int (pos 10) ∷ value.Int (pos 20) ∷ [])
+by_key : (k v : List ℕ)
+    → IsPartition (pair_form k v) (Key 0) (value.Int (pos 10) ∷ value.Int (pos 20) ∷ [])
 unfolding IsStrictlySortedBy pair_form int_field
 by_key k v = record {
   place = omega arith;
@@ -59,7 +60,8 @@ pub key_layer : (form : Form) (bounds : List Value) (k v : List ℕ)
     → IsPartition form (Key 0) bounds
 key_layer form bounds k v keys fields is =
     let bounded = subst (IsPartition (pair_form k v) (Key 0)) (sym is) (by_key k v) in
-    subst (λ (f : Form). IsPartition f (Key 0) bounds) (sym (same_form form k v keys fields)) bounded
+    subst (λ (f : Form). IsPartition f (Key 0) bounds) (sym (same_form form k v keys fields))
+    bounded
 
 pub field_layer : (form : Form) (bounds : List Value) (k v : List ℕ)
     → form.keys ≡ record { name = k; kind = kind.Int } ∷ []
@@ -68,7 +70,8 @@ pub field_layer : (form : Form) (bounds : List Value) (k v : List ℕ)
     → IsPartition form (Rest 0) bounds
 field_layer form bounds k v keys fields is =
     let bounded = subst (IsPartition (pair_form k v) (Rest 0)) (sym is) (by_field k v) in
-    subst (λ (f : Form). IsPartition f (Rest 0) bounds) (sym (same_form form k v keys fields)) bounded
+    subst (λ (f : Form). IsPartition f (Rest 0) bounds) (sym (same_form form k v keys fields))
+    bounded
 
 -- a record in any child is a part under its own key
 pub part_of_key : (form : Form) (at : Where) (bounds key : List Value) (c : ℕ) (r : Rec)

@@ -1,5 +1,5 @@
 // Pages of entries, byte for byte.
-ghost use Rattle.std.specs.Prelude.{◌≡◌, ◌≤◌, length};
+ghost use Rattle.std.specs.Prelude.{◌≤◌, length};
 
 use gx_slots::{add, clear, count, entries, entry, find, is_entries, next, set_next, take};
 

@@ -1,5 +1,5 @@
 // Inner pages with separators and children, byte for byte.
-ghost use Rattle.std.specs.Prelude.{◌≡◌, ◌≤◌, length};
+ghost use Rattle.std.specs.Prelude.{◌≤◌, length};
 
 use gx_bnode::{
     branches, child, child_of, drop_child, has_room, insert, is_inner, make_inner, separator,

@@ -1,5 +1,5 @@
 // A schema and an equation under it, read, typed and built.
-ghost use Rattle.std.specs.Prelude.{◌≡◌, ◌≤◌, length, IfOk};
+ghost use Rattle.std.specs.Prelude.{◌≤◌, length, IfOk};
 ghost use Rattle.gx_schema.specs.Rules.{IsSchema};
 ghost use Rattle.gx_equation.specs.Printing.{AreWritten};
 ghost use Rattle.gx_equation.specs.Seen.{definitions_of};

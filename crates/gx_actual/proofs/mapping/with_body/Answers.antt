@@ -9,4 +9,5 @@ pub returns : goal.returns
 returns c =
     let body : c.in_ok-body.body ≡ body_of c.args.fields.now = search rules in
     let fields = c.in_ok-fields.ensures ∙ (λ i. value.Bytes (body i) ∷ []) in
-    subst (λ (r : Rec). IfOk c.one.result (λ parts. parts ≡ record { child = 0; rec = r } ∷ [])) (λ i. record { key = c.args.key; fields = fields i }) c.one.ensures
+    subst (λ (r : Rec). IfOk c.one.result (λ parts. parts ≡ record { child = 0; rec = r } ∷ []))
+    (λ i. record { key = c.args.key; fields = fields i }) c.one.ensures

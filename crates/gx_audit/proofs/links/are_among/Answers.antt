@@ -12,15 +12,18 @@ returns-then-not-contains-clause-no c = λ e ms os all.
     let p = c.pair-item.result in
     let items : c.deref-pair-items.result.now ≡ c.args.pairs.now = search rules in
     let h : In p c.args.pairs.now =
-    subst (In p) items (in_read c.deref-pair-items.result.now c.loop-pair.pair-index p c.pair-item.is
+    subst (In p) items (in_read c.deref-pair-items.result.now c.loop-pair.pair-index p
+    c.pair-item.is
     (omega (arith, c.loop-pair-test.true))) in
     let m : c.deref.result.now ≡ c.args.members.now = search rules in
     elim c.then-not-contains.branch [
       | then-not-contains-via-then-not-contains w ↦
-          c.contains.ensures.no (search rules) (subst (IsStrictlySortedBy value_cmp) (sym m) ms) (subst (In p.0) (sym m) (all p h).0)
+          c.contains.ensures.no (search rules) (subst (IsStrictlySortedBy value_cmp) (sym m) ms)
+          (subst (In p.0) (sym m) (all p h).0)
       | then-not-contains-via-else-not-contains+then-not-contains-2 w ↦
           let o : w.deref-else-not-contains.result.now ≡ c.args.owners.now = search rules in
-          w.contains-else-not-contains.ensures.no (search rules) (subst (IsStrictlySortedBy value_cmp) (sym o) os)
+          w.contains-else-not-contains.ensures.no (search rules)
+          (subst (IsStrictlySortedBy value_cmp) (sym o) os)
           (subst (In p.1) (sym o) (all p h).1)
     ]
 
@@ -29,11 +32,13 @@ loop-pair-preserved c = λ q h.
     let p = c.pair-item.result in
     let m : c.deref.result.now ≡ c.args.members.now = search rules in
     let o : c.deref-else-not-contains.result.now ≡ c.args.owners.now = search rules in
-    elim (in_more c.deref-pair-items.result.now c.loop-pair.pair-index p q (omega (arith, c.loop-pair-test.true)) h) [
+    elim (in_more c.deref-pair-items.result.now c.loop-pair.pair-index p q
+    (omega (arith, c.loop-pair-test.true)) h) [
       | inl k ↦ c.loop-pair.invariant q k
       | inr e ↦
           let same : q ≡ p = e ∙ sym c.pair-item.is in (
-            subst (λ (x : _ × _). In x.0 c.args.members.now) (sym same) (subst (In p.0) m (c.contains.ensures.yes (search rules))),
+            subst (λ (x : _ × _). In x.0 c.args.members.now) (sym same)
+                (subst (In p.0) m (c.contains.ensures.yes (search rules))),
             subst (λ (x : _ × _). In x.1 c.args.owners.now) (sym same)
                 (subst (In p.1) o (c.contains-else-not-contains.ensures.yes (search rules))),
           )
@@ -43,4 +48,5 @@ pub returns-clause-yes : goal.returns-clause-yes
 returns-clause-yes c = λ e q h.
     let items : c.deref-pair-items.result.now ≡ c.args.pairs.now = search rules in
     c.loop-pair.invariant q (subst (In q)
-    (sym (take_all c.loop-pair.pair-index c.deref-pair-items.result.now (omega (arith, c.loop-pair-test.false)) ∙ items)) h)
+    (sym (take_all c.loop-pair.pair-index c.deref-pair-items.result.now
+    (omega (arith, c.loop-pair-test.false)) ∙ items)) h)

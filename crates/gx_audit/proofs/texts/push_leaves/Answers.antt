@@ -25,15 +25,26 @@ loop-leaf-preserved g c =
     let below : n < length maps = search rules in
     let owner = c.index.result.now in
     let owned : owner ≡ get_or owners n owner = search rules in
-    let name : c.definition_name-name.result.now ≡ get_or (definition_names schema) (get_or owners n 0) [] =
-    c.definition_name-name.ensures ∙ ap (λ (k : ℕ). get_or (definition_names schema) k []) (get_or_read owners n owner (omega (arith, below, c.requires.owners)) owned 0) in
+    let name : c.definition_name-name.result.now ≡ get_or (definition_names schema)
+    (get_or owners n 0) [] =
+    c.definition_name-name.ensures
+    ∙ ap (λ (k : ℕ). get_or (definition_names schema) k [])
+    (get_or_read owners n owner (omega (arith, below, c.requires.owners)) owned 0) in
     let spec = c.index-in-loop-leaf.result.now in
     let stored : spec ≡ get_or specs n spec = search rules in
-    let kind : spec.kind ≡ (get_or specs n no_spec).kind = ap (λ (s : LeafSpec). s.kind) (get_or_read specs n spec (omega (arith, below, c.requires.specs)) stored no_spec) in
+    let kind : spec.kind ≡ (get_or specs n no_spec).kind =
+    ap (λ (s : LeafSpec). s.kind)
+    (get_or_read specs n spec (omega (arith, below, c.requires.specs)) stored no_spec) in
     record {
       lines = λ w are.
-          let count : c.in_ok-count.count ≡ len (map_at maps n) = e.count (inv.whole w) (subst (λ ms. AreCounts ms c.args.entries.now) (sym inv.reads.working) are) ∙ ap (λ (ms : List LeafMap). len (map_at ms n)) inv.reads.working in
-          c.in_ok-push_leaf.ensures ∙ (λ i. inv.lines w are i ++ leaf_text n (name i) (kind i) (count i)) ∙ append_assoc old (lines_below line n) (line n) ∙ ap (λ (lines : List ℕ). old ++ lines) (sym (lines_more line n));
+          let count : c.in_ok-count.count ≡ len (map_at maps n) =
+          e.count (inv.whole w) (subst (λ ms. AreCounts ms c.args.entries.now)
+          (sym inv.reads.working) are)
+          ∙ ap (λ (ms : List LeafMap). len (map_at ms n)) inv.reads.working in
+          c.in_ok-push_leaf.ensures
+          ∙ (λ i. inv.lines w are i ++ leaf_text n (name i) (kind i) (count i))
+          ∙ append_assoc old (lines_below line n) (line n)
+          ∙ ap (λ (lines : List ℕ). old ++ lines) (sym (lines_more line n));
       reads = reads_joined b inv.reads e.reads.reads;
       whole = λ h. e.reads.ends.whole (inv.whole h);
       counted = e.reads.ends.counted refl ∙ inv.counted;

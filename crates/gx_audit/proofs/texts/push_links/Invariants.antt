@@ -5,4 +5,5 @@ use Rattle.gx_audit.specs.Texts.{link_line, lines_below}
 use Rattle.gx_audit.proofs.texts.push_links.Given as goal
 
 abbrev pub invariant-loop-link : goal.invariant-loop-link
-invariant-loop-link l = (s : State) → l.counts ≡ map len s.links → l.text.items ≡ l.fn.text.items ++ lines_below (link_line l.schema s) l.link
+invariant-loop-link l = (s : State) → l.counts ≡ map len s.links
+    → l.text.items ≡ l.fn.text.items ++ lines_below (link_line l.schema s) l.link

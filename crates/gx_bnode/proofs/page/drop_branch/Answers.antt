@@ -36,7 +36,8 @@ branches_len-requires c =
 pub overflow_add-behind : goal.overflow_add-behind
 overflow_add-behind c =
     let page = c.args.page.now in
-    let len = place_len branch_format 0x49 (branches_of page) (first_of page) page c.split_at.result.1.now
+    let len = place_len branch_format 0x49 (branches_of page)
+    (first_of page) page c.split_at.result.1.now
     c.args.i c.offsets-at.result.0 c.offsets-at.result.1 c.branches_len.result no_branch
     (page_of page c.requires.page).page c.requires.place c.offsets-at.ensures.start
     c.offsets-at.ensures.end c.split_at.ensures.back c.branches_len.ensures in
@@ -45,7 +46,8 @@ overflow_add-behind c =
 pub copy_within-requires : goal.copy_within-requires
 copy_within-requires c =
     let page = c.args.page.now in
-    let len = place_len branch_format 0x49 (branches_of page) (first_of page) page c.split_at.result.1.now
+    let len = place_len branch_format 0x49 (branches_of page)
+    (first_of page) page c.split_at.result.1.now
     c.args.i c.offsets-at.result.0 c.offsets-at.result.1 c.branches_len.result no_branch
     (page_of page c.requires.page).page c.requires.place c.offsets-at.ensures.start
     c.offsets-at.ensures.end c.split_at.ensures.back c.branches_len.ensures in

@@ -30,7 +30,8 @@ returns c =
     let end = c.offsets-at.result.1 in
     let room : branch_len branch ≤ 4096 - end = omega
     (arith, c.offsets-at.ensures.end, separators_len branches, c.requires.room, c.requires.short) in
-    let is = page_added first branches page old c.args.i branch at end c.copy_within.new.self c.write_branch.new.bytes new
+    let is = page_added first branches page old c.args.i branch at end c.copy_within.new.self
+    c.write_branch.new.bytes new
     (omega (arith, c.requires.place, separators_count branches))
     (record { separator = c.requires.short; child = search rules }) c.requires.ascending
     c.offsets-at.ensures.start c.offsets-at.ensures.end room
@@ -39,7 +40,8 @@ returns c =
     (c.set_record_count.ensures
     ∙ ap (λ n. overwritten c.write_branch.new.bytes 2 (to_be_bytes w16 (n + 1)))
     (c.separators-count.ensures ∙ separators_count branches))
-    (c.set_record_count.auto.page ∙ c.write_branch.auto.bytes ∙ c.copy_within.ensures.len ∙ old.page.size) in
+    (c.set_record_count.auto.page ∙ c.write_branch.auto.bytes ∙ c.copy_within.ensures.len
+    ∙ old.page.size) in
     let said = says first (insert branches c.args.i branch) new is in
     record {
       page = said.page;

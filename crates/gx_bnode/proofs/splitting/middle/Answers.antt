@@ -14,7 +14,8 @@ loop-separator-init c =
 pub branch_len-taken-requires : goal.branch_len-taken-requires
 branch_len-taken-requires c =
     let page = c.args.page.now in
-    let fit = at_all IsFit (branches_of page) c.loop-separator.place c.loop-separator.separator-iterator
+    let fit = at_all IsFit (branches_of page) c.loop-separator.place
+    c.loop-separator.separator-iterator
     (lent (c.in-Some.separator, c.in-Some.field-0-1)) c.next.new.self
     (page_of page c.requires.page).page.holds.fit c.loop-separator.invariant.at
     c.in-Some.ensures.steps in
@@ -23,7 +24,8 @@ branch_len-taken-requires c =
 pub overflow_add-taken : goal.overflow_add-taken
 overflow_add-taken c =
     let page = c.args.page.now in
-    let fit = at_all IsFit (branches_of page) c.loop-separator.place c.loop-separator.separator-iterator
+    let fit = at_all IsFit (branches_of page) c.loop-separator.place
+    c.loop-separator.separator-iterator
     (lent (c.in-Some.separator, c.in-Some.field-0-1)) c.next.new.self
     (page_of page c.requires.page).page.holds.fit c.loop-separator.invariant.at
     c.in-Some.ensures.steps in

@@ -40,7 +40,8 @@ split_at-requires-2 c =
     omega (
       arith,
       len,
-      others_fit branches place branch rest behind holds c.middle-place.ensures.place found.0 found.1,
+      others_fit branches place branch rest behind holds c.middle-place.ensures.place found.0
+          found.1,
     )
 
 pub returns : goal.returns
@@ -74,7 +75,8 @@ returns c =
     (end - at - c.branch_len.result) holds below found.0 found.1 c.split_at-2.ensures.front len in
     let on_left = left_page first branches page old place left side.0 (omega (arith, below))
     c.set_record_count.ensures (c.set_record_count.auto.page ∙ old.page.size) in
-    let on_right = right_page branches place branch.child c.args.right.now c.write_header.new.page right c.split_at-2.result.0.now
+    let on_right = right_page branches place branch.child c.args.right.now c.write_header.new.page
+    right c.split_at-2.result.0.now
     old.page.holds.fit old.ascending side.1 most found.0.child c.requires.size
     (c.write_header.ensures
     ∙ ap (λ n. overwritten c.args.right.now 0 (header 0x49 (n - place - 1) branch.child))

@@ -27,7 +27,8 @@ pub returns-in_default-split_branch : goal.returns-in_default-split_branch
 returns-in_default-split_branch c = (
   λ bad. absurd (false≢true bad),
   λ held. absurd
-      (no_more branch_format separator_of c.args.bytes.now c.loop.counter c.loop.rest.now c.loop.last.now c.args.count c.loop.invariant
+      (no_more branch_format separator_of c.args.bytes.now c.loop.counter c.loop.rest.now
+      c.loop.last.now c.args.count c.loop.invariant
       c.loop-test.true c.in_default-split_branch.ensures held),
 )
 
@@ -36,8 +37,10 @@ returns-then-not-is_below c =
     let found = c.in-Some-split_branch.ensures in (
       λ bad. absurd (false≢true bad),
       λ held. absurd
-          (not_ascending branch_format separator_of c.args.bytes.now c.loop.counter c.loop.rest.now c.loop.last.now c.args.count
-          (lent (c.in-Some-split_branch.separator, c.in-Some-split_branch.field-0-0-1)) c.in-Some-split_branch.behind.now
+          (not_ascending branch_format separator_of c.args.bytes.now c.loop.counter c.loop.rest.now
+          c.loop.last.now c.args.count
+          (lent (c.in-Some-split_branch.separator, c.in-Some-split_branch.field-0-0-1))
+          c.in-Some-split_branch.behind.now
           c.loop.invariant c.loop-test.true found.0 found.1 (sym c.if-not-is_below.ensures) held),
     )
 
@@ -56,6 +59,7 @@ returns c =
     let end : c.loop.counter ≡ c.args.count =
     omega (arith, c.loop-test.false, c.loop.auto.counter-end c.requires) in (
       λ _. subst (λ (n : ℕ). HoldsAscending n c.args.bytes.now) end
-          (scanned_all branch_format separator_of c.args.bytes.now c.loop.counter c.loop.rest.now c.loop.last.now c.loop.invariant),
+          (scanned_all branch_format separator_of c.args.bytes.now c.loop.counter c.loop.rest.now
+          c.loop.last.now c.loop.invariant),
       λ _. refl,
     )

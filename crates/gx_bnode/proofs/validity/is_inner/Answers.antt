@@ -9,10 +9,12 @@ returns-then-count-eq0 c = (
   λ bad. absurd (false≢true bad),
   λ is. elim c.then-count-eq0.branch [
     | then-count-eq0-via-then-count-eq0 w ↦
-        absurd (let some = page_some c.args.page.now c.record_count-count.result is c.record_count-count.ensures in
+        absurd (let some = page_some c.args.page.now c.record_count-count.result is
+        c.record_count-count.ensures in
         omega (arith, some, w.if-count-eq0.true))
     | then-count-eq0-via-else-count-eq0+then-not-has_kind w ↦
-        absurd (false≢true (sym w.if-not-has_kind.true ∙ w.has_kind.ensures.1 (page_kind c.args.page.now is)))
+        absurd (false≢true (sym w.if-not-has_kind.true
+        ∙ w.has_kind.ensures.1 (page_kind c.args.page.now is)))
   ],
 )
 

@@ -15,12 +15,16 @@ returns-in_err-read_page g c =
       ok = search rules;
       others = search rules;
       full =
-          full_never g.P.PageView _ c.args.place.now c.args.pages.now c.read_page.new.pages c.from_residual.result
-          (never_full _ c.from_residual.result c.from_residual.ensures.1 c.in_err-read_page.ensures.not_full);
+          full_never g.P.PageView _ c.args.place.now c.args.pages.now c.read_page.new.pages
+          c.from_residual.result
+          (never_full _ c.from_residual.result c.from_residual.ensures.1
+          c.in_err-read_page.ensures.not_full);
       keeps = search rules;
       ends =
-          ends_handed g.P.PageView _ _ _ c.args.pages.now c.read_page.new.pages _ c.from_residual.result
-          (root_ends g.P.PageView c.args.place.now c.args.key.now c.args.pages.now c.read_page.new.pages _ c.in_err-read_page.ensures.ends)
+          ends_handed g.P.PageView _ _ _ c.args.pages.now c.read_page.new.pages _
+          c.from_residual.result
+          (root_ends g.P.PageView c.args.place.now c.args.key.now c.args.pages.now
+          c.read_page.new.pages _ c.in_err-read_page.ensures.ends)
           c.from_residual.ensures.1;
       frugal = search rules;
     }
@@ -37,27 +41,38 @@ returns-in-Entries g c =
     let e = c.in_ok-read_page.ensures in
     record {
       ok = λ map holds.
-          on_ok c.put_alone.result (λ h. put_file (v.ground old) place (v.working old) (v.working new) map c.args.key.now c.args.body.now
+          on_ok c.put_alone.result
+          (λ h. put_file (v.ground old) place (v.working old) (v.working new) map c.args.key.now
+          c.args.body.now
           holds.file (put_from v place c.args.key.now old b new _ holds.file.tree e.reads h))
           (c.put_alone.ensures.put holds.told holds.file.tree
-          (held_of v place c.args.key.now old b c.read_page.new.into e.reads e.read c.requires.place.least map holds));
+          (held_of v place c.args.key.now old b c.read_page.new.into e.reads e.read
+          c.requires.place.least map holds));
       others = λ whole fault. (
           let holds = whole.1 in
           spared c.put_alone.result
-          (on_ok c.put_alone.result (λ h. (put_from v place c.args.key.now old b new _ holds.file.tree e.reads h).others)
+          (on_ok c.put_alone.result
+          (λ h. (put_from v place c.args.key.now old b new _ holds.file.tree e.reads h).others)
           (c.put_alone.ensures.put holds.told holds.file.tree
-          (held_of v place c.args.key.now old b c.read_page.new.into e.reads e.read c.requires.place.least whole.0 holds)))
+          (held_of v place c.args.key.now old b c.read_page.new.into e.reads e.read
+          c.requires.place.least whole.0 holds)))
           (λ is. claimed_apart (v.ground old) place.owner (v.working old) (v.working new)
-          (claimed_from v place c.args.key.now old b new e.reads (c.put_alone.ensures.claims.claimed holds.told is)))
-          fault c.put_alone.ensures.claims.frugal (λ n is. c.put_alone.ensures.claims.ends.cause.damaged n is tt));
+          (claimed_from v place c.args.key.now old b new e.reads
+          (c.put_alone.ensures.claims.claimed holds.told is)))
+          fault c.put_alone.ensures.claims.frugal
+          (λ n is. c.put_alone.ensures.claims.ends.cause.damaged n is tt));
       full =
-          root_full g.P.PageView c.args.place.now c.args.key.now c.args.pages.now c.read_page.new.pages c.put_alone.new.pages
-          c.put_alone.result c.in_ok-read_page.ensures.reads c.requires.kind c.put_alone.ensures.claims.full
+          root_full g.P.PageView c.args.place.now c.args.key.now c.args.pages.now
+          c.read_page.new.pages c.put_alone.new.pages
+          c.put_alone.result c.in_ok-read_page.ensures.reads c.requires.kind
+          c.put_alone.ensures.claims.full
           c.put_alone.ensures.claims.claimed;
       keeps = search rules;
       ends =
-          ends_after g.P.PageView _ _ c.args.pages.now c.read_page.new.pages c.put_alone.new.pages c.put_alone.result
-          (e.ends.cause.counted refl) e.reads.keeps.ground (λ w. tt) c.put_alone.ensures.claims.ends;
+          ends_after g.P.PageView _ _ c.args.pages.now c.read_page.new.pages c.put_alone.new.pages
+          c.put_alone.result
+          (e.ends.cause.counted refl) e.reads.keeps.ground
+          (λ w. tt) c.put_alone.ensures.claims.ends;
       frugal = search rules;
     }
 
@@ -78,17 +93,24 @@ returns-in_err-at g c =
           (λ is. claimed_apart (v.ground old) place.owner (v.working old) (v.working new)
           (claimed_from v place c.args.key.now old b new c.in_ok-read_page.ensures.reads
           (c.in_err-at.ensures.claims.claimed whole.1.told is)))
-          fault c.in_err-at.ensures.claims.frugal (λ n is. c.in_err-at.ensures.claims.ends.cause.damaged n is tt);
+          fault c.in_err-at.ensures.claims.frugal
+          (λ n is. c.in_err-at.ensures.claims.ends.cause.damaged n is tt);
       full =
-          full_handed g.P.PageView _ c.args.place.now c.args.pages.now c.open_root.new.pages _ c.from_residual-in_err-at.result
+          full_handed g.P.PageView _ c.args.place.now c.args.pages.now c.open_root.new.pages _
+          c.from_residual-in_err-at.result
           c.from_residual-in_err-at.ensures.1
-          (root_full g.P.PageView c.args.place.now c.args.key.now c.args.pages.now c.read_page.new.pages c.open_root.new.pages _
-          c.in_ok-read_page.ensures.reads c.requires.kind c.in_err-at.ensures.claims.full c.in_err-at.ensures.claims.claimed);
+          (root_full g.P.PageView c.args.place.now c.args.key.now c.args.pages.now
+          c.read_page.new.pages c.open_root.new.pages _
+          c.in_ok-read_page.ensures.reads c.requires.kind c.in_err-at.ensures.claims.full
+          c.in_err-at.ensures.claims.claimed);
       keeps = search rules;
       ends =
-          ends_handed g.P.PageView _ _ _ c.args.pages.now c.open_root.new.pages _ c.from_residual-in_err-at.result
-          (ends_after g.P.PageView _ _ c.args.pages.now c.read_page.new.pages c.open_root.new.pages _
-          (e.ends.cause.counted refl) e.reads.keeps.ground (λ w. tt) c.in_err-at.ensures.claims.ends) c.from_residual-in_err-at.ensures.1;
+          ends_handed g.P.PageView _ _ _ c.args.pages.now c.open_root.new.pages _
+          c.from_residual-in_err-at.result
+          (ends_after g.P.PageView _ _ c.args.pages.now c.read_page.new.pages
+          c.open_root.new.pages _
+          (e.ends.cause.counted refl) e.reads.keeps.ground
+          (λ w. tt) c.in_err-at.ensures.claims.ends) c.from_residual-in_err-at.ensures.1;
       frugal = search rules;
     }
 
@@ -100,10 +122,13 @@ loop-init g c =
     let b = c.read_page.new.pages in
     let e = c.in_ok-read_page.ensures in
     let o = c.in_ok-at.ensures in
-    growing_starts v place c.args.key.now old b c.open_root.new.pages c.in_ok-at.at c.open_root.new.page e.reads
-    (e.ends.cause.counted refl) c.open_root.ensures.claims.keeps (o.claims.ends.cause.counted refl) o.past o.inner o.room
+    growing_starts v place c.args.key.now old b c.open_root.new.pages c.in_ok-at.at
+    c.open_root.new.page e.reads
+    (e.ends.cause.counted refl) c.open_root.ensures.claims.keeps (o.claims.ends.cause.counted refl)
+    o.past o.inner o.room
     (λ map holds. o.come holds.told holds.file.tree
-    (held_of v place c.args.key.now old b c.read_page.new.into e.reads e.read c.requires.place.least map holds))
+    (held_of v place c.args.key.now old b c.read_page.new.into e.reads e.read c.requires.place.least
+    map holds))
 
 -- ---- the child on the way is read
 
@@ -112,19 +137,24 @@ returns-in_err-read_page-2 g c =
     record {
       ok = search rules;
       others = λ whole fault.
-          growing_apart g.P.PageView c.args.place.now c.args.key.now c.args.pages.now c.loop.pages c.loop.at c.loop.page c.loop.invariant
+          growing_apart g.P.PageView c.args.place.now c.args.key.now c.args.pages.now c.loop.pages
+          c.loop.at c.loop.page c.loop.invariant
           c.child_for-next.result c.child_for-next.ensures c.read_page-in-loop.new.pages
           c.in_err-read_page-2.ensures.reads whole.0 whole.1;
       full =
           full_never g.P.PageView _ c.args.place.now c.args.pages.now c.read_page-in-loop.new.pages
           c.from_residual-in_err-read_page-2.result
-          (never_full _ c.from_residual-in_err-read_page-2.result c.from_residual-in_err-read_page-2.ensures.1
+          (never_full _ c.from_residual-in_err-read_page-2.result
+          c.from_residual-in_err-read_page-2.ensures.1
           c.in_err-read_page-2.ensures.not_full);
       keeps = search rules;
       ends =
-          ends_handed g.P.PageView _ _ _ c.args.pages.now c.read_page-in-loop.new.pages _ c.from_residual-in_err-read_page-2.result
-          (growing_reads g.P.PageView c.args.place.now c.args.key.now c.args.pages.now c.loop.pages c.loop.at c.loop.page c.loop.invariant
-          c.child_for-next.result c.child_for-next.ensures c.read_page-in-loop.new.pages _ c.in_err-read_page-2.ensures.ends)
+          ends_handed g.P.PageView _ _ _ c.args.pages.now c.read_page-in-loop.new.pages _
+          c.from_residual-in_err-read_page-2.result
+          (growing_reads g.P.PageView c.args.place.now c.args.key.now c.args.pages.now c.loop.pages
+          c.loop.at c.loop.page c.loop.invariant
+          c.child_for-next.result c.child_for-next.ensures c.read_page-in-loop.new.pages _
+          c.in_err-read_page-2.ensures.ends)
           c.from_residual-in_err-read_page-2.ensures.1;
       frugal = search rules;
     }
@@ -147,22 +177,31 @@ returns-in-Entries-2 g c =
     let some = c.requires.place.least in
     record {
       ok = λ map holds.
-          on_ok c.put_below.result (λ h. put_file (v.ground old) place (v.working old) (v.working new) map key c.args.body.now holds.file
-          (growing_put v place key old c.loop.pages c.loop.at c.loop.page i next goes b below e.reads e.read some new _ map holds h))
+          on_ok c.put_below.result
+          (λ h. put_file (v.ground old) place (v.working old) (v.working new) map key
+          c.args.body.now holds.file
+          (growing_put v place key old c.loop.pages c.loop.at c.loop.page i next goes b below
+          e.reads e.read some new _ map holds h))
           (c.put_below.ensures.put holds.told place.root (i.come map holds).steps holds.file.tree
-          (growing_reached v place key old c.loop.pages c.loop.at c.loop.page i next goes b below e.reads e.read some map holds));
+          (growing_reached v place key old c.loop.pages c.loop.at c.loop.page i next goes b below
+          e.reads e.read some map holds));
       others = λ whole fault. (
           let map = whole.0 in
           let holds = whole.1 in
-          let reached = growing_reached v place key old c.loop.pages c.loop.at c.loop.page i next goes b below e.reads e.read some map
+          let reached = growing_reached v place key old c.loop.pages c.loop.at c.loop.page i next
+          goes b below e.reads e.read some map
           holds in
           spared c.put_below.result
           (on_ok c.put_below.result
-          (λ h. (growing_put v place key old c.loop.pages c.loop.at c.loop.page i next goes b below e.reads e.read some new _ map holds
+          (λ h. (growing_put v place key old c.loop.pages c.loop.at c.loop.page i next goes b below
+          e.reads e.read some new _ map holds
           h).others)
-          (c.put_below.ensures.put holds.told place.root (i.come map holds).steps holds.file.tree reached))
-          (λ is. subst (OthersStay (v.ground old) place.owner (v.working old)) (sym (c.put_below.ensures.claims.unchanged is))
-          (growing_apart v place key old c.loop.pages c.loop.at c.loop.page i next goes b e.reads map holds))
+          (c.put_below.ensures.put holds.told place.root (i.come map holds).steps holds.file.tree
+          reached))
+          (λ is. subst (OthersStay (v.ground old) place.owner (v.working old))
+          (sym (c.put_below.ensures.claims.unchanged is))
+          (growing_apart v place key old c.loop.pages c.loop.at c.loop.page i next goes b e.reads
+          map holds))
           fault c.put_below.ensures.claims.frugal
           (λ n is. c.put_below.ensures.claims.ends.cause.damaged n is (
             holds.told,
@@ -175,16 +214,22 @@ returns-in-Entries-2 g c =
             },
           )));
       full =
-          growing_full g.P.PageView c.args.place.now c.args.key.now c.args.pages.now c.loop.pages c.loop.at c.loop.page c.loop.invariant
-          c.child_for-next.result c.child_for-next.ensures c.read_page-in-loop.new.pages c.read_page-in-loop.new.into e.reads e.read
+          growing_full g.P.PageView c.args.place.now c.args.key.now c.args.pages.now c.loop.pages
+          c.loop.at c.loop.page c.loop.invariant
+          c.child_for-next.result c.child_for-next.ensures c.read_page-in-loop.new.pages
+          c.read_page-in-loop.new.into e.reads e.read
           c.requires.place.least
-          c.put_below.new.pages c.put_below.result c.requires.kind c.put_below.ensures.claims.full c.put_below.ensures.claims.unchanged;
+          c.put_below.new.pages c.put_below.result c.requires.kind c.put_below.ensures.claims.full
+          c.put_below.ensures.claims.unchanged;
       keeps = search rules;
       ends =
-          growing_ends g.P.PageView c.args.place.now c.args.key.now c.args.pages.now c.loop.pages c.loop.at c.loop.page c.loop.invariant
-          c.child_for-next.result c.child_for-next.ensures c.read_page-in-loop.new.pages c.read_page-in-loop.new.into e.reads e.read
+          growing_ends g.P.PageView c.args.place.now c.args.key.now c.args.pages.now c.loop.pages
+          c.loop.at c.loop.page c.loop.invariant
+          c.child_for-next.result c.child_for-next.ensures c.read_page-in-loop.new.pages
+          c.read_page-in-loop.new.into e.reads e.read
           c.requires.place.least
-          c.put_below.new.pages c.put_below.result (e.ends.cause.counted refl) c.put_below.ensures.claims.ends;
+          c.put_below.new.pages c.put_below.result (e.ends.cause.counted refl)
+          c.put_below.ensures.claims.ends;
       frugal = search rules;
     }
 
@@ -209,11 +254,15 @@ returns-in_err-at-in-Inner-2 g c =
       others = λ whole fault. (
           let map = whole.0 in
           let holds = whole.1 in
-          let reached = growing_reached v place key old c.loop.pages c.loop.at c.loop.page i next goes b below e.reads e.read some map
+          let reached = growing_reached v place key old c.loop.pages c.loop.at c.loop.page i next
+          goes b below e.reads e.read some map
           holds in
-          spared_handed _ c.from_residual-in_err-at-in-Inner-2.result c.from_residual-in_err-at-in-Inner-2.ensures.1
-          (λ is. subst (OthersStay (v.ground old) place.owner (v.working old)) (sym (m.claims.unchanged is))
-          (growing_apart v place key old c.loop.pages c.loop.at c.loop.page i next goes b e.reads map holds))
+          spared_handed _ c.from_residual-in_err-at-in-Inner-2.result
+          c.from_residual-in_err-at-in-Inner-2.ensures.1
+          (λ is. subst (OthersStay (v.ground old) place.owner (v.working old))
+          (sym (m.claims.unchanged is))
+          (growing_apart v place key old c.loop.pages c.loop.at c.loop.page i next goes b e.reads
+          map holds))
           fault m.claims.frugal
           (λ n is. m.claims.ends.cause.damaged n is (
             holds.told,
@@ -226,20 +275,27 @@ returns-in_err-at-in-Inner-2 g c =
             },
           )));
       full =
-          full_handed g.P.PageView _ c.args.place.now c.args.pages.now c.make_room.new.pages _ c.from_residual-in_err-at-in-Inner-2.result
+          full_handed g.P.PageView _ c.args.place.now c.args.pages.now c.make_room.new.pages _
+          c.from_residual-in_err-at-in-Inner-2.result
           c.from_residual-in_err-at-in-Inner-2.ensures.1
-          (growing_full g.P.PageView c.args.place.now c.args.key.now c.args.pages.now c.loop.pages c.loop.at c.loop.page c.loop.invariant
-          c.child_for-next.result c.child_for-next.ensures c.read_page-in-loop.new.pages c.read_page-in-loop.new.into e.reads e.read
+          (growing_full g.P.PageView c.args.place.now c.args.key.now c.args.pages.now c.loop.pages
+          c.loop.at c.loop.page c.loop.invariant
+          c.child_for-next.result c.child_for-next.ensures c.read_page-in-loop.new.pages
+          c.read_page-in-loop.new.into e.reads e.read
           c.requires.place.least
           c.make_room.new.pages _ c.requires.kind c.in_err-at-in-Inner-2.ensures.claims.full
           c.in_err-at-in-Inner-2.ensures.claims.unchanged);
       keeps = search rules;
       ends =
-          ends_handed g.P.PageView _ _ _ c.args.pages.now c.make_room.new.pages _ c.from_residual-in_err-at-in-Inner-2.result
-          (growing_ends g.P.PageView c.args.place.now c.args.key.now c.args.pages.now c.loop.pages c.loop.at c.loop.page c.loop.invariant
-          c.child_for-next.result c.child_for-next.ensures c.read_page-in-loop.new.pages c.read_page-in-loop.new.into e.reads e.read
+          ends_handed g.P.PageView _ _ _ c.args.pages.now c.make_room.new.pages _
+          c.from_residual-in_err-at-in-Inner-2.result
+          (growing_ends g.P.PageView c.args.place.now c.args.key.now c.args.pages.now c.loop.pages
+          c.loop.at c.loop.page c.loop.invariant
+          c.child_for-next.result c.child_for-next.ensures c.read_page-in-loop.new.pages
+          c.read_page-in-loop.new.into e.reads e.read
           c.requires.place.least
-          c.make_room.new.pages _ (e.ends.cause.counted refl) c.in_err-at-in-Inner-2.ensures.claims.ends)
+          c.make_room.new.pages _ (e.ends.cause.counted refl)
+          c.in_err-at-in-Inner-2.ensures.claims.ends)
           c.from_residual-in_err-at-in-Inner-2.ensures.1;
       frugal = search rules;
     }
@@ -248,11 +304,15 @@ pub loop-preserved : goal.loop-preserved
 loop-preserved g c =
     let e = c.in_ok-read_page-2.ensures in
     let m = c.in_ok-at-in-Inner-2.ensures in
-    growing_goes g.P.PageView c.args.place.now c.args.key.now c.args.pages.now c.loop.pages c.loop.at c.loop.page c.loop.invariant
-    c.child_for-next.result c.child_for-next.ensures c.read_page-in-loop.new.pages c.read_page-in-loop.new.into e.reads e.read
+    growing_goes g.P.PageView c.args.place.now c.args.key.now c.args.pages.now c.loop.pages
+    c.loop.at c.loop.page c.loop.invariant
+    c.child_for-next.result c.child_for-next.ensures c.read_page-in-loop.new.pages
+    c.read_page-in-loop.new.into e.reads e.read
     c.requires.place.least
-    c.make_room.new.pages c.in_ok-at-in-Inner-2.at c.make_room.new.below (e.ends.cause.counted refl) c.make_room.ensures.claims.keeps
-    (m.claims.ends.cause.counted refl) m.past m.inner m.room (λ told root steps tree reached. m.come told root steps tree reached)
+    c.make_room.new.pages c.in_ok-at-in-Inner-2.at c.make_room.new.below (e.ends.cause.counted refl)
+    c.make_room.ensures.claims.keeps
+    (m.claims.ends.cause.counted refl) m.past m.inner m.room
+    (λ told root steps tree reached. m.come told root steps tree reached)
 
 -- ---- the search never ends
 
@@ -265,9 +325,11 @@ returns g c =
       full = search rules;
       keeps = search rules;
       ends =
-          growing_lost g.P.PageView c.args.place.now c.args.key.now c.args.pages.now c.loop.pages c.loop.at c.loop.page c.block.result i
+          growing_lost g.P.PageView c.args.place.now c.args.key.now c.args.pages.now c.loop.pages
+          c.loop.at c.loop.page c.block.result i
           (let s = ap (λ e. e.size) c.open_root.ensures.claims.keeps.ground in let r =
-          ap (λ e. e.size) c.in_ok-read_page.ensures.reads.keeps.ground in let n = c.pages-end.ensures in let o = c.loop-test.false in
+          ap (λ e. e.size) c.in_ok-read_page.ensures.reads.keeps.ground in let n =
+          c.pages-end.ensures in let o = c.loop-test.false in
           omega (arith, s, r, n, o))
           (subst (λ x. IsHome x c.block.result) i.keeps.ground (_, c.block.ensures.home));
       frugal = search rules;

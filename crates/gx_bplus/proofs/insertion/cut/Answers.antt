@@ -10,7 +10,8 @@ returns-clause-some c =
     let page = c.args.page.now in
     let d : Entry = record { key = []; body = [] } in
     let m = c.middle.ensures in
-    (middle_is (entries_of page) c.middle.result d (page_of page c.requires.page).page.holds.fit m.place m.across
+    (middle_is (entries_of page) c.middle.result d (page_of page c.requires.page).page.holds.fit
+    m.place m.across
     (let u = used_most page c.requires.page in omega (arith, u))).0
 
 pub returns-clause-right : goal.returns-clause-right
@@ -18,5 +19,6 @@ returns-clause-right c = λ _.
     let page = c.args.page.now in
     let d : Entry = record { key = []; body = [] } in
     let m = c.middle.ensures in
-    (middle_is (entries_of page) c.middle.result d (page_of page c.requires.page).page.holds.fit m.place m.across
+    (middle_is (entries_of page) c.middle.result d (page_of page c.requires.page).page.holds.fit
+    m.place m.across
     (let u = used_most page c.requires.page in omega (arith, u))).1

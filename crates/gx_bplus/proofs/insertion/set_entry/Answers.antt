@@ -4,7 +4,8 @@ use Rattle.gx_bplus.proofs.InsertLemmas.{none_left, set_on}
 use Rattle.gx_bplus.proofs.insertion.set_entry.Goals as goal
 
 pub add-requires-clause-other : goal.add-requires-clause-other
-add-requires-clause-other c = none_left (entries_of c.args.page.now) (entries_of c.take_key.new.page) c.args.key.now
+add-requires-clause-other c =
+    none_left (entries_of c.args.page.now) (entries_of c.take_key.new.page) c.args.key.now
     c.take_key.ensures.taken
 
 pub returns-clause-shown : goal.returns-clause-shown
@@ -12,7 +13,8 @@ returns-clause-shown c =
     let e : Entry = record { key = c.args.key.now; body = c.args.body.now } in
     let r = c.rank-i.ensures in
     let a = c.add.ensures in
-    (set_on c.add.result c.args.page.now c.take_key.new.page c.add.new.page c.rank-i.result e a.added a.full a.page a.next
+    (set_on c.add.result c.args.page.now c.take_key.new.page c.add.new.page c.rank-i.result e
+    a.added a.full a.page a.next
     c.take_key.ensures.shown c.take_key.ensures.taken r.before r.behind).shown
 
 pub returns-clause-set : goal.returns-clause-set
@@ -20,7 +22,8 @@ returns-clause-set c =
     let e : Entry = record { key = c.args.key.now; body = c.args.body.now } in
     let r = c.rank-i.ensures in
     let a = c.add.ensures in
-    (set_on c.add.result c.args.page.now c.take_key.new.page c.add.new.page c.rank-i.result e a.added a.full a.page a.next
+    (set_on c.add.result c.args.page.now c.take_key.new.page c.add.new.page c.rank-i.result e
+    a.added a.full a.page a.next
     c.take_key.ensures.shown c.take_key.ensures.taken r.before r.behind).set
 
 pub returns-clause-taken : goal.returns-clause-taken
@@ -28,5 +31,6 @@ returns-clause-taken c =
     let e : Entry = record { key = c.args.key.now; body = c.args.body.now } in
     let r = c.rank-i.ensures in
     let a = c.add.ensures in
-    (set_on c.add.result c.args.page.now c.take_key.new.page c.add.new.page c.rank-i.result e a.added a.full a.page a.next
+    (set_on c.add.result c.args.page.now c.take_key.new.page c.add.new.page c.rank-i.result e
+    a.added a.full a.page a.next
     c.take_key.ensures.shown c.take_key.ensures.taken r.before r.behind).taken

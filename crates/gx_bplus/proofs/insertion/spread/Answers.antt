@@ -12,9 +12,11 @@ returns-then-i-cut c =
     let cut = c.cut-cut.ensures in
     let less = c.if-i-cut.true in
     let x : IsSpreadOver c.args.page.now c.add.new.page c.split.new.right e c.first_key.result =
-    spread_left c.args.page.now c.split.new.page c.split.new.right c.add.new.page c.rank-i.result c.cut-cut.result e c.add.result
+    spread_left c.args.page.now c.split.new.page c.split.new.right c.add.new.page c.rank-i.result
+    c.cut-cut.result e c.add.result
     c.first_key.result c.requires.page s.front s.next s.right s.back s.no_next
-    less (cut.left less).0 (cut.left less).1 c.requires.fit a.page a.room.1 a.added a.next r.before (r.behind c.requires.page.0.ascending)
+    less (cut.left less).0 (cut.left less).1 c.requires.fit a.page a.room.1 a.added a.next r.before
+    (r.behind c.requires.page.0.ascending)
     c.requires.other c.first_key.ensures in
     record { left = x.left_shown; right = x.right_shown; spread = x.spread }
 
@@ -27,8 +29,10 @@ returns c =
     let cut = c.cut-cut.ensures in
     let le = c.if-i-cut.false in
     let x : IsSpreadOver c.args.page.now c.split.new.page c.add-2.new.page e c.first_key-2.result =
-    spread_right c.args.page.now c.split.new.page c.split.new.right c.add-2.new.page c.rank-i.result c.cut-cut.result e c.add-2.result
+    spread_right c.args.page.now c.split.new.page c.split.new.right c.add-2.new.page c.rank-i.result
+    c.cut-cut.result e c.add-2.result
     c.first_key-2.result c.requires.page s.left s.front s.next s.back s.no_next
-    (omega (arith, le)) r.place cut.some cut.within (cut.right (omega (arith, le))) c.requires.fit a.page a.room.1 a.added a.next r.before
+    (omega (arith, le)) r.place cut.some cut.within (cut.right (omega (arith, le))) c.requires.fit
+    a.page a.room.1 a.added a.next r.before
     (r.behind c.requires.page.0.ascending) c.requires.other c.first_key-2.ensures in
     record { left = x.left_shown; right = x.right_shown; spread = x.spread }

@@ -10,7 +10,8 @@ returns-then-child_of-eq0 c =
     let key = c.args.key.now in
     let e = c.child_of.ensures in
     c.child.ensures
-    ∙ (other_is (first_of page) (branches_of page) key c.child_of.result (place_for page key c.child_of.result e.number e.before e.behind)
+    ∙ (other_is (first_of page) (branches_of page) key c.child_of.result
+    (place_for page key c.child_of.result e.number e.before e.behind)
     c.requires.one).0 c.if-child_of-eq0.true
 
 pub returns : goal.returns
@@ -19,5 +20,6 @@ returns c =
     let key = c.args.key.now in
     let e = c.child_of.ensures in
     c.child-2.ensures
-    ∙ (other_is (first_of page) (branches_of page) key c.child_of.result (place_for page key c.child_of.result e.number e.before e.behind)
+    ∙ (other_is (first_of page) (branches_of page) key c.child_of.result
+    (place_for page key c.child_of.result e.number e.before e.behind)
     c.requires.one).1 c.if-child_of-eq0.false

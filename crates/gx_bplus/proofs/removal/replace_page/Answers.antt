@@ -18,10 +18,15 @@ returns-clause-removed g c told owner root steps tree below reached shown taken 
     let g1 = reads.keeps.ground in
     let g2 = c.in_ok-write.ensures.keeps.ground ∙ g1 in
     let g3 = c.in_ok-free.ensures.keeps.ground ∙ g2 in
-    replace_sheets (ground old) owner root c.args.at c.args.child c.args.other c.args.key.now tree steps c.args.page.now below bytes
+    replace_sheets (ground old) owner root c.args.at c.args.child c.args.other c.args.key.now tree
+    steps c.args.page.now below bytes
     (w old) (w two) (w three) (w four)
-    (g.met.P.Pages.many old told).1 c.requires.at reached c.requires.page shown taken c.requires.one c.requires.way c.requires.other
+    (g.met.P.Pages.many old told).1 c.requires.at reached c.requires.page shown taken c.requires.one
+    c.requires.way c.requires.other
     (c.in_ok-read_page.ensures.read told)
-    (subst (λ s. IsWritten c.args.at bytes s (w two)) reads.working (c.in_ok-write.ensures.written told))
-    (subst (λ e. IsOwnedAnew c.args.child 0 e (w two) (w three)) g2 (c.in_ok-free.ensures.freed told))
-    (subst (λ e. IsOwnedAnew c.args.other 0 e (w three) (w four)) g3 (c.in_ok-free-2.ensures.freed told))
+    (subst (λ s. IsWritten c.args.at bytes s (w two)) reads.working
+    (c.in_ok-write.ensures.written told))
+    (subst (λ e. IsOwnedAnew c.args.child 0 e (w two) (w three)) g2
+    (c.in_ok-free.ensures.freed told))
+    (subst (λ e. IsOwnedAnew c.args.other 0 e (w three) (w four)) g3
+    (c.in_ok-free-2.ensures.freed told))

@@ -12,9 +12,12 @@ returns-then-not-put_child-clause-claims g c =
       unchanged = search rules;
       keeps = search rules;
       ends =
-          ends_shown g.P.PageView (MayStand (branches_of c.args.page.now) c.args.key.now c.args.separator.now) c.args.pages.now
+          ends_shown g.P.PageView
+          (MayStand (branches_of c.args.page.now) c.args.key.now c.args.separator.now)
+          c.args.pages.now
           c.claim.new.self c.block.result (c.in_ok-fresh.ensures.cause.counted refl)
-          (subst (λ x. IsHome x c.block.result) c.claim.ensures.keeps.ground (_, c.block.ensures.home)) c.if-not-put_child.ensures.refused;
+          (subst (λ x. IsHome x c.block.result) c.claim.ensures.keeps.ground
+          (_, c.block.ensures.home)) c.if-not-put_child.ensures.refused;
       frugal = search rules;
     }
 

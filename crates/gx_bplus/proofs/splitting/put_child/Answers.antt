@@ -23,7 +23,8 @@ returns-then-not-is_between-clause-refused c may =
     let e = c.child_of-i.ensures in
     let at = place_for page c.args.key.now c.child_of-i.result e.number e.before e.behind in
     false≢true (sym c.if-not-is_between.true
-    ∙ c.is_between.ensures.1 (may_insert page c.args.key.now c.args.separator.now c.child_of-i.result at may))
+    ∙ c.is_between.ensures.1
+    (may_insert page c.args.key.now c.args.separator.now c.child_of-i.result at may))
 
 pub returns-clause-put : goal.returns-clause-put
 returns-clause-put c =
@@ -32,7 +33,10 @@ returns-clause-put c =
     let key = c.args.key.now in
     let e = c.child_of-i.ensures in
     let at = place_for page key c.child_of-i.result e.number e.before e.behind in
-    let is = with_is page new key c.args.separator.now c.child_of-i.result c.args.right at c.insert.ensures.separators
+    let is = with_is page new key c.args.separator.now c.child_of-i.result c.args.right at
+    c.insert.ensures.separators
     c.insert.ensures.children in
-    subst (λ f. ShowsInner new f (with_branch (branches_of page) key (record { separator = c.args.separator.now; child = c.args.right })))
+    subst (λ f. ShowsInner new f
+    (with_branch (branches_of page) key
+    (record { separator = c.args.separator.now; child = c.args.right })))
     is.0 (subst (ShowsInner new (first_of new)) is.1 (shows_inner new c.insert.ensures.page))

@@ -9,12 +9,14 @@ returns-clause-raised g c told =
     let m = c.make_inner.ensures in
     record {
       top = c.make_inner.new.page;
-      shows = one_branch c.make_inner.new.page c.args.separator.now c.in_ok-first.first c.in_ok-second.second m.page m.separators
+      shows = one_branch c.make_inner.new.page c.args.separator.now c.in_ok-first.first
+          c.in_ok-second.second m.page m.separators
           m.children;
       one = w c.claim.new.self;
       claimed = c.in_ok-first.ensures.claimed told;
       two = w c.claim-2.new.self;
-      claimed_too = subst (λ x. IsClaimed c.in_ok-second.second c.args.owner x (w c.claim.new.self) (w c.claim-2.new.self))
+      claimed_too = subst (λ x. IsClaimed c.in_ok-second.second c.args.owner x (w c.claim.new.self)
+          (w c.claim-2.new.self))
           c.claim.ensures.keeps.ground (c.in_ok-second.ensures.claimed told);
       three = w c.write.new.self;
       left_is = c.in_ok-write.ensures.written told;

@@ -23,9 +23,11 @@ pub returns-else-is_up_to : goal.returns-else-is_up_to
 returns-else-is_up_to c =
     let some = c.if-count-eq0.false in
     let first = lent c.entry.result in
-    let above : 0 < length (entries_of c.args.page.now) = omega (arith, c.count-count.ensures, some) in (
+    let above : 0 < length (entries_of c.args.page.now) = omega (arith, c.count-count.ensures, some)
+    in (
       (λ is. absurd (false≢true (sym c.if-is_up_to.false ∙ is))),
       (λ inside. c.is_up_to.ensures
           ∙ subst (λ (k : List ℕ). IsUpTo k first.key) (sym c.as_slice.ensures.value)
-          (first_inside c.args.page.now c.args.part.now c.args.high.now first above c.entry.ensures inside)),
+          (first_inside c.args.page.now c.args.part.now c.args.high.now first above c.entry.ensures
+          inside)),
     )

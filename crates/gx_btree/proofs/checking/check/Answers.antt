@@ -18,11 +18,13 @@ returns g c =
           on_ok_weaker c.seek_unseen.result
           (λ all. (c.in_ok-seen.ensures.seen told).1
           (subst (AreAllSeen s owner) c.deref.ensures.value
-          (subst (λ (x : Sheets). AreAllSeen x owner c.deref.result.now) c.visit_tree.ensures.reads.working all)))
+          (subst (λ (x : Sheets). AreAllSeen x owner c.deref.result.now)
+          c.visit_tree.ensures.reads.working all)))
           (c.seek_unseen.ensures.all told);
       reads = search rules;
       ends =
-          ends_as g.P.PageView (IsWhole g.P.PageView (IsBplus (g.P.PageView.ground p) c.args.place.now) p)
+          ends_as g.P.PageView (IsWhole g.P.PageView
+          (IsBplus (g.P.PageView.ground p) c.args.place.now) p)
           (HasAllSeen g.P.PageView now owner c.deref.result.now) p now c.seek_unseen.new.pages
           c.seek_unseen.result
           (c.in_ok-seen.ensures.ends.cause.counted refl) c.visit_tree.ensures.reads.keeps.ground
@@ -30,7 +32,8 @@ returns g c =
             whole.1.told,
             subst (λ (x : Sheets). AreAllSeen x owner c.deref.result.now)
                 (sym c.visit_tree.ensures.reads.working)
-                (subst (AreAllSeen s owner) (sym c.deref.ensures.value) ((c.in_ok-seen.ensures.seen whole.1.told).0 whole)),
+                (subst (AreAllSeen s owner) (sym c.deref.ensures.value)
+                ((c.in_ok-seen.ensures.seen whole.1.told).0 whole)),
           ))
           c.seek_unseen.ensures.ends;
       not_full = search rules;

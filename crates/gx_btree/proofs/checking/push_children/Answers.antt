@@ -10,7 +10,8 @@ pub loop-separator-init : goal.loop-separator-init
 loop-separator-init c =
     let part = c.args.part.now in
     let page = c.args.page.now in
-    let one = λ (n : ℕ) (low : List ℕ). let w : Part = record { above = part.page; page = n; low = low } in c.args.parts.now.items ++ w
+    let one = λ (n : ℕ) (low : List ℕ). let w : Part =
+    record { above = part.page; page = n; low = low } in c.args.parts.now.items ++ w
     ∷ [] in
     pushing_starts c.args.parts.now.items part.page part.low (first_of page) (branches_of page)
     c.push.new.self.items c.into_iter-separator-iterator.result

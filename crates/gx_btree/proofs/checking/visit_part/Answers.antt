@@ -41,7 +41,8 @@ returns-then-not-branch-clause-ends g c =
     read.reads.keeps.ground (_, c.block.ensures.home))
     (λ n. false≢true (sym c.if-not-branch.true
     ∙ c.in_ok-pass.ensures.inside.1
-    (next_inside g.P.PageView c.args.owner part p visits c.in_ok-shape.shape c.read_unseen.new.page read.shape read.read
+    (next_inside g.P.PageView c.args.owner part p visits c.in_ok-shape.shape c.read_unseen.new.page
+    read.shape read.read
     (let b = read.past.below in omega (arith, b, c.requires.seen)) n)))
 
 pub returns-clause-visited : goal.returns-clause-visited

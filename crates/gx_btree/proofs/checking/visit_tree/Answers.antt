@@ -34,7 +34,8 @@ returns-in_err-visit_part-clause-ends g c =
     let v = c.loop.visits in
     ends_handed g.P.PageView _ _ _ c.args.pages.now c.visit_part.new.pages _
     c.from_residual-in_err-visit_part.result
-    (visiting_ends g.P.PageView c.args.place.now c.args.pages.now c.loop.pages v c.loop.invariant c.in-Some.part
+    (visiting_ends g.P.PageView c.args.place.now c.args.pages.now c.loop.pages v c.loop.invariant
+    c.in-Some.part
     (record v { parts = c.pop.new.self }) c.in-Some.ensures.items refl refl
     c.visit_part.new.pages _ c.in_err-visit_part.ensures.ends)
     c.from_residual-in_err-visit_part.ensures.1

@@ -11,5 +11,6 @@ returns c shape shows = absurd (shows_header c.args.page.now shape shows
       | else-has_kind-2-via-then-has_kind-2+else-page_number-eq-NONE
           w ↦ (let f = w.if-page_number-eq-NONE.false in let e = w.page_number.ensures
           ∙ none in absurd (omega (arith, f, e)))
-      | else-has_kind-2-via-else-has_kind-2 w ↦ false≢true (sym w.if-has_kind-2.false ∙ c.has_kind-2.ensures.1 k)
+      | else-has_kind-2-via-else-has_kind-2 w ↦
+          false≢true (sym w.if-has_kind-2.false ∙ c.has_kind-2.ensures.1 k)
     ]))

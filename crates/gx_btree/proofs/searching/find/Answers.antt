@@ -11,13 +11,15 @@ pub loop-init : goal.loop-init
 loop-init g c = (
   c.requires.bytes,
   finding_starts g.P.PageView c.args.place.now c.args.key.now c.args.pages.now
-      (place_past (g.P.PageView.ground c.args.pages.now) c.args.place.now c.requires.place c.requires.kind).below,
+      (place_past (g.P.PageView.ground c.args.pages.now) c.args.place.now c.requires.place
+      c.requires.kind).below,
 )
 
 pub returns-in_err-read_kind-clause-ends : goal.returns-in_err-read_kind-clause-ends
 returns-in_err-read_kind-clause-ends g c =
     ends_handed g.P.PageView _ _ _ c.args.pages.now c.read_kind.new.pages _ c.from_residual.result
-    (finding_ends g.P.PageView c.args.place.now c.args.key.now c.args.pages.now c.loop.pages c.loop.from c.loop.at
+    (finding_ends g.P.PageView c.args.place.now c.args.key.now c.args.pages.now c.loop.pages
+    c.loop.from c.loop.at
     c.loop.bound c.loop.invariant.1 c.read_kind.new.pages _ c.in_err-read_kind.ensures.ends)
     c.from_residual.ensures.1
 
@@ -58,7 +60,8 @@ loop-preserved g c =
           c.loop.bound c.loop.invariant.1 c.read_kind.new.pages c.read_kind.new.into
           c.in-Some.way.page c.in-Some.way.bound e.reads
           (e.ends.cause.counted refl) e.past
-          (subst (λ s. Seems s c.read_kind.new.into) c.in-Inner.is e.shape) e.read c.in-Some.ensures,
+          (subst (λ s. Seems s c.read_kind.new.into) c.in-Inner.is e.shape) e.read
+          c.in-Some.ensures,
     )
 
 pub returns-clause-ends : goal.returns-clause-ends

@@ -23,7 +23,8 @@ returns-in_err-way g c =
       reads = search rules;
       ends =
           ends_handed g.P.PageView _ _ _ c.args.pages.now c.find.new.pages _ c.from_residual.result
-          (selecting_ends g.P.PageView c.args.place.now c.args.span.now.lo c.args.span.now.hi c.args.pages.now
+          (selecting_ends g.P.PageView c.args.place.now c.args.span.now.lo c.args.span.now.hi
+          c.args.pages.now
           c.args.out.now c.loop.pages c.loop.out c.loop.key c.loop.invariant c.find.new.pages _
           c.in_err-way.ensures.ends)
           c.from_residual.ensures.1;
@@ -50,7 +51,8 @@ returns-then-not-branch g c =
           (_, c.block.ensures.home))
           (λ m holds.
           let here =
-          holds_now g.P.PageView c.args.place.now c.args.span.now.lo c.args.span.now.hi c.args.pages.now
+          holds_now g.P.PageView c.args.place.now c.args.span.now.lo c.args.span.now.hi
+          c.args.pages.now
           c.args.out.now c.loop.pages c.loop.out c.loop.key i m holds in
           false≢true (sym c.if-not-branch.true ∙ c.in_ok-give.ensures.sound (e.shown m here).0));
       not_full = search rules;
@@ -71,9 +73,11 @@ returns-in_default g c =
           let shown = c.in_ok-way.ensures.shown m here in
           let found =
           subst (λ b. IsFound holds.file.tree key b es) c.in_default.is
-          (subst (λ k. IsFound holds.file.tree k c.in_ok-way.way.bound es) c.as_slice-in-loop.ensures.value
+          (subst (λ k. IsFound holds.file.tree k c.in_ok-way.way.bound es)
+          c.as_slice-in-loop.ensures.value
           (c.in_ok-way.ensures.found m here)) in
-          selecting_all g.P.PageView c.args.place.now lo hi c.args.pages.now c.args.out.now c.loop.pages
+          selecting_all g.P.PageView c.args.place.now lo hi c.args.pages.now c.args.out.now
+          c.loop.pages
           c.loop.out key i
           m holds es c.give.new.out (entries_up page shown) found
           (subst (λ k. c.give.new.out ≡ c.loop.out ++ given_from k lo hi es)
@@ -102,9 +106,11 @@ returns-then-is_past g c =
           let shown = c.in_ok-way.ensures.shown m here in
           let found =
           subst (λ b. IsFound holds.file.tree key b es) c.in-Some.is
-          (subst (λ k. IsFound holds.file.tree k c.in_ok-way.way.bound es) c.as_slice-in-loop.ensures.value
+          (subst (λ k. IsFound holds.file.tree k c.in_ok-way.way.bound es)
+          c.as_slice-in-loop.ensures.value
           (c.in_ok-way.ensures.found m here)) in
-          selecting_past g.P.PageView c.args.place.now lo hi c.args.pages.now c.args.out.now c.loop.pages
+          selecting_past g.P.PageView c.args.place.now lo hi c.args.pages.now c.args.out.now
+          c.loop.pages
           c.loop.out key i
           m holds es next c.give.new.out (entries_up page shown) found
           (subst (λ k. c.give.new.out ≡ c.loop.out ++ given_from k lo hi es)
@@ -141,7 +147,8 @@ loop-preserved g c =
           c.as_slice-in-loop-2.ensures.value
           (c.in_ok-give.ensures.ok shown.0),
       subst (λ b. IsFound holds.file.tree key b es) c.in-Some.is
-          (subst (λ k. IsFound holds.file.tree k c.in_ok-way.way.bound es) c.as_slice-in-loop.ensures.value (e.found m here)),
+          (subst (λ k. IsFound holds.file.tree k c.in_ok-way.way.bound es)
+          c.as_slice-in-loop.ensures.value (e.found m here)),
     ))
 
 pub returns : goal.returns

@@ -23,7 +23,8 @@ returns-clause-whole g c told =
     c.in_ok-visits.visits.seen.items c.visit_chain.new.visits c.in_ok-visits.ensures.seen
     (c.in_ok-visit_chain.ensures.visited told)
     (subst (λ (x : List Bool). AreAllSeen s c.args.owner x) c.deref.ensures.value
-    (subst (λ (x : Sheets). AreAllSeen x c.args.owner c.deref.result.now) c.visit_chain.ensures.reads.working all)))
+    (subst (λ (x : Sheets). AreAllSeen x c.args.owner c.deref.result.now)
+    c.visit_chain.ensures.reads.working all)))
     (c.seek_unseen.ensures.all told)
 
 pub returns-clause-ends : goal.returns-clause-ends
@@ -41,7 +42,8 @@ returns-clause-ends g c =
       subst (λ (x : Sheets). AreAllSeen x c.args.owner c.deref.result.now)
           (sym c.visit_chain.ensures.reads.working)
           (subst (λ (x : List Bool). AreAllSeen s c.args.owner x) (sym c.deref.ensures.value)
-          (whole_seen ground c.args.owner s c.args.first c.pages-count.result c.in_ok-visits.visits.seen.items c.visit_chain.new.visits
+          (whole_seen ground c.args.owner s c.args.first c.pages-count.result
+          c.in_ok-visits.visits.seen.items c.visit_chain.new.visits
           c.in_ok-visits.ensures.seen (c.in_ok-visit_chain.ensures.visited has.told) has.whole)),
     ))
     c.seek_unseen.ensures.ends

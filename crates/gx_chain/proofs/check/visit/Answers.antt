@@ -21,8 +21,10 @@ returns-then-not-branch-clause-ends g c =
     c.is_unseen.new.pages c.block.result
     c.in_ok-is_unseen.ensures.faults.counted (subst (λ (x : Ground). IsHome x c.block.result)
     c.is_unseen.ensures.reads.keeps.ground (_, c.block.ensures.home))
-    (λ n. (let unseen = subst (λ (x : List Bool). IsUnseen (g.P.PageView.working p) c.args.owner x c.args.number)
-    (sym c.deref.ensures.value) (next_unseen g.P.PageView p c.args.owner c.args.first visits c.args.number n) in
+    (λ n. (let unseen = subst (λ (x : List Bool). IsUnseen (g.P.PageView.working p) c.args.owner x
+    c.args.number)
+    (sym c.deref.ensures.value)
+    (next_unseen g.P.PageView p c.args.owner c.args.first visits c.args.number n) in
     false≢true (sym c.if-not-branch.true ∙ (c.in_ok-is_unseen.ensures.unseen n.told).1 unseen)))
 
 pub returns-in_err-read_entries-clause-ends : goal.returns-in_err-read_entries-clause-ends
@@ -59,7 +61,9 @@ returns-then-count-eq0-clause-ends g c =
     ∙ ap (λ (x : Sheets). bytes_at x c.args.number) c.is_unseen.ensures.reads.working in
     next_filled g.P.PageView p c.args.owner c.args.first visits c.args.number n
     c.if-number-first.true
-    (ap entries_of (sym read) ∙ none_long (entries_of c.read_entries.new.page) (sym c.count.ensures ∙ c.if-count-eq0.true))))
+    (ap entries_of (sym read)
+    ∙ none_long (entries_of c.read_entries.new.page) (sym c.count.ensures
+    ∙ c.if-count-eq0.true))))
 
 pub returns-then-not-branch-2-clause-ends : goal.returns-then-not-branch-2-clause-ends
 returns-then-not-branch-2-clause-ends g c =
@@ -97,8 +101,10 @@ returns-clause-visited g c told before front v =
     subst (λ (b : Bool). OnTrue b
     (HasAddedKeys (entries_of page) visits.keys.keys c.add_keys.new.keys.keys))
     c.if-not-branch-2.false c.in_ok-add_keys.ensures.added in
-    let filled : c.args.number ≢ c.args.first → entries_of page ≢ [] = elim c.else-number-first.branch [
-      | else-number-first-via-then-number-first+else-count-eq0 w ↦ λ d none. w.if-count-eq0.false (w.count.ensures ∙ ap length none)
+    let filled : c.args.number ≢ c.args.first → entries_of page ≢ [] =
+    elim c.else-number-first.branch [
+      | else-number-first-via-then-number-first+else-count-eq0 w ↦
+          λ d none. w.if-count-eq0.false (w.count.ensures ∙ ap length none)
       | else-number-first-via-else-number-first w ↦ λ d. absurd (d w.if-number-first.false)
     ] in
     visited_more (g.P.PageView.ground p) c.args.owner s c.args.first before front c.args.number

@@ -82,12 +82,14 @@ returns-in_err-behind-clause-ends g c =
     (LeadsOn (g.P.PageView.ground now) (next_of page)) p now now _
     c.from_residual-in_err-behind.result
     (c.in_ok-visit.ensures.ends.cause.counted refl ∙ i.faults) reads.keeps.ground
-    (λ has. (let read = c.in_ok-visit.ensures.bytes has.told ∙ ap (λ (x : Sheets). bytes_at x c.loop.number) i.reads.working in
+    (λ has. (let read = c.in_ok-visit.ensures.bytes has.told
+    ∙ ap (λ (x : Sheets). bytes_at x c.loop.number) i.reads.working in
     let hand = whole_hand ground c.args.owner s c.args.first c.args.visits.now.seen.items few_pages
     c.loop.counter c.loop.number c.loop.visits i.past (i.so_far has.told) has.pages has.chain in
     subst (λ (x : Ground). LeadsOn x (next_of page)) (sym reads.keeps.ground)
     (subst (LeadsOn ground) (sym (ap next_of read))
-    (hand_leads ground c.args.owner s c.args.first has.pages c.loop.counter c.loop.number has.chain hand))))
+    (hand_leads ground c.args.owner s c.args.first has.pages c.loop.counter c.loop.number has.chain
+    hand))))
     c.in_err-behind.ensures.ends c.from_residual-in_err-behind.ensures.1
 
 pub returns-in-None-clause-visited : goal.returns-in-None-clause-visited
@@ -162,7 +164,8 @@ returns-clause-ends g c =
     (HasUnseenChain g.P.PageView p c.args.owner c.args.first c.args.visits.now.seen.items) p
     c.loop.pages c.block.result i.faults
     (subst (λ (x : Ground). IsHome x c.block.result) i.reads.keeps.ground (_, c.block.ensures.home))
-    (λ has. (let hand = whole_hand ground c.args.owner s c.args.first c.args.visits.now.seen.items few_pages c.loop.counter c.loop.number
+    (λ has. (let hand = whole_hand ground c.args.owner s c.args.first c.args.visits.now.seen.items
+    few_pages c.loop.counter c.loop.number
     c.loop.visits i.past (i.so_far has.told) has.pages has.chain in
     let less = hand_ends ground c.args.owner s c.args.first has.pages c.loop.counter c.loop.number
     has.chain hand in

@@ -11,15 +11,19 @@ loop-init c is =
 pub returns-in_default-clause-ok : goal.returns-in_default-clause-ok
 returns-in_default-clause-ok c is =
     absurd
-    (passed_cut c.args.found.now.items c.args.span.now.lo c.args.span.now.hi c.args.page.now (drop 8 c.args.page.now) c.loop.counter
-    c.loop.found.items c.loop.rest.now c.record_count-end.result c.loop.invariant c.record_count-end.ensures is
+    (passed_cut c.args.found.now.items c.args.span.now.lo c.args.span.now.hi c.args.page.now
+    (drop 8 c.args.page.now) c.loop.counter
+    c.loop.found.items c.loop.rest.now c.record_count-end.result c.loop.invariant
+    c.record_count-end.ensures is
     c.loop-test.true c.in_default.ensures)
 
 pub returns-in_default-clause-sound : goal.returns-in_default-clause-sound
 returns-in_default-clause-sound c is =
     absurd
-    (passed_cut c.args.found.now.items c.args.span.now.lo c.args.span.now.hi c.args.page.now (drop 8 c.args.page.now) c.loop.counter
-    c.loop.found.items c.loop.rest.now c.record_count-end.result c.loop.invariant c.record_count-end.ensures is
+    (passed_cut c.args.found.now.items c.args.span.now.lo c.args.span.now.hi c.args.page.now
+    (drop 8 c.args.page.now) c.loop.counter
+    c.loop.found.items c.loop.rest.now c.record_count-end.result c.loop.invariant
+    c.record_count-end.ensures is
     c.loop-test.true c.in_default.ensures)
 
 pub loop-preserved : goal.loop-preserved

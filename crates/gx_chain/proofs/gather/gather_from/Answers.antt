@@ -25,9 +25,11 @@ loop-init g c =
       past = c.requires.first;
       way =
           λ told owner all chain.
-          (let h = hand_first s c.args.first all (is_some_page ground c.args.first few_pages c.requires.first) chain.linked in record {
+          (let h = hand_first s c.args.first all
+          (is_some_page ground c.args.first few_pages c.requires.first) chain.linked in record {
             hand = h.0;
-            gave = sym (append-nil found) ∙ ap (λ (f : List ℕ). found ++ inside_on s lo hi f) (sym h.1);
+            gave = sym (append-nil found)
+                ∙ ap (λ (f : List ℕ). found ++ inside_on s lo hi f) (sym h.1);
           });
     }
 
@@ -59,7 +61,9 @@ returns-then-not-branch-clause-ends g c =
         damaged = λ block is has. (let n = i.way has.0 has.1 has.2 has.3 in
             let read = e.bytes has.0 ∙ ap (λ x. bytes_at x c.loop.number) i.reads.working in
             false≢true
-            (sym c.if-not-branch.true ∙ c.in_ok-copy_inside.ensures.sound (subst IsEntryPage (sym read) n.hand.linked.1)));
+            (sym c.if-not-branch.true
+            ∙ c.in_ok-copy_inside.ensures.sound
+            (subst IsEntryPage (sym read) n.hand.linked.1)));
       };
       home = λ block is. (let same : c.block.result ≡ block = cc in
           subst (λ n. IsHome ground n) same
@@ -148,4 +152,5 @@ returns-clause-ends g c =
       faults = i.faults;
       hand = λ told owner all chain. (i.way told owner all chain).hand;
     })
-    c.block-2.result (omega (arith, c.loop-test.false, c.pages-end.ensures)) (_, c.block-2.ensures.home)
+    c.block-2.result (omega (arith, c.loop-test.false, c.pages-end.ensures))
+    (_, c.block-2.ensures.home)

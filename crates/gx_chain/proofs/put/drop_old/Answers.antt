@@ -18,7 +18,8 @@ returns-in_err-take_from-clause-ends g c =
     refl refl
     (λ r. (
       r.told,
-      has_key (g.P.PageView.ground p) r.owner r.first c.args.key.now (g.P.PageView.working p) r.pages
+      has_key (g.P.PageView.ground p) r.owner r.first c.args.key.now (g.P.PageView.working p)
+          r.pages
           r.chain c.in-Some.number c.args.old c.in-Some.is r.has,
     ))
     c.in_err-take_from.ensures.ends c.from_residual.ensures.1

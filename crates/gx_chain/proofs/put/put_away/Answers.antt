@@ -22,14 +22,18 @@ returns-in_err-add_to-clause-claims g c =
       ends =
           ends_handed_on g.P.PageView
           (IsReadyToPut g.P.PageView p c.args.owner c.args.key.now c.args.body.now c.args.away)
-          (HasRoomAt g.P.PageView u c.in-Some.room c.args.key.now c.args.body.now) p u c.add_to.new.pages
+          (HasRoomAt g.P.PageView u c.in-Some.room c.args.key.now c.args.body.now) p u
+          c.add_to.new.pages
           _ c.from_residual-in_err-add_to.result
           (c.in_ok-drop_old.ensures.ends.cause.counted refl) c.drop_old.ensures.keeps.ground
-          (λ r. (let there = room_there s c.args.key.now c.args.body.now r.pages c.args.away.old c.args.away.room
+          (λ r. (let there = room_there s c.args.key.now c.args.body.now r.pages c.args.away.old
+          c.args.away.room
           c.in-Some.room r.ready.noted c.in-Some.is in (
             r.told,
-            still_room ground c.args.owner r.first c.args.key.now c.args.body.now s (g.P.PageView.working u) r.pages
-                (c.in_ok-drop_old.ensures.dropped r.told c.args.owner r.first r.pages r.ready.chain r.ready.noted.old_is)
+            still_room ground c.args.owner r.first c.args.key.now c.args.body.now s
+                (g.P.PageView.working u) r.pages
+                (c.in_ok-drop_old.ensures.dropped r.told c.args.owner r.first r.pages r.ready.chain
+                r.ready.noted.old_is)
                 c.in-Some.room there.0 there.1,
           )))
           c.in_err-add_to.ensures.ends c.from_residual-in_err-add_to.ensures.1;
@@ -69,12 +73,15 @@ returns-in_err-drop_old-2-clause-claims g c =
             first = r.first;
             pages = r.pages;
             chain =
-                subst (λ (x : Ground). IsChain x c.args.owner (g.P.PageView.working u) r.first r.pages)
+                subst (λ (x : Ground). IsChain x c.args.owner (g.P.PageView.working u) r.first
+                r.pages)
                 (sym c.claim.ensures.keeps.ground)
-                (claimed_chain ground c.args.owner r.first s (g.P.PageView.working u) r.pages c.in_ok-fresh.fresh
+                (claimed_chain ground c.args.owner r.first s (g.P.PageView.working u) r.pages
+                c.in_ok-fresh.fresh
                 r.ready.chain c.requires.least claimed);
             has = claimed_old ground c.args.owner r.first s (g.P.PageView.working u) r.pages
-                c.in_ok-fresh.fresh r.ready.chain c.requires.least claimed c.args.key.now c.args.away.old
+                c.in_ok-fresh.fresh r.ready.chain c.requires.least claimed c.args.key.now
+                c.args.away.old
                 r.ready.noted.old_is;
           }))
           c.in_err-drop_old-2.ensures.ends c.from_residual-in_err-drop_old-2.ensures.1;
@@ -98,7 +105,8 @@ returns-in_err-append-clause-claims g c =
           (IsReadyToPut g.P.PageView p c.args.owner c.args.key.now c.args.body.now c.args.away)
           (IsEntryAt g.P.PageView v c.args.away.last × (c.args.away.last ≢ c.in_ok-fresh.fresh)) p v
           c.append.new.pages _ c.from_residual-in_err-append.result
-          (c.in_ok-drop_old-2.ensures.ends.cause.counted refl ∙ c.in_ok-fresh.ensures.cause.counted refl)
+          (c.in_ok-drop_old-2.ensures.ends.cause.counted refl
+          ∙ c.in_ok-fresh.ensures.cause.counted refl)
           (c.drop_old-2.ensures.keeps.ground ∙ gr)
           (λ r. (let claimed = c.in_ok-fresh.ensures.claimed r.told in
           let chain = claimed_chain ground c.args.owner r.first s (g.P.PageView.working u) r.pages
@@ -112,7 +120,8 @@ returns-in_err-append-clause-claims g c =
           let among = last_among r.pages r.ready.front c.args.away.last r.ready.ended in (
             (r.told, linked_page (g.P.PageView.working v) r.first r.pages c.args.away.last d.chain.linked among),
             λ e. fresh_off ground c.args.owner r.first s (g.P.PageView.working u) r.pages
-                c.in_ok-fresh.fresh r.ready.chain c.requires.least claimed (subst (Contains r.pages) e among),
+                c.in_ok-fresh.fresh r.ready.chain c.requires.least claimed
+                (subst (Contains r.pages) e among),
           )))
           c.in_err-append.ensures.ends c.from_residual-in_err-append.ensures.1;
       frugal = search rules;

@@ -37,17 +37,20 @@ returns-in-Away-clause-put g c told before chain =
     let reads = c.find_spot.ensures.reads in
     let spot = subst (IsSpot s c.args.key.now c.args.body.now before c.find_spot.new.page)
     c.in-Away.is (c.in_ok-number.ensures.found told c.args.owner before chain) in
-    let ready : IsReady (g.P.PageView.ground p) c.args.owner s c.args.first c.args.key.now c.args.body.now c.in-Away.away before =
+    let ready : IsReady (g.P.PageView.ground p) c.args.owner s c.args.first c.args.key.now
+    c.args.body.now c.in-Away.away before =
     record { chain = chain; noted = spot.0; front = spot.1.0; ended = spot.1.1 } in
     subst (λ (x : Ground). OnOk c.put_away.result
     (IsPutIn x c.args.owner c.args.first c.args.key.now c.args.body.now s t before))
     reads.keeps.ground
     (subst (λ (x : Sheets). OnOk c.put_away.result
-    (IsPutIn (g.P.PageView.ground q) c.args.owner c.args.first c.args.key.now c.args.body.now x t before)) reads.working
+    (IsPutIn (g.P.PageView.ground q) c.args.owner c.args.first c.args.key.now c.args.body.now x t
+    before)) reads.working
     (c.put_away.ensures.put told c.args.first before
     (subst (λ (x : Sheets). IsReady (g.P.PageView.ground q) c.args.owner x c.args.first
     c.args.key.now c.args.body.now c.in-Away.away before) (sym reads.working)
-    (subst (λ (x : Ground). IsReady x c.args.owner s c.args.first c.args.key.now c.args.body.now c.in-Away.away before)
+    (subst (λ (x : Ground). IsReady x c.args.owner s c.args.first c.args.key.now c.args.body.now
+    c.in-Away.away before)
     (sym reads.keeps.ground) ready))))
 
 pub returns-in-Away-clause-claims : goal.returns-in-Away-clause-claims
@@ -62,10 +65,12 @@ returns-in-Away-clause-claims g c =
       keeps = search rules;
       ends =
           ends_as g.P.PageView (HasChainOf g.P.PageView p c.args.owner c.args.first)
-          (IsReadyToPut g.P.PageView q c.args.owner c.args.key.now c.args.body.now c.in-Away.away) p q
+          (IsReadyToPut g.P.PageView q c.args.owner c.args.key.now c.args.body.now c.in-Away.away) p
+          q
           c.put_away.new.pages c.put_away.result
           (c.in_ok-number.ensures.ends.cause.counted refl) reads.keeps.ground
-          (λ has. (let spot = subst (IsSpot s c.args.key.now c.args.body.now has.pages c.find_spot.new.page) c.in-Away.is
+          (λ has. (let spot = subst (IsSpot s c.args.key.now c.args.body.now has.pages
+          c.find_spot.new.page) c.in-Away.is
           (c.in_ok-number.ensures.found has.told c.args.owner has.pages has.chain) in record {
             told = has.told;
             first = c.args.first;

@@ -57,7 +57,8 @@ returns-then-count-gt0-clause-removed g c told before chain =
     } in
     removed_there ground c.args.owner c.args.first c.args.key.now s t before
     (dropped_at ground c.args.owner c.args.first c.args.key.now s t before chain number among taken
-    (λ _ none. (let zero = ap length (entries ∙ none) in let some = c.if-count-gt0.true in omega (arith, zero, some, c.count.ensures))))
+    (λ _ none. (let zero = ap length (entries ∙ none) in let some = c.if-count-gt0.true in
+    omega (arith, zero, some, c.count.ensures))))
 
 pub returns-in_ok-write-in-None-clause-removed : goal.returns-in_ok-write-in-None-clause-removed
 returns-in_ok-write-in-None-clause-removed g c told before chain =
@@ -104,17 +105,21 @@ returns-in_err-unlink-in-Some-previous-clause-ends g c =
     (IsEntryAt g.P.PageView q c.in-Some-previous.previous) p q c.unlink.new.pages _
     c.from_residual-in_err-unlink-in-Some-previous.result
     (c.in_ok-found.ensures.ends.cause.counted refl) reads.keeps.ground
-    (λ has. (let f = MatchOption-at_some (LackKey s has.pages c.args.key.now) (IsFoundAt s c.args.key.now has.pages c.find_key.new.page)
-    c.in-Some.found c.in-Some.is (c.in_ok-found.ensures.found has.told c.args.owner has.pages has.chain) in
+    (λ has. (let f = MatchOption-at_some (LackKey s has.pages c.args.key.now)
+    (IsFoundAt s c.args.key.now has.pages c.find_key.new.page)
+    c.in-Some.found c.in-Some.is
+    (c.in_ok-found.ensures.found has.told c.args.owner has.pages has.chain) in
     let before = MatchOption-at_some (f.front ≡ [])
     (λ page. (others : List ℕ) × (f.front ≡ others ++ page ∷ [])) c.in-Some-previous.previous
     c.in-Some-previous.is f.previous in
     let in_front = subst (λ (x : List ℕ). Contains x c.in-Some-previous.previous) (sym before.1)
     (Contains-push before.0 c.in-Some-previous.previous) in
     let among = subst (λ (x : List ℕ). Contains x c.in-Some-previous.previous) (sym f.is)
-    (Contains-append_left f.front (c.in-Some.found.number ∷ f.rest) c.in-Some-previous.previous in_front) in (
+    (Contains-append_left f.front (c.in-Some.found.number ∷ f.rest) c.in-Some-previous.previous
+    in_front) in (
       has.told,
-      subst (λ (x : Sheets). IsEntryPage (bytes_at x c.in-Some-previous.previous)) (sym reads.working)
+      subst (λ (x : Sheets). IsEntryPage (bytes_at x c.in-Some-previous.previous))
+          (sym reads.working)
           (linked_page s c.args.first has.pages c.in-Some-previous.previous has.chain.linked among),
     )))
     c.in_err-unlink-in-Some-previous.ensures.ends
@@ -142,8 +147,10 @@ returns-in_ok-unlink-in-Some-previous-clause-removed g c told before chain =
     c.next-behind.ensures ∙ c.take.ensures.next ∙ ap next_of f.bytes_are in
     let entries = c.take.ensures.entries ∙ ap (λ b. remove (entries_of b) place) f.bytes_are in
     let few = c.if-count-gt0.false in
-    let u = subst (λ (x : Ground). IsUnlinked x previous (next_at s number) number s t) reads.keeps.ground
-    (subst (λ (x : Sheets). IsUnlinked (g.P.PageView.ground c.find_key.new.pages) previous (next_at s number) number x t) reads.working
+    let u = subst (λ (x : Ground). IsUnlinked x previous (next_at s number) number s t)
+    reads.keeps.ground
+    (subst (λ (x : Sheets). IsUnlinked (g.P.PageView.ground c.find_key.new.pages) previous
+    (next_at s number) number x t) reads.working
     (subst (λ n. IsUnlinked (g.P.PageView.ground c.find_key.new.pages) previous n number m t) behind
     (c.in_ok-unlink-in-Some-previous.ensures.unlinked told))) in
     removed_page ground c.args.owner c.args.first c.args.key.now s t before last.0 f.rest previous

@@ -23,7 +23,8 @@ loop-init g c =
       past_before = tt;
       way =
           λ told owner all chain.
-          (let h = hand_first s c.args.first all (is_some_page ground c.args.first few_pages c.requires.first) chain.linked in record {
+          (let h = hand_first s c.args.first all
+          (is_some_page ground c.args.first few_pages c.requires.first) chain.linked in record {
             hand = h.0;
             lacks = subst (λ (f : List ℕ). LackKey s f c.args.key.now) (sym h.1)
                 (lack_none s c.args.key.now);
@@ -41,7 +42,8 @@ returns-in_err-read_entries-clause-ends g c =
       faults = i.faults;
       hand = λ told owner all chain. (i.way told owner all chain).hand;
     })
-    {T = Unit {0}} c.read_entries.new.pages _ c.from_residual.result c.in_err-read_entries.ensures.ends
+    {T = Unit {0}} c.read_entries.new.pages _ c.from_residual.result
+    c.in_err-read_entries.ensures.ends
     c.from_residual.ensures.1
 
 pub returns-in-Some-clause-found : goal.returns-in-Some-clause-found
@@ -126,7 +128,8 @@ loop-preserved g c =
             hand = h.0;
             lacks = subst (λ (f : List ℕ). LackKey s f c.args.key.now) (sym h.1)
                 (lack_more s c.args.key.now n.hand.front c.loop.number n.lacks
-                (subst (λ b. All (λ (e : Entry). e.key ≢ c.args.key.now) (entries_of b)) read c.in_default.ensures.missing));
+                (subst (λ b. All (λ (e : Entry). e.key ≢ c.args.key.now) (entries_of b)) read
+                c.in_default.ensures.missing));
             before = (n.hand.front, h.1);
           });
     }

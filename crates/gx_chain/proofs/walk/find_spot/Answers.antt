@@ -21,7 +21,8 @@ loop-init g c =
       past = record { old = tt; room = tt; last = c.requires.first };
       way =
           λ told owner all chain.
-          (let h = hand_first s c.args.first all (is_some_page ground c.args.first few_pages c.requires.first) chain.linked in record {
+          (let h = hand_first s c.args.first all
+          (is_some_page ground c.args.first few_pages c.requires.first) chain.linked in record {
             hand = h.0;
             noted = subst (λ (f : List ℕ). AreNoted s c.args.key.now c.args.body.now f None None)
                 (sym h.1) (none_noted s c.args.key.now c.args.body.now);
@@ -38,7 +39,8 @@ returns-in_err-read_entries-clause-ends g c =
       faults = i.faults;
       hand = λ told owner all chain. (i.way told owner all chain).hand;
     })
-    {T = Unit {0}} c.read_entries.new.pages _ c.from_residual.result c.in_err-read_entries.ensures.ends
+    {T = Unit {0}} c.read_entries.new.pages _ c.from_residual.result
+    c.in_err-read_entries.ensures.ends
     c.from_residual.ensures.1
 
 pub returns-in-Replaced-clause-found : goal.returns-in-Replaced-clause-found
@@ -46,7 +48,8 @@ returns-in-Replaced-clause-found g c told owner all chain =
     let i = c.loop.invariant in
     let s = g.P.PageView.working c.args.pages.now in
     let n = i.way told owner all chain in
-    let read = c.in_ok-read_entries.ensures.bytes told ∙ ap (λ x. bytes_at x c.loop.away.last) i.reads.working in (
+    let read = c.in_ok-read_entries.ensures.bytes told
+    ∙ ap (λ x. bytes_at x c.loop.away.last) i.reads.working in (
       hand_in s all c.loop.counter c.loop.away.last n.hand,
       record {
         is_page = c.try_entry-trial.ensures.page;
@@ -71,7 +74,8 @@ returns-in_err-behind-clause-ends g c =
     (c.in_ok-read_entries.ensures.ends.cause.counted refl) c.read_entries.ensures.reads
     (λ told. c.try_entry-trial.ensures.next
     ∙ ap next_of
-    (c.in_ok-read_entries.ensures.bytes told ∙ ap (λ x. bytes_at x c.loop.away.last) i.reads.working))
+    (c.in_ok-read_entries.ensures.bytes told
+    ∙ ap (λ x. bytes_at x c.loop.away.last) i.reads.working))
     c.in_err-behind.ensures.ends c.from_residual-in_err-behind.ensures.1
 
 pub returns-in-None-clause-found : goal.returns-in-None-clause-found
@@ -92,16 +96,19 @@ returns-in-None-clause-found g c told owner all chain =
     let trial = subst (λ b. IsTrial c.try_entry-trial.result (entries_of b)
     (entries_of c.try_entry-trial.new.page) c.args.key.now c.args.body.now) read
     c.try_entry-trial.ensures.trial in
-    let more = noted_more s c.args.key.now c.args.body.now n.hand.front c.loop.away.last c.loop.away c.try_entry-trial.result
+    let more = noted_more s c.args.key.now c.args.body.now n.hand.front c.loop.away.last c.loop.away
+    c.try_entry-trial.result
     (entries_of c.try_entry-trial.new.page) refl c.in_default.not-Replaced trial n.noted in (
       subst (λ (a : Away). AreNoted s c.args.key.now c.args.body.now all a.old a.room)
           (sym c.note-away.ensures)
-          (subst (λ (x : List ℕ). AreNoted s c.args.key.now c.args.body.now x (noted c.loop.away c.try_entry-trial.result).old
+          (subst (λ (x : List ℕ). AreNoted s c.args.key.now c.args.body.now x
+          (noted c.loop.away c.try_entry-trial.result).old
           (noted c.loop.away c.try_entry-trial.result).room) (sym all_is) more),
       (
         n.hand.front,
         all_is ∙ ap (λ q. n.hand.front ++ q ∷ [])
-            (sym (ap (λ (a : Away). a.last) c.note-away.ensures ∙ noted_last c.loop.away c.try_entry-trial.result)),
+            (sym (ap (λ (a : Away). a.last) c.note-away.ensures
+            ∙ noted_last c.loop.away c.try_entry-trial.result)),
       ),
     )
 
@@ -141,7 +148,8 @@ loop-preserved g c =
             noted =
                 subst (λ (f : List ℕ). AreNoted s c.args.key.now c.args.body.now f
                 c.note-away.result.old c.note-away.result.room) (sym h.1)
-                (subst (λ (a : Away). AreNoted s c.args.key.now c.args.body.now (n.hand.front ++ c.loop.away.last ∷ []) a.old a.room)
+                (subst (λ (a : Away). AreNoted s c.args.key.now c.args.body.now
+                (n.hand.front ++ c.loop.away.last ∷ []) a.old a.room)
                 (sym c.note-away.ensures) more);
           });
     }

@@ -23,7 +23,8 @@ returns-clause-appended g c told apart =
     (entries_of c.add.new.page ≡ insert (entries_of c.clear.new.page) 0 e) ⊤
     (c.add.ensures.few (omega (arith, none))) c.add.ensures.added in
     let first = written s s b c.args.fresh NONE c.add.new.page (e ∷ []) refl
-    (let below = c.requires.fresh.below in omega (arith, below, many.1)) (c.in_ok-write.ensures.written told) c.add.ensures.page
+    (let below = c.requires.fresh.below in omega (arith, below, many.1))
+    (c.in_ok-write.ensures.written told) c.add.ensures.page
     (added ∙ ap (λ es. insert es 0 e) c.clear.ensures.entries)
     (c.add.ensures.next ∙ c.clear.ensures.next) in
     let read =

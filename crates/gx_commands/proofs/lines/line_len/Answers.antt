@@ -2,13 +2,18 @@ use Rattle.gx_commands.proofs.LineLaws.{ended_at, not_ended}
 use Rattle.gx_commands.proofs.lines.line_len.Goals as goal
 
 pub returns-in-Some-clause-before : goal.returns-in-Some-clause-before
-returns-in-Some-clause-before c = (ended_at 10 c.args.text.now c.memchr.result c.in-Some.at c.memchr.ensures c.in-Some.is).0
+returns-in-Some-clause-before c =
+    (ended_at 10 c.args.text.now c.memchr.result c.in-Some.at c.memchr.ensures c.in-Some.is).0
 
 pub returns-in-Some-clause-within : goal.returns-in-Some-clause-within
-returns-in-Some-clause-within c = (ended_at 10 c.args.text.now c.memchr.result c.in-Some.at c.memchr.ensures c.in-Some.is).1.0
+returns-in-Some-clause-within c =
+    (ended_at 10 c.args.text.now c.memchr.result c.in-Some.at c.memchr.ensures c.in-Some.is).1.0
 
 pub returns-in-Some-clause-ended : goal.returns-in-Some-clause-ended
-returns-in-Some-clause-ended c = λ _. (ended_at 10 c.args.text.now c.memchr.result c.in-Some.at c.memchr.ensures c.in-Some.is).1.1
+returns-in-Some-clause-ended c =
+    λ _. (ended_at 10 c.args.text.now c.memchr.result c.in-Some.at c.memchr.ensures
+    c.in-Some.is).1.1
 
 pub returns-in-None-clause-before : goal.returns-in-None-clause-before
-returns-in-None-clause-before c = not_ended 10 c.args.text.now c.memchr.result _ c.memchr.ensures c.in-None.is
+returns-in-None-clause-before c =
+    not_ended 10 c.args.text.now c.memchr.result _ c.memchr.ensures c.in-None.is

@@ -4,7 +4,8 @@ use Rattle.gx_commands.proofs.lines.without_cr.Goals as goal
 use Rattle.gx_commands.proofs.lines.without_cr.Goals.{else-len-gt0-via-then-len-gt0+else-line-len-eq13, else-len-gt0-via-else-len-gt0}
 
 pub returns-then-line-len-eq13-clause-value : goal.returns-then-line-len-eq13-clause-value
-returns-then-line-len-eq13-clause-value c = cr_dropped c.args.line.now c.if-len-gt0.true c.if-line-len-eq13.true
+returns-then-line-len-eq13-clause-value c =
+    cr_dropped c.args.line.now c.if-len-gt0.true c.if-line-len-eq13.true
 
 pub returns-else-len-gt0-clause-value : goal.returns-else-len-gt0-clause-value
 returns-else-len-gt0-clause-value c =

@@ -10,7 +10,8 @@ pub returns-in-None : goal.returns-in-None
 returns-in-None c =
     let line = c.from_quote-quoted.result.now in
     let none : first_word line ≡ None = sym c.in-None.ensures in
-    let here = blank_or_not line c.is_empty.result none (c.is_empty.ensures ∙ ap (λ (xs : List ℕ). eqb (length xs) 0) c.after_blanks.ensures) in
+    let here = blank_or_not line c.is_empty.result none (c.is_empty.ensures
+    ∙ ap (λ (xs : List ℕ). eqb (length xs) 0) c.after_blanks.ensures) in
     ((λ t. c.loop-after.invariant.0 (c.from_quote-quoted.ensures.same.0 (here.0 t))), (λ words. here.1 (c.from_quote-quoted.ensures.same.1 (c.loop-after.invariant.1 words))))
 
 pub loop-after-preserved : goal.loop-after-preserved
@@ -18,8 +19,10 @@ loop-after-preserved c =
     let line = c.from_quote-quoted.result.now in
     let x : Word × List ℕ = (word_of c.in-Some.field-0-0, c.in-Some.after.now) in
     let first : first_word line ≡ Some x = sym c.in-Some.ensures in (
-      (λ words. c.loop-after.invariant.0 (c.from_quote-quoted.ensures.same.0 (words_before line x first words))),
-      (λ words. words_after line x first (c.from_quote-quoted.ensures.same.1 (c.loop-after.invariant.1 words))),
+      (λ words. c.loop-after.invariant.0
+          (c.from_quote-quoted.ensures.same.0 (words_before line x first words))),
+      (λ words. words_after line x first
+          (c.from_quote-quoted.ensures.same.1 (c.loop-after.invariant.1 words))),
     )
 
 pub loop-after-smaller : goal.loop-after-smaller

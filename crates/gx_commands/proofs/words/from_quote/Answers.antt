@@ -17,5 +17,8 @@ returns-then-is_blank-clause-same c =
     let line = c.args.line.now in
     let at = c.in-Some.at in
     let found = ended_at 34 line c.memchr.result at c.memchr.ensures c.in-Some.is in
-    let same : take (length line - at) (drop at line) ≡ drop at line = take_all (length line - at) (drop at line) (omega (arith, length-drop at line)) in
-    subst (λ (xs : List ℕ). HasWords xs ↔ HasWords line) (sym same) (quote_words line at (omega (arith, c.in-Some.at-test)) found.1.0 found.0 (sym c.is_blank.ensures ∙ c.if-is_blank.true))
+    let same : take (length line - at) (drop at line) ≡ drop at line =
+    take_all (length line - at) (drop at line) (omega (arith, length-drop at line)) in
+    subst (λ (xs : List ℕ). HasWords xs ↔ HasWords line) (sym same)
+    (quote_words line at (omega (arith, c.in-Some.at-test)) found.1.0 found.0
+    (sym c.is_blank.ensures ∙ c.if-is_blank.true))

@@ -1,12 +1,14 @@
-use Rattle.std.proofs.Common.{not, sym, ap, arith, rules}
-use Rattle.std.proofs.lemmas.List.Sums.{prefix_len_is}
+use Rattle.std.proofs.Common.{rules, tests, ◌∙◌}
+use Rattle.std.proofs.lemmas.Iterator.{YieldsList-from_slice}
+use Rattle.std.proofs.lemmas.Iterator.Consumers.{count_from_yields_List}
+use Rattle.std.proofs.lemmas.Iterator.Search.{YieldsList-from_take_while}
+use Rattle.std.proofs.lemmas.List.Folds.{length-prefix_len}
 use Rattle.gx_commands.proofs.WordLaws.{is_inside}
 use Rattle.gx_commands.proofs.words.word_len.Goals as goal
 
-pub returns-then-is_blank-clause-value : goal.returns-then-is_blank-clause-value
-returns-then-is_blank-clause-value c =
-    sym (prefix_len_is is_inside c.args.text.now c.loop-at.at 0 (omega arith) (λ k h. ap not (c.loop-at.invariant k h)) (λ _. search rules))
-
 pub returns-clause-value : goal.returns-clause-value
 returns-clause-value c =
-    sym (prefix_len_is is_inside c.args.text.now _ 0 (omega arith) (λ k h. ap not (c.loop-at.invariant k (omega arith))) (λ h. absurd (omega arith)))
+    count_from_yields_List c.take_while.result _ c.count.ensures.ran
+    (YieldsList-from_take_while _ is_inside (YieldsList-from_slice c.args.text.now cc)
+    c.take_while.ensures.closure c.take_while.ensures.done (λ x b q k. search (rules, tests)))
+    ∙ length-prefix_len is_inside c.args.text.now

@@ -117,7 +117,8 @@ returns-in_ok-has_members-clause-found g c = λ s whole are.
     let none : ((d.member == c.args.file) && is_some (fin.get link key)) ≡ false =
     elim c.else-def-file.branch [
       | else-def-file-via-then-def-file+in_ok-has_owner+else-branch w ↦ ap
-          (λ t. t && is_some (fin.get link key)) (same_number d.member c.args.file w.if-def-file.true)
+          (λ t. t && is_some (fin.get link key))
+          (same_number d.member c.args.file w.if-def-file.true)
           ∙ sym (w.in_ok-has_owner.ensures.found link whole linked.is_link linked.link)
           ∙ w.if-branch.false
       | else-def-file-via-else-def-file w ↦ ap (λ t. t && is_some (fin.get link key))
@@ -144,7 +145,8 @@ returns-else-def-file-2-clause-found g c = λ s whole are.
     let none : ((d.member == c.args.file) && is_some (fin.get link key)) ≡ false =
     elim c.else-def-file.branch [
       | else-def-file-via-then-def-file+in_ok-has_owner+else-branch w ↦ ap
-          (λ t. t && is_some (fin.get link key)) (same_number d.member c.args.file w.if-def-file.true)
+          (λ t. t && is_some (fin.get link key))
+          (same_number d.member c.args.file w.if-def-file.true)
           ∙ sym (w.in_ok-has_owner.ensures.found link whole linked.is_link linked.link)
           ∙ w.if-branch.false
       | else-def-file-via-else-def-file w ↦ ap (λ t. t && is_some (fin.get link key))

@@ -13,7 +13,8 @@ returns-in_err-is_end_of-clause-reads g c =
       inv.whole sound.0,
       (
         sound.1.0,
-        subst (λ (maps : List LeafMap). AreInternal c.args.schema.now c.args.built.now maps sound.1.0)
+        subst (λ (maps : List LeafMap). AreInternal c.args.schema.now c.args.built.now maps
+            sound.1.0)
             (sym inv.reads.working) sound.1.1,
       ),
     ))

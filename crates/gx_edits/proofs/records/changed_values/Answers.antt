@@ -4,7 +4,7 @@ use Rattle.std.specs.Vec.Iter.{into_iter_items, into_iter_len}
 use Rattle.gx_values.specs.Values.{AreFit}
 use Rattle.gx_schema.specs.Lookups.{data_fields}
 use Rattle.gx_commands.specs.Commands.{IsChangeOf}
-use Rattle.gx_model.specs.Commands.{changed}
+use Rattle.gx_model.specs.Commands.{with_changes}
 use Rattle.gx_gather.proofs.Made.{nothing_left}
 use Rattle.gx_edits.proofs.RecordLemmas.{value_fits, change_in}
 use Rattle.gx_edits.proofs.records.changed_values.Goals as goal
@@ -18,7 +18,7 @@ loop-change-init c =
     record {
       many = many;
       those = subst (AllByRecursion (IsChangeOf c.args.file.now)) (sym items) c.requires.changes;
-      so_far = λ i. changed (c.values.view_is i) (items i);
+      so_far = λ i. with_changes (c.values.view_is i) (items i);
       fit = subst (AreFit (data_fields c.args.file.now)) (sym c.values.view_is) c.requires.values;
     }
 
@@ -49,7 +49,7 @@ loop-change-preserved c =
     record {
       many = many;
       those = those.1;
-      so_far = sym (ap (changed vs) steps) ∙ inv.so_far;
+      so_far = sym (ap (with_changes vs) steps) ∙ inv.so_far;
       fit = value_fits file ch vs ch.value those.0 inv.fit refl;
     }
 
@@ -68,7 +68,7 @@ loop-change-preserved-in-Some c =
     record {
       many = many;
       those = those.1;
-      so_far = sym (ap (changed vs) steps) ∙ inv.so_far;
+      so_far = sym (ap (with_changes vs) steps) ∙ inv.so_far;
       fit = value_fits file ch vs ch.value those.0 inv.fit refl;
     }
 
@@ -87,7 +87,7 @@ loop-change-preserved-in-Some-2 c =
     record {
       many = many;
       those = those.1;
-      so_far = sym (ap (changed vs) steps) ∙ inv.so_far;
+      so_far = sym (ap (with_changes vs) steps) ∙ inv.so_far;
       fit = value_fits file ch vs ch.value those.0 inv.fit refl;
     }
 
@@ -95,4 +95,4 @@ pub returns-clause-changed : goal.returns-clause-changed
 returns-clause-changed c =
     let inv = c.loop-change.invariant in
     let none = nothing_left _ (sym c.in-None.ensures.steps.0 ∙ inv.many) in
-    sym (ap (changed c.loop-change.values.items) none) ∙ inv.so_far
+    sym (ap (with_changes c.loop-change.values.items) none) ∙ inv.so_far

@@ -6,7 +6,7 @@ use Rattle.gx_stack.specs.Seen.{tree_of}
 use Rattle.gx_stack.specs.Internal.{IsSet, IsInternal as IsHeld}
 use Rattle.gx_types.specs.Any.{any_rule}
 use Rattle.gx_model.specs.Commands.{no_record}
-use Rattle.gx_scan.specs.Files.{rec_of, records_of}
+use Rattle.gx_scan.specs.Files.{rec_of, file_records}
 use Rattle.gx_scan.proofs.FileLemmas.{set_of, there_in}
 use Rattle.gx_edits.proofs.RecordLemmas.{is_done, delete_edit}
 use Rattle.gx_states.proofs.LinkLemmas.{some_there}
@@ -30,11 +30,12 @@ returns g c = record {
       let one = some_there (fin.get f key) (some ∙ c.if-not-branch.false) in
       let values = one.0 in
       let after = c.in_ok-is_there.ensures.reads.ends.whole whole in
-      let set = subst (λ form. IsSet form (records_of f)) (sym c.requires.can.tree.form)
+      let set = subst (λ form. IsSet form (file_records f)) (sym c.requires.can.tree.form)
       (set_of c.args.file.now f c.requires.can.storable.keyed is.fit) in
-      let held = subst (λ (maps : List LeafMap). IsHeld any_rule t (records_of f) maps) (sym same)
+      let held = subst (λ (maps : List LeafMap). IsHeld any_rule t (file_records f) maps) (sym same)
       is.held in
-      let done = c.in_ok-take_own.ensures.internal (records_of f) (rec_of (key, values)) after refl
+      let done = c.in_ok-take_own.ensures.internal (file_records f) (rec_of (key, values)) after
+      refl
       set (there_in f key values one.1) held in
       is_done c.args.file.now t _ _ f _ no_record _ (ap (λ o. not (is_some o)) one.1)
       (delete_edit c.args.file.now t _ _ f key values (rec_of (key, values))

@@ -9,7 +9,7 @@ use Rattle.gx_ports.specs.LeafMaps.{LeafMap, map_at}
 use Rattle.gx_stack.specs.Seen.{tree_of}
 use Rattle.gx_stack.specs.Internal.{IsSet, IsInternal as IsHeld}
 use Rattle.gx_types.specs.Any.{any_rule}
-use Rattle.gx_scan.specs.Files.{records_of}
+use Rattle.gx_scan.specs.Files.{file_records}
 use Rattle.gx_scan.proofs.FileLemmas.{set_of, there_in, row_fits}
 use Rattle.gx_model.specs.Commands.{no_record}
 use Rattle.gx_entries.specs.Entries.{AreOwnLeaves}
@@ -29,7 +29,8 @@ replace-requires-clause-old_fits g c =
     c.in_ok-values.ensures.fits in
     subst (λ form. IsOf form c.in_ok-old.old) (sym c.requires.can.tree.form)
     (subst (IsOf _) (sym c.in_ok-old.ensures)
-    (row_fits file (c.args.key, values) c.requires.can.storable.keyed (c.requires.can.key_fits, fits)))
+    (row_fits file (c.args.key, values) c.requires.can.storable.keyed
+    (c.requires.can.key_fits, fits)))
 
 pub returns : goal.returns
 returns g c = record {
@@ -42,12 +43,12 @@ returns g c = record {
       let there : fin.get f key ≡ Some values = sym
       (sym c.in-Some-2.is ∙ c.in_ok-values.ensures.found f whole is) in
       let after = c.in_ok-values.ensures.reads.ends.whole whole in
-      let set = subst (λ form. IsSet form (records_of f)) (sym c.requires.can.tree.form)
+      let set = subst (λ form. IsSet form (file_records f)) (sym c.requires.can.tree.form)
       (set_of c.args.file.now f c.requires.can.storable.keyed is.fit) in
-      let held = subst (λ (maps : List LeafMap). IsHeld any_rule t (records_of f) maps) (sym same)
+      let held = subst (λ (maps : List LeafMap). IsHeld any_rule t (file_records f) maps) (sym same)
       is.held in
-      let done = c.in_ok-replace.ensures.internal (records_of f) after set
-      (subst (λ (r : Rec). In r (records_of f)) (sym was) (there_in f key values there)) held in
+      let done = c.in_ok-replace.ensures.internal (file_records f) after set
+      (subst (λ (r : Rec). In r (file_records f)) (sym was) (there_in f key values there)) held in
       is_done c.args.file.now t _ _ f _ no_record _ (ap (λ o. not (is_some o)) there)
       (delete_edit c.args.file.now t _ _ f key values c.in_ok-old.old c.requires.can.tree.valid is
       was done (λ n out. c.in_ok-replace.ensures.replaces.others n after (λ e. cc) out

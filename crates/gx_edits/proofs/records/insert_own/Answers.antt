@@ -6,7 +6,7 @@ use Rattle.gx_ports.specs.LeafMaps.{LeafMap, map_at}
 use Rattle.gx_stack.specs.Seen.{tree_of}
 use Rattle.gx_stack.specs.Internal.{IsSet, IsInternal as IsHeld}
 use Rattle.gx_types.specs.Any.{any_rule}
-use Rattle.gx_scan.specs.Files.{rec_of, records_of}
+use Rattle.gx_scan.specs.Files.{rec_of, file_records}
 use Rattle.gx_scan.proofs.FileLemmas.{set_of, row_fits}
 use Rattle.gx_model.specs.States.{Row}
 use Rattle.gx_model.specs.Commands.{key_exists}
@@ -43,7 +43,8 @@ returns-in_err-put_own g c = record {
         none,
         crowded_same (g.B.View.limit c.args.leaves.now) (g.B.View.limit c.is_there.new.leaves)
             (g.B.View.working c.args.leaves.now) (g.B.View.working c.is_there.new.leaves) t row
-            (rec_of row) c.is_there.ensures.reads.reads.limit c.is_there.ensures.reads.reads.working refl
+            (rec_of row) c.is_there.ensures.reads.reads.limit c.is_there.ensures.reads.reads.working
+            refl
             full,
       );
 }
@@ -58,11 +59,11 @@ returns-in_ok-put_own g c = record {
       let absent = sym (c.in_ok-is_there.ensures.there f whole is) ∙ c.if-branch.false in
       let none = none_of (fin.get f key) absent in
       let after = c.in_ok-is_there.ensures.reads.ends.whole whole in
-      let set = subst (λ form. IsSet form (records_of f)) (sym c.requires.can.tree.form)
+      let set = subst (λ form. IsSet form (file_records f)) (sym c.requires.can.tree.form)
       (set_of c.args.file.now f c.requires.can.storable.keyed is.fit) in
-      let held = subst (λ (maps : List LeafMap). IsHeld any_rule t (records_of f) maps) (sym same)
+      let held = subst (λ (maps : List LeafMap). IsHeld any_rule t (file_records f) maps) (sym same)
       is.held in
-      let done = c.in_ok-put_own.ensures.internal (records_of f) None after refl set
+      let done = c.in_ok-put_own.ensures.internal (file_records f) None after refl set
       (is_insert f key values none) held in
       is_done c.args.file.now t _ _ f _ key_exists _ absent
       (insert_edit c.args.file.now t _ _ f key values (rec_of (key, values))

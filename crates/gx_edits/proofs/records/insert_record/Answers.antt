@@ -8,7 +8,7 @@ use Rattle.gx_ports.specs.LeafMaps.{LeafMap, map_at}
 use Rattle.gx_stack.specs.Seen.{tree_of}
 use Rattle.gx_stack.specs.Internal.{IsSet, IsInternal as IsHeld}
 use Rattle.gx_types.specs.Any.{any_rule}
-use Rattle.gx_scan.specs.Files.{records_of}
+use Rattle.gx_scan.specs.Files.{file_records}
 use Rattle.gx_scan.proofs.FileLemmas.{set_of, row_fits}
 use Rattle.gx_model.specs.Commands.{key_exists}
 use Rattle.gx_edits.proofs.ChangeLemmas.{is_insert}
@@ -45,8 +45,10 @@ returns-in_err-replace g c = record {
         none,
         crowded_same (g.B.View.limit c.args.leaves.now)
             (g.B.View.limit c.find_values.new.leaves) (g.B.View.working c.args.leaves.now)
-            (g.B.View.working c.find_values.new.leaves) t (c.args.key, c.args.values) c.in_ok-new.new
-            c.find_values.ensures.reads.reads.limit c.find_values.ensures.reads.reads.working new full,
+            (g.B.View.working c.find_values.new.leaves) t (c.args.key, c.args.values)
+            c.in_ok-new.new
+            c.find_values.ensures.reads.reads.limit c.find_values.ensures.reads.reads.working new
+            full,
       );
 }
 
@@ -60,13 +62,13 @@ returns g c = record {
       let none = none_of (fin.get f c.args.key) absent in
       let after = c.in_ok-find_values.ensures.reads.ends.whole whole in
       let new = c.in_ok-new.ensures in
-      let set = subst (λ form. IsSet form (records_of f)) (sym c.requires.can.tree.form)
+      let set = subst (λ form. IsSet form (file_records f)) (sym c.requires.can.tree.form)
       (set_of c.args.file.now f c.requires.can.storable.keyed is.fit) in
-      let held = subst (λ (maps : List LeafMap). IsHeld any_rule t (records_of f) maps) (sym same)
+      let held = subst (λ (maps : List LeafMap). IsHeld any_rule t (file_records f) maps) (sym same)
       is.held in
-      let change = subst (λ (r : Rec). (q : Rec) → In q (records_of f) → q.key ≢ r.key) (sym new)
+      let change = subst (λ (r : Rec). (q : Rec) → In q (file_records f) → q.key ≢ r.key) (sym new)
       (is_insert f c.args.key c.args.values none) in
-      let done = c.in_ok-replace.ensures.internal (records_of f) after set change held in
+      let done = c.in_ok-replace.ensures.internal (file_records f) after set change held in
       is_done c.args.file.now t _ _ f _ key_exists _ absent
       (insert_edit c.args.file.now t _ _ f c.args.key c.args.values c.in_ok-new.new
       c.requires.can.tree.valid c.requires.can.key_fits c.requires.values is none new done

@@ -12,8 +12,8 @@ use Rattle.gx_stack.specs.Internal.{IsSet, IsInternal as IsHeld}
 use Rattle.gx_types.specs.Any.{any_rule}
 use Rattle.gx_typing.specs.Dues.{file_form}
 use Rattle.gx_model.specs.States.{Row}
-use Rattle.gx_model.specs.Commands.{changed, no_record}
-use Rattle.gx_scan.specs.Files.{rec_of, records_of}
+use Rattle.gx_model.specs.Commands.{with_changes, no_record}
+use Rattle.gx_scan.specs.Files.{rec_of, file_records}
 use Rattle.gx_scan.proofs.FileLemmas.{set_of, there_in, row_fits}
 use Rattle.gx_entries.specs.Entries.{AreOwnLeaves}
 use Rattle.gx_edits.specs.OneRecord.{StandsBefore}
@@ -29,7 +29,8 @@ entries_of-requires-clause-of_form g c =
     c.in_ok-values.ensures.fits in
     subst (λ form. IsOf form c.in_ok-old.old) (sym c.requires.can.tree.form)
     (subst (IsOf _) (sym c.in_ok-old.ensures)
-    (row_fits file (c.args.key, values) c.requires.can.storable.keyed (c.requires.can.key_fits, fits)))
+    (row_fits file (c.args.key, values) c.requires.can.storable.keyed
+    (c.requires.can.key_fits, fits)))
 
 pub changed_record-new-requires-clause-old : goal.changed_record-new-requires-clause-old
 changed_record-new-requires-clause-old g c =
@@ -38,7 +39,8 @@ changed_record-new-requires-clause-old g c =
     let fits = subst (λ o. IfSome o (AreFit (data_fields file))) c.in-Some.is
     c.in_ok-values.ensures.fits in
     subst (IsOf (file_form file)) (sym c.in_ok-old.ensures)
-    (row_fits file (c.args.key, values) c.requires.can.storable.keyed (c.requires.can.key_fits, fits))
+    (row_fits file (c.args.key, values) c.requires.can.storable.keyed
+    (c.requires.can.key_fits, fits))
 
 pub replace_entries-requires-clause-below : goal.replace_entries-requires-clause-below
 replace_entries-requires-clause-below g c =
@@ -74,20 +76,20 @@ returns g c = record {
       (sym c.in-Some.is ∙ c.in_ok-values.ensures.found f whole is) in
       let after = c.in_ok-values.ensures.reads.ends.whole whole in
       let is_new = rec_made old new key values changes was made.key made.fields in
-      let set = subst (λ form. IsSet form (records_of f)) (sym c.requires.can.tree.form)
+      let set = subst (λ form. IsSet form (file_records f)) (sym c.requires.can.tree.form)
       (set_of file f c.requires.can.storable.keyed is.fit) in
-      let held = subst (λ (maps : List LeafMap). IsHeld any_rule t (records_of f) maps) (sym same)
+      let held = subst (λ (maps : List LeafMap). IsHeld any_rule t (file_records f) maps) (sym same)
       is.held in
-      let done = c.in_ok-replace_entries.ensures.internal (records_of f) (Some old) after
+      let done = c.in_ok-replace_entries.ensures.internal (file_records f) (Some old) after
       (c.deref.ensures.value ∙ c.in_ok-gone.ensures) set (
-        subst (λ (r : Rec). In r (records_of f)) (sym was) (there_in f key values there),
+        subst (λ (r : Rec). In r (file_records f)) (sym was) (there_in f key values there),
         sym
             made.key,
       ) held in
       is_done file t _ _ f _ no_record _ (ap (λ o. not (is_some o)) there)
-      (subst (IsEdited file t _ _) (updated_is f key changes values (changed values changes)
+      (subst (IsEdited file t _ _) (updated_is f key changes values (with_changes values changes)
       (sym there) refl)
-      (update_edit file t _ _ f key values (changed values changes) old new
+      (update_edit file t _ _ f key values (with_changes values changes) old new
       c.requires.can.tree.valid c.requires.can.key_fits
       (subst (λ (r : Rec). AreFit (data_fields file) r.fields) is_new made.fits.fields) is was
       is_new done
@@ -137,20 +139,21 @@ returns-in-Some-own_leaves g c = record {
       let there : fin.get f key ≡ Some values =
       sym (sym c.in-Some.is ∙ c.in_ok-values.ensures.found f whole is) in
       let after = c.in_ok-values.ensures.reads.ends.whole whole in
-      let set = subst (λ form. IsSet form (records_of f)) (sym c.requires.can.tree.form)
+      let set = subst (λ form. IsSet form (file_records f)) (sym c.requires.can.tree.form)
       (set_of file f c.requires.can.storable.keyed is.fit) in
-      let held = subst (λ (maps : List LeafMap). IsHeld any_rule t (records_of f) maps) (sym same)
+      let held = subst (λ (maps : List LeafMap). IsHeld any_rule t (file_records f) maps) (sym same)
       is.held in
       let before = subst (λ (vs : List Value). StandsBefore c.before_changes-previous.result t vs
       (Some (rec_of (key, values)))) (sym changes_are)
       (c.before_changes-previous.ensures key values) in
-      let done = c.in_ok-put_own.ensures.internal (records_of f) (Some (rec_of (key, values)))
+      let done = c.in_ok-put_own.ensures.internal (file_records f) (Some (rec_of (key, values)))
       after before set (there_in f key values there, refl) held in
       is_done file t _ _ f _ no_record _ (ap (λ o. not (is_some o)) there)
       (subst (IsEdited file t _ _)
       (updated_is f key c.args.changes values made (sym there) changes_are)
       (update_edit file t _ _ f key values made (rec_of (key, values)) (rec_of (key, made))
-      c.requires.can.tree.valid c.requires.can.key_fits c.changed_values-fields.ensures.fits is refl refl
+      c.requires.can.tree.valid c.requires.can.key_fits c.changed_values-fields.ensures.fits is refl
+      refl
       done
       (λ n out. c.in_ok-put_own.ensures.others n after (λ e. cc) out
       ∙ ap (λ (maps : List LeafMap). map_at maps n) same)));

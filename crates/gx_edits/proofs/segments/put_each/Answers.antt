@@ -18,5 +18,6 @@ returns-clause-full g c = λ whole e.
     ) in
     crowded_more (b.limit c.args.leaves.now) (entry_count (b.working c.put.new.self))
     (entry_count maps + 1) few
-    (subst (λ limit. IsCrowdedBy limit (entry_count (b.working c.put.new.self))) first.edits.keeps.limit
+    (subst (λ limit. IsCrowdedBy limit (entry_count (b.working c.put.new.self)))
+    first.edits.keeps.limit
     then)

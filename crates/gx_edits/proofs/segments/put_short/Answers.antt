@@ -24,7 +24,8 @@ returns-clause-full g c =
                 w.as_slice.result.now c.requires.second,
           ) in
           crowded_more (b.limit c.args.leaves.now) (entry_count (b.working mid)) (entry_count maps)
-          few (subst (λ limit. IsCrowdedBy limit (entry_count (b.working mid))) gone.edits.keeps.limit
+          few (subst (λ limit. IsCrowdedBy limit (entry_count (b.working mid)))
+          gone.edits.keeps.limit
           here)
       | else-has_record w ↦ λ whole e.
           subst (λ s. IsCrowdedBy (b.limit s) (entry_count (b.working s))) w.leaves-is

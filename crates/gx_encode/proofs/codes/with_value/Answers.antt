@@ -5,4 +5,5 @@ use Rattle.gx_encode.proofs.codes.with_value.Goals as goal
 
 pub returns : goal.returns
 returns c =
-    changed_set c.args.number c.args.value c.made.inside.0.items ∙ ap (changed c.args.number (λ old. c.args.value)) c.made.view_is
+    changed_set c.args.number c.args.value c.made.inside.0.items
+    ∙ ap (changed c.args.number (λ old. c.args.value)) c.made.view_is

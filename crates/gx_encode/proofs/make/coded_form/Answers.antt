@@ -8,5 +8,7 @@ returns c =
     let form = c.args.form.now in
     let keys = c.in_ok-copy.ensures in
     let coded = c.coded_field-coded.ensures ∙ ap (coded_field c.args.code) c.field_at.ensures in
-    let fields = c.in_ok-with_field.ensures ∙ (λ i. changed c.args.field (λ old. coded i) form.fields) ∙ changed_field c.args.field c.args.code form.fields in
+    let fields = c.in_ok-with_field.ensures
+    ∙ (λ i. changed c.args.field (λ old. coded i) form.fields)
+    ∙ changed_field c.args.field c.args.code form.fields in
     λ i. record { keys = keys i; fields = fields i }

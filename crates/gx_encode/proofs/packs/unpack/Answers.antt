@@ -11,4 +11,7 @@ pub returns : goal.returns
 returns c =
     let fits : FitsSigned w64 c.cast_signed.result = record { sfits = c.cast_signed.type_inv } in
     subst (λ (z : ℤ). pack z ≡ c.args.bytes.now) (sym (to_z-of_z {w = w64} fits))
-    (unpacked c.args.bytes.now c.extended.result c.cast_signed.result c.from_be_bytes.result (omega (arith, c.if-bytes-gt8.false)) (c.is_shortest.ensures.yes c.if-not-is_shortest.false) c.extended.ensures (λ i. (c.type_inv.bytes i).fits) c.from_be_bytes.type_inv c.from_be_bytes.ensures c.cast_signed.ensures)
+    (unpacked c.args.bytes.now c.extended.result c.cast_signed.result c.from_be_bytes.result
+    (omega (arith, c.if-bytes-gt8.false)) (c.is_shortest.ensures.yes c.if-not-is_shortest.false)
+    c.extended.ensures (λ i. (c.type_inv.bytes i).fits) c.from_be_bytes.type_inv
+    c.from_be_bytes.ensures c.cast_signed.ensures)

@@ -8,9 +8,11 @@ use Rattle.gx_equation.proofs.arguments.read_names.Goals as goal
 
 pub returns-in_err-name : goal.returns-in_err-name
 returns-in_err-name c =
-    let p = err_from_is_err_and c.from_residual-in_err-name.result c.from_residual-in_err-name.ensures.1 in
+    let p = err_from_is_err_and c.from_residual-in_err-name.result
+    c.from_residual-in_err-name.ensures.1 in
     let i = c.loop-names.invariant in
-    rw (p.1, p.2) (item_fails a_word i.0 c.loop-names.names.items c.loop-names.rest.now (errors.Bad _) _ i.1 (sym c.in_err-name.ensures.exact) i.2)
+    rw (p.1, p.2) (item_fails a_word i.0 c.loop-names.names.items c.loop-names.rest.now
+    (errors.Bad _) _ i.1 (sym c.in_err-name.ensures.exact) i.2)
 
 pub returns-in-None : goal.returns-in-None
 returns-in-None c =
@@ -25,4 +27,6 @@ pub loop-names-preserved : goal.loop-names-preserved
 loop-names-preserved c =
     let i = c.loop-names.invariant in
     let e = rw c.in-Some.is at (sym c.in_ok-name.ensures.exact) in
-    rw (c.in_ok-push-in-Some.ensures.items, c.from_slice.ensures) (items_go_on a_word i.0 c.loop-names.names.items c.loop-names.rest.now _ _ _ i.1 (name_shorter c.loop-names.rest.now _ e) e i.2)
+    rw (c.in_ok-push-in-Some.ensures.items, c.from_slice.ensures)
+    (items_go_on a_word i.0 c.loop-names.names.items c.loop-names.rest.now _ _ _ i.1
+    (name_shorter c.loop-names.rest.now _ e) e i.2)

@@ -9,13 +9,16 @@ pub read_kids-returns-in_err-kid : goal.read_kids-returns-in_err-kid
 read_kids-returns-in_err-kid t c =
     let p = err_from_is_err_and c.from_residual.result c.from_residual.ensures.1 in
     let i = c.loop-kids.invariant in
-    rw (p.1, p.2) (kid_fails c.args.levels i.0 _ _ c.loop-kids.rest.now _ _ i.1 c.in_err-kid.ensures i.2)
+    rw (p.1, p.2) (kid_fails c.args.levels i.0 _ _ c.loop-kids.rest.now _ _ i.1 c.in_err-kid.ensures
+    i.2)
 
 pub read_kids-returns-in_err-more : goal.read_kids-returns-in_err-more
 read_kids-returns-in_err-more t c =
-    let p = err_from_is_err_and c.from_residual-in_err-more.result c.from_residual-in_err-more.ensures.1 in
+    let p = err_from_is_err_and c.from_residual-in_err-more.result
+    c.from_residual-in_err-more.ensures.1 in
     let i = c.loop-kids.invariant in
-    rw (p.1, p.2) (more_fails c.args.levels i.0 _ _ c.loop-kids.rest.now _ _ _ _ _ i.1 c.in_ok-kid.ensures (sym c.in_err-more.ensures) i.2)
+    rw (p.1, p.2) (more_fails c.args.levels i.0 _ _ c.loop-kids.rest.now _ _ _ _ _ i.1
+    c.in_ok-kid.ensures (sym c.in_err-more.ensures) i.2)
 
 pub read_kids-returns-then-not-more : goal.read_kids-returns-then-not-more
 read_kids-returns-then-not-more t c =
@@ -24,7 +27,9 @@ read_kids-returns-then-not-more t c =
     rw (c.in_ok-push.ensures.items, map-append tree_of c.loop-kids.kids.items (c.in_ok-kid.kid ∷ [])) (kids_end c.args.levels i.0 _ _ c.loop-kids.rest.now _ _ _ _ _ i.1 c.in_ok-kid.ensures m i.2)
 
 pub read_kids-loop-kids-smaller : goal.read_kids-loop-kids-smaller
-read_kids-loop-kids-smaller t c = smaller c.args.levels _ c.loop-kids.rest.now _ _ _ _ c.in_ok-kid.ensures (sym c.in_ok-more.ensures)
+read_kids-loop-kids-smaller t c =
+    smaller c.args.levels _ c.loop-kids.rest.now _ _ _ _ c.in_ok-kid.ensures
+    (sym c.in_ok-more.ensures)
 
 pub read_kids-loop-kids-preserved : goal.read_kids-loop-kids-preserved
 read_kids-loop-kids-preserved t c =
@@ -39,4 +44,6 @@ read_term-returns-in_err-head t c =
 
 pub read_term-returns : goal.read_term-returns
 read_term-returns t c =
-    rw (term_goes_on c.args.levels c.args.places.now.items c.args.bytes.now _ _ c.in_ok-head.ensures.levels c.in_ok-head.ensures.exact) (rw c.in_ok-push_place.ensures at c.read_term_behind.ensures)
+    rw (term_goes_on c.args.levels c.args.places.now.items c.args.bytes.now _ _
+    c.in_ok-head.ensures.levels c.in_ok-head.ensures.exact)
+    (rw c.in_ok-push_place.ensures at c.read_term_behind.ensures)

@@ -19,7 +19,9 @@ abbrev pub decreases-read_term_behind : goal.decreases-read_term_behind
 decreases-read_term_behind l = 3 * l.levels + 2
 
 abbrev pub invariant-read_kids-loop-kids : goal.invariant-read_kids-loop-kids
-invariant-read_kids-loop-kids l = (fuel : ℕ) × (length l.rest < fuel) × (kids_at (term_at l.levels) fuel (trees_of l.kids.items) l.places.items l.rest ≡ kids_at (term_at l.levels) (suc (length l.bytes)) [] l.initial.places.items l.bytes)
+invariant-read_kids-loop-kids l = (fuel : ℕ) × (length l.rest < fuel)
+    × (kids_at (term_at l.levels) fuel (trees_of l.kids.items) l.places.items l.rest ≡ kids_at
+    (term_at l.levels) (suc (length l.bytes)) [] l.initial.places.items l.bytes)
 
 abbrev pub decreases-read_kids-loop-kids : goal.decreases-read_kids-loop-kids
 decreases-read_kids-loop-kids l = length l.rest

@@ -11,7 +11,8 @@ invariant-loop-line g l =
     record {
       few : l.number + length l.lines.lines ≤ 16777217;
       so_far : IsTrue g.D.Device.tells
-          → IsSoFar l.schema (fields_in l.schema l.built.files) (script_lines l.script) l.lines l.number
+          → IsSoFar l.schema (fields_in l.schema l.built.files) (script_lines l.script) l.lines
+          l.number
           l.inside (content l.fn.device) (content l.device);
       rest : OnlySays (content l.fn.device) (content l.device);
       devices : SameDevices (content l.fn.device) (content l.device);

@@ -19,14 +19,20 @@ use Rattle.gx_finds.proofs.by_index.add_by_index.Goals as goal
 use Rattle.gx_mapping.proofs.RuleLemmas.{all_in}
 
 pub span_of_conditions-requires-clause-in_file : goal.span_of_conditions-requires-clause-in_file
-span_of_conditions-requires-clause-in_file g c = (all_in (IsCondOf c.args.file.now) c.args.conds.now c.args.cond.now c.requires.fit c.requires.there).in_file
+span_of_conditions-requires-clause-in_file g c =
+    (all_in (IsCondOf c.args.file.now) c.args.conds.now c.args.cond.now c.requires.fit
+    c.requires.there).in_file
 
 pub span_of_conditions-requires-clause-kind : goal.span_of_conditions-requires-clause-kind
 span_of_conditions-requires-clause-kind g c =
-    data_spanned c.args.file.now c.args.cond.now.field c.requires.storable c.requires.past_key (all_in (IsCondOf c.args.file.now) c.args.conds.now c.args.cond.now c.requires.fit c.requires.there).in_file
+    data_spanned c.args.file.now c.args.cond.now.field c.requires.storable c.requires.past_key
+    (all_in (IsCondOf c.args.file.now) c.args.conds.now c.args.cond.now c.requires.fit
+    c.requires.there).in_file
 
 pub rows_where-requires-clause-in_file : goal.rows_where-requires-clause-in_file
-rows_where-requires-clause-in_file g c = (all_in (IsCondOf c.args.file.now) c.args.conds.now c.args.cond.now c.requires.fit c.requires.there).in_file
+rows_where-requires-clause-in_file g c =
+    (all_in (IsCondOf c.args.file.now) c.args.conds.now c.args.cond.now c.requires.fit
+    c.requires.there).in_file
 
 pub returns-in-Some : goal.returns-in-Some
 returns-in-Some g c = record {

@@ -21,17 +21,21 @@ use Rattle.gx_finds.proofs.by_key.add_by_key.Goals as goal
 use Rattle.gx_mapping.proofs.RuleLemmas.{all_in}
 
 pub span_of_conditions-requires-clause-in_file : goal.span_of_conditions-requires-clause-in_file
-span_of_conditions-requires-clause-in_file g c = (all_in (IsCondOf c.args.file.now) c.args.conds.now c.args.cond.now c.requires.fit c.requires.there).in_file
+span_of_conditions-requires-clause-in_file g c =
+    (all_in (IsCondOf c.args.file.now) c.args.conds.now c.args.cond.now c.requires.fit
+    c.requires.there).in_file
 
 pub span_of_conditions-requires-clause-kind : goal.span_of_conditions-requires-clause-kind
 span_of_conditions-requires-clause-kind g c =
     let storable = c.requires.storable in
-    subst (λ (n : ℕ). IsSpanKind (field_at c.args.file.now n).kind) (sym c.requires.key) (span_kind (field_at c.args.file.now 0).kind storable.key storable.key_small)
+    subst (λ (n : ℕ). IsSpanKind (field_at c.args.file.now n).kind) (sym c.requires.key)
+    (span_kind (field_at c.args.file.now 0).kind storable.key storable.key_small)
 
 pub rows_within-requires-clause-span : goal.rows_within-requires-clause-span
 rows_within-requires-clause-span g c =
     key_spanned c.args.file.now c.in-Some.span c.requires.storable.keyed
-    (subst (λ (n : ℕ). IsValueSpan (field_at c.args.file.now n).kind c.in-Some.span) c.requires.key c.in-Some.ensures.whole)
+    (subst (λ (n : ℕ). IsValueSpan (field_at c.args.file.now n).kind c.in-Some.span) c.requires.key
+    c.in-Some.ensures.whole)
 
 pub returns-in-Some : goal.returns-in-Some
 returns-in-Some g c = record {

@@ -23,28 +23,36 @@ use Rattle.gx_finds.proofs.listing.add_found.Goals as goal
 
 pub condition_at-on_key-requires : goal.condition_at-on_key-requires
 condition_at-on_key-requires g c =
-    let by = by_key c.args.find.now c.deref.result.now c.plan.result c.in-Key.number c.in-Key.is c.plan.ensures.applies in
+    let by = by_key c.args.find.now c.deref.result.now c.plan.result c.in-Key.number c.in-Key.is
+    c.plan.ensures.applies in
     ranked_there c.args.find.now c.deref.result.now by.0 c.in-Key.number by.1
 
 pub add_by_key-requires-clause-fit : goal.add_by_key-requires-clause-fit
 add_by_key-requires-clause-fit g c =
     let conds : c.as_slice-conds.result.now ≡ c.args.find.now.conds = search rules in
-    subst (λ (cs : List Cond). AllByRecursion (IsCondOf c.args.file.now) cs) (sym conds) c.requires.conds
+    subst (λ (cs : List Cond). AllByRecursion (IsCondOf c.args.file.now) cs)
+    (sym conds) c.requires.conds
 
 pub add_by_key-requires-clause-there : goal.add_by_key-requires-clause-there
 add_by_key-requires-clause-there g c =
     let conds : c.as_slice-conds.result.now ≡ c.args.find.now.conds = search rules in
-    subst (In c.condition_at-on_key.result.now) (sym conds) (in_at c.condition_at-on_key.result.now c.args.find.now.conds c.in-Key.number c.condition_at-on_key.ensures)
+    subst (In c.condition_at-on_key.result.now) (sym conds)
+    (in_at c.condition_at-on_key.result.now c.args.find.now.conds c.in-Key.number
+    c.condition_at-on_key.ensures)
 
 pub add_by_key-requires-clause-key : goal.add_by_key-requires-clause-key
 add_by_key-requires-clause-key g c =
-    let by = by_key c.args.find.now c.deref.result.now c.plan.result c.in-Key.number c.in-Key.is c.plan.ensures.applies in
-    (on_key c.args.find.now c.deref.result.now by.0 c.in-Key.number c.condition_at-on_key.result.now by.1 c.condition_at-on_key.ensures by.2).0
+    let by = by_key c.args.find.now c.deref.result.now c.plan.result c.in-Key.number c.in-Key.is
+    c.plan.ensures.applies in
+    (on_key c.args.find.now c.deref.result.now by.0 c.in-Key.number c.condition_at-on_key.result.now
+    by.1 c.condition_at-on_key.ensures by.2).0
 
 pub add_by_key-requires-clause-op : goal.add_by_key-requires-clause-op
 add_by_key-requires-clause-op g c =
-    let by = by_key c.args.find.now c.deref.result.now c.plan.result c.in-Key.number c.in-Key.is c.plan.ensures.applies in
-    (on_key c.args.find.now c.deref.result.now by.0 c.in-Key.number c.condition_at-on_key.result.now by.1 c.condition_at-on_key.ensures by.2).1
+    let by = by_key c.args.find.now c.deref.result.now c.plan.result c.in-Key.number c.in-Key.is
+    c.plan.ensures.applies in
+    (on_key c.args.find.now c.deref.result.now by.0 c.in-Key.number c.condition_at-on_key.result.now
+    by.1 c.condition_at-on_key.ensures by.2).1
 
 pub returns-in-Key : goal.returns-in-Key
 returns-in-Key g c = record {
@@ -79,36 +87,49 @@ returns-in-Key g c = record {
 
 pub condition_at-on_index-requires : goal.condition_at-on_index-requires
 condition_at-on_index-requires g c =
-    let by = by_index c.args.find.now c.deref.result.now c.plan.result c.in-Index.number c.in-Index.is c.plan.ensures.applies in
+    let by = by_index c.args.find.now c.deref.result.now c.plan.result c.in-Index.number
+    c.in-Index.is c.plan.ensures.applies in
     ranked_there c.args.find.now c.deref.result.now by.0 c.in-Index.number by.1
 
 pub add_by_index-requires-clause-fit : goal.add_by_index-requires-clause-fit
 add_by_index-requires-clause-fit g c =
     let conds : c.as_slice-conds.result.now ≡ c.args.find.now.conds = search rules in
-    subst (λ (cs : List Cond). AllByRecursion (IsCondOf c.args.file.now) cs) (sym conds) c.requires.conds
+    subst (λ (cs : List Cond). AllByRecursion (IsCondOf c.args.file.now) cs)
+    (sym conds) c.requires.conds
 
 pub add_by_index-requires-clause-there : goal.add_by_index-requires-clause-there
 add_by_index-requires-clause-there g c =
     let conds : c.as_slice-conds.result.now ≡ c.args.find.now.conds = search rules in
-    subst (In c.condition_at-on_index.result.now) (sym conds) (in_at c.condition_at-on_index.result.now c.args.find.now.conds c.in-Index.number c.condition_at-on_index.ensures)
+    subst (In c.condition_at-on_index.result.now) (sym conds)
+    (in_at c.condition_at-on_index.result.now c.args.find.now.conds c.in-Index.number
+    c.condition_at-on_index.ensures)
 
 pub add_by_index-requires-clause-past_key : goal.add_by_index-requires-clause-past_key
 add_by_index-requires-clause-past_key g c =
-    let by = by_index c.args.find.now c.deref.result.now c.plan.result c.in-Index.number c.in-Index.is c.plan.ensures.applies in
-    (on_index c.args.find.now c.deref.result.now by.0 c.in-Index.number c.condition_at-on_index.result.now by.1 c.condition_at-on_index.ensures by.2).past_key
+    let by = by_index c.args.find.now c.deref.result.now c.plan.result c.in-Index.number
+    c.in-Index.is c.plan.ensures.applies in
+    (on_index c.args.find.now c.deref.result.now by.0 c.in-Index.number
+    c.condition_at-on_index.result.now by.1 c.condition_at-on_index.ensures by.2).past_key
 
 pub add_by_index-requires-clause-op : goal.add_by_index-requires-clause-op
 add_by_index-requires-clause-op g c =
-    let by = by_index c.args.find.now c.deref.result.now c.plan.result c.in-Index.number c.in-Index.is c.plan.ensures.applies in
-    (on_index c.args.find.now c.deref.result.now by.0 c.in-Index.number c.condition_at-on_index.result.now by.1 c.condition_at-on_index.ensures by.2).op
+    let by = by_index c.args.find.now c.deref.result.now c.plan.result c.in-Index.number
+    c.in-Index.is c.plan.ensures.applies in
+    (on_index c.args.find.now c.deref.result.now by.0 c.in-Index.number
+    c.condition_at-on_index.result.now by.1 c.condition_at-on_index.ensures by.2).op
 
 pub add_by_index-requires-clause-indexed : goal.add_by_index-requires-clause-indexed
 add_by_index-requires-clause-indexed g c =
     let q = c.args.find.now in
-    let by = by_index q c.deref.result.now c.plan.result c.in-Index.number c.in-Index.is c.plan.ensures.applies in
-    let on = on_index q c.deref.result.now by.0 c.in-Index.number c.condition_at-on_index.result.now by.1 c.condition_at-on_index.ensures by.2 in
-    let fields : c.deref.result.now ≡ fields_indexed (tree_of c.args.node.now) c.args.file.now = search rules in
-    indexed_at (tree_of c.args.node.now) c.args.file.now c.condition_at-on_index.result.now.field (subst (λ (bs : List Bool). is_indexed bs c.condition_at-on_index.result.now.field ≡ true) fields on.indexed_is)
+    let by = by_index q c.deref.result.now c.plan.result c.in-Index.number c.in-Index.is
+    c.plan.ensures.applies in
+    let on = on_index q c.deref.result.now by.0 c.in-Index.number c.condition_at-on_index.result.now
+    by.1 c.condition_at-on_index.ensures by.2 in
+    let fields : c.deref.result.now ≡ fields_indexed (tree_of c.args.node.now) c.args.file.now =
+    search rules in
+    indexed_at (tree_of c.args.node.now) c.args.file.now c.condition_at-on_index.result.now.field
+    (subst (λ (bs : List Bool). is_indexed bs c.condition_at-on_index.result.now.field ≡ true)
+    fields on.indexed_is)
 
 pub returns-in-Index : goal.returns-in-Index
 returns-in-Index g c = record {

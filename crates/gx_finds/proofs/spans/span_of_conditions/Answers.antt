@@ -13,15 +13,19 @@ use Rattle.gx_finds.proofs.spans.span_of_conditions.Goals.{then-has_span_on+in_o
 pub loop-cond-init : goal.loop-cond-init
 loop-cond-init c = record {
   meets = λ v rest fits. c.whole_span-met.ensures.all (bytes_of v ++ rest);
-  whole = value_whole c.field_kind-kind.result c.whole_span-met.result c.whole_span-met.ensures.keys;
+  whole = value_whole c.field_kind-kind.result c.whole_span-met.result
+      c.whole_span-met.ensures.keys;
 }
 
 pub returns-in_err-set_span-clause-nothing : goal.returns-in_err-set_span-clause-nothing
 returns-in_err-set_span-clause-nothing c = λ none v fits.
     let conds = c.args.conds.now in
     let cond = c.cond-item.result in
-    on_unmet c.args.field conds cond v (in_read conds c.loop-cond.cond-index cond c.cond-item.is c.loop-cond-test.true) (sym c.has_span_on.ensures ∙ c.if-has_span_on.true)
-    (c.in_err-set_span.ensures.nothing refl v (subst (λ (k : Kind). Fits k v) (sym c.field_kind-kind.ensures) fits))
+    on_unmet c.args.field conds cond v
+    (in_read conds c.loop-cond.cond-index cond c.cond-item.is c.loop-cond-test.true)
+    (sym c.has_span_on.ensures ∙ c.if-has_span_on.true)
+    (c.in_err-set_span.ensures.nothing refl v
+    (subst (λ (k : Kind). Fits k v) (sym c.field_kind-kind.ensures) fits))
 
 pub loop-cond-preserved : goal.loop-cond-preserved
 loop-cond-preserved c =
@@ -32,14 +36,20 @@ loop-cond-preserved c =
     elim c.if-has_span_on.branch [
       | then-has_span_on+in_ok-set_span w ↦ record {
         meets = λ v rest fits.
-            ap (λ (s : Span). is_inside s.lo s.hi (bytes_of v ++ rest)) w.met-is ∙ w.narrow.ensures.both (bytes_of v ++ rest) ∙ (λ i. met.meets v rest fits i && w.in_ok-set_span.ensures.meets v rest fits i)
-            ∙ sym (meets_more c.args.field c.args.conds.now at cond v c.cond-item.is c.loop-cond-test.true (sym c.has_span_on.ensures ∙ w.if-has_span_on.true));
-        whole = subst (IsValueSpan kind) (sym w.met-is) (w.narrow.ensures.whole kind met.whole w.in_ok-set_span.ensures.whole);
+            ap (λ (s : Span). is_inside s.lo s.hi (bytes_of v ++ rest)) w.met-is
+            ∙ w.narrow.ensures.both (bytes_of v ++ rest)
+            ∙ (λ i. met.meets v rest fits i && w.in_ok-set_span.ensures.meets v rest fits i)
+            ∙ sym (meets_more c.args.field c.args.conds.now at cond v c.cond-item.is
+            c.loop-cond-test.true (sym c.has_span_on.ensures ∙ w.if-has_span_on.true));
+        whole = subst (IsValueSpan kind) (sym w.met-is)
+            (w.narrow.ensures.whole kind met.whole w.in_ok-set_span.ensures.whole);
       }
       | else-has_span_on w ↦ record {
         meets = λ v rest fits.
-            ap (λ (s : Span). is_inside s.lo s.hi (bytes_of v ++ rest)) w.met-is ∙ met.meets v rest fits
-            ∙ sym (meets_same c.args.field c.args.conds.now at cond v c.cond-item.is c.loop-cond-test.true (sym c.has_span_on.ensures ∙ w.if-has_span_on.false));
+            ap (λ (s : Span). is_inside s.lo s.hi (bytes_of v ++ rest)) w.met-is
+            ∙ met.meets v rest fits
+            ∙ sym (meets_same c.args.field c.args.conds.now at cond v c.cond-item.is
+            c.loop-cond-test.true (sym c.has_span_on.ensures ∙ w.if-has_span_on.false));
         whole = subst (IsValueSpan kind) (sym w.met-is) met.whole;
       }
     ]

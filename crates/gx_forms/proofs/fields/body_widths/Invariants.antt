@@ -3,7 +3,8 @@ use Rattle.gx_forms.specs.Fields.{body_widths}
 use Rattle.gx_forms.proofs.fields.body_widths.Given as goal
 
 abbrev pub invariant-loop-rest : goal.invariant-loop-rest
-invariant-loop-rest l = (l.sum ≤ 65535) × (min 65535 (l.sum + body_widths l.rest) ≡ min 65535 (body_widths l.fields))
+invariant-loop-rest l = (l.sum ≤ 65535)
+    × (min 65535 (l.sum + body_widths l.rest) ≡ min 65535 (body_widths l.fields))
 
 abbrev pub decreases-loop-rest : goal.decreases-loop-rest
 decreases-loop-rest l = length l.rest

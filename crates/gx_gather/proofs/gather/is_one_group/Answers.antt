@@ -9,10 +9,13 @@ use Rattle.gx_gather.proofs.gather.is_one_group.Goals as goal
 
 pub loop-i-preserved : goal.loop-i-preserved
 loop-i-preserved c = λ p h.
-    let here : is_next c.args.width c.args.parts.now c.index-parts-i.result ≡ false = search rules in
-    elim (in_more c.args.parts.now c.loop-i.i c.index-parts-i.result p (omega (arith, c.loop-i-test.true)) h) [
+    let here : is_next c.args.width c.args.parts.now c.index-parts-i.result ≡ false =
+    search rules in
+    elim (in_more c.args.parts.now c.loop-i.i c.index-parts-i.result p
+    (omega (arith, c.loop-i-test.true)) h) [
       | inl before ↦ c.loop-i.invariant p before
-      | inr last ↦ subst (λ (q : Part). is_next c.args.width c.args.parts.now q ≡ false) (sym (last ∙ sym c.index-parts-i.is)) here
+      | inr last ↦ subst (λ (q : Part). is_next c.args.width c.args.parts.now q ≡ false)
+          (sym (last ∙ sym c.index-parts-i.is)) here
     ]
 
 pub returns-clause-alike : goal.returns-clause-alike

@@ -15,13 +15,16 @@ loop-bucket-init g c = record {
   keeps = pages_keep_themselves g.P.PageView c.args.pages.now;
   faults = refl;
   within = omega arith;
-  made = λ told vacant. roots_none (g.P.PageView.ground c.args.pages.now) c.args.place.now (g.P.PageView.working c.args.pages.now);
+  made = λ told vacant. roots_none (g.P.PageView.ground c.args.pages.now) c.args.place.now
+      (g.P.PageView.working c.args.pages.now);
 }
 
 pub make_first-requires-clause-first : goal.make_first-requires-clause-first
 make_first-requires-clause-first g c =
-    root_past (g.P.PageView.ground c.loop-bucket.pages) c.args.place.now c.loop-bucket.bucket c.root-first.result
-    (subst (λ (x : Ground). IsPlace x c.args.place.now) (sym c.loop-bucket.invariant.keeps.ground) c.requires.place)
+    root_past (g.P.PageView.ground c.loop-bucket.pages) c.args.place.now c.loop-bucket.bucket
+    c.root-first.result
+    (subst (λ (x : Ground). IsPlace x c.args.place.now) (sym c.loop-bucket.invariant.keeps.ground)
+    c.requires.place)
     (omega (arith, c.loop-bucket-test.true, c.roots-bucket-end.ensures.value)) c.root-first.ensures
 
 pub loop-bucket-preserved : goal.loop-bucket-preserved
@@ -32,7 +35,8 @@ loop-bucket-preserved g c =
     let s = g.P.PageView.working c.args.pages.now in
     let t = g.P.PageView.working c.loop-bucket.pages in
     let u = g.P.PageView.working c.make_first.new.pages in
-    let below : c.loop-bucket.bucket < roots_of place.spec = omega (arith, c.loop-bucket-test.true, c.roots-bucket-end.ensures.value) in
+    let below : c.loop-bucket.bucket < roots_of place.spec =
+    omega (arith, c.loop-bucket-test.true, c.roots-bucket-end.ensures.value) in
     record {
       keeps = kept_pages_joined g.P.PageView i.keeps c.make_first.ensures.keeps;
       faults = c.in_ok-make_first.ensures.faults.counted ∙ i.faults;
@@ -40,10 +44,12 @@ loop-bucket-preserved g c =
       made = λ told vacant.
           let before = i.made told vacant in
           let free = root_free ground place s t c.loop-bucket.bucket below vacant before in
-          let made = c.in_ok-make_first.ensures.made told (subst (λ n. slice_get t.owners n ≡ Some 0) (sym c.root-first.ensures) free) in
+          let made = c.in_ok-make_first.ensures.made told
+          (subst (λ n. slice_get t.owners n ≡ Some 0) (sym c.root-first.ensures) free) in
           roots_more ground place s t u c.loop-bucket.bucket c.requires.place below before
           (subst (λ n. IsMade ground place.owner n t u) c.root-first.ensures
-          (subst (λ (x : Ground). IsMade x place.owner c.root-first.result t u) i.keeps.ground made));
+          (subst (λ (x : Ground). IsMade x place.owner c.root-first.result t u) i.keeps.ground
+          made));
     }
 
 pub returns : goal.returns

@@ -6,7 +6,7 @@ use Rattle.gx_ports.proofs.PageLemmas.{ends_as}
 use Rattle.gx_chain.specs.Chain.{HasChainOf}
 use Rattle.gx_chain.specs.Changes.{IsRemovedFrom}
 use Rattle.gx_chain.proofs.OwnerLemmas.{spared}
-use Rattle.gx_hash.specs.Buckets.{bucket_of}
+use Rattle.gx_hash.specs.Buckets.{hash_bucket}
 use Rattle.gx_hash.specs.Hash.{IsHash}
 use Rattle.gx_hash.proofs.BucketLemmas.{roots_some}
 use Rattle.gx_hash.proofs.HashLemmas.{root_past, chain_at, has_chain, hash_removed, hash_removed_others}
@@ -30,7 +30,7 @@ returns g c =
     let sound = HasChainOf g.P.PageView p place.owner root in
     let least = c.requires.place.least in
     let roots = roots_some place.spec c.requires.kind in
-    let bucket = bucket_of place.spec key in
+    let bucket = hash_bucket place.spec key in
     let first : root ≡ place.root + bucket =
     c.root-first.ensures ∙ ap (λ n. place.root + n) c.bucket.ensures.is in
     let chain = λ (map : LeafMap) (h : IsHash ground place s map).

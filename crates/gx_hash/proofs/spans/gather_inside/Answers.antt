@@ -15,12 +15,14 @@ loop-bucket-init g c =
     let none : c.new-found.result.items ≡ [] = search rules in
     let ordered = c.buckets_inside-from.ensures.ordered in
     let within = c.buckets_inside-from.ensures.within in
-    gathering_first g.P.PageView place.owner (λ n. place.root + n) (roots_of place.spec) c.args.span.now.lo c.args.span.now.hi p
+    gathering_first g.P.PageView place.owner (λ n. place.root + n)
+    (roots_of place.spec) c.args.span.now.lo c.args.span.now.hi p
     c.buckets_inside-from.result.0 p c.new-found.result.items
     (pages_read_themselves g.P.PageView p) refl (omega (arith, ordered, within)) none
 
 pub returns-in_err-gather_from-clause-reads : goal.returns-in_err-gather_from-clause-reads
-returns-in_err-gather_from-clause-reads g c = read_pages_joined g.P.PageView c.loop-bucket.invariant.reads c.gather_from.ensures.reads
+returns-in_err-gather_from-clause-reads g c =
+    read_pages_joined g.P.PageView c.loop-bucket.invariant.reads c.gather_from.ensures.reads
 
 pub returns-in_err-gather_from-clause-ends : goal.returns-in_err-gather_from-clause-ends
 returns-in_err-gather_from-clause-ends g c =
@@ -31,15 +33,19 @@ returns-in_err-gather_from-clause-ends g c =
     let n = c.loop-bucket.bucket in
     let within = c.buckets_inside-from.ensures.within in
     let below : n < roots_of place.spec = omega (arith, c.loop-bucket-test.true, within) in
-    ends_handed_on {T = Unit {0}} g.P.PageView (IsWhole g.P.PageView (IsHash (g.P.PageView.ground p) place) p)
-    (HasChain g.P.PageView now c.root-first.result) p now c.gather_from.new.pages _ c.from_residual.result
+    ends_handed_on {T = Unit {0}} g.P.PageView
+    (IsWhole g.P.PageView (IsHash (g.P.PageView.ground p) place) p)
+    (HasChain g.P.PageView now c.root-first.result) p now c.gather_from.new.pages _
+    c.from_residual.result
     i.faults i.reads.keeps.ground
     (λ whole. (let h = whole.1.file in (
       whole.1.told,
       place.owner,
       h.pages n,
-      subst (λ m. IsChain (g.P.PageView.ground now) place.owner (g.P.PageView.working now) m (h.pages n)) (sym c.root-first.ensures)
-          (chain_now g.P.PageView place.owner (λ m. place.root + m) (roots_of place.spec) c.args.span.now.lo c.args.span.now.hi p
+      subst (λ m. IsChain (g.P.PageView.ground now) place.owner (g.P.PageView.working now) m
+          (h.pages n)) (sym c.root-first.ensures)
+          (chain_now g.P.PageView place.owner (λ m. place.root + m)
+          (roots_of place.spec) c.args.span.now.lo c.args.span.now.hi p
           c.buckets_inside-from.result.0 now n (h.pages n) i.reads (h.chains n below)),
     )))
     c.in_err-gather_from.ensures.ends c.from_residual.ensures.1
@@ -49,13 +55,16 @@ loop-bucket-preserved g c =
     let place = c.args.place.now in
     let now = c.loop-bucket.pages in
     let within = c.buckets_inside-from.ensures.within in
-    gathering_more g.P.PageView place.owner (λ n. place.root + n) (roots_of place.spec) c.args.span.now.lo c.args.span.now.hi
+    gathering_more g.P.PageView place.owner (λ n. place.root + n)
+    (roots_of place.spec) c.args.span.now.lo c.args.span.now.hi
     c.args.pages.now c.buckets_inside-from.result.0
-    now c.gather_from.new.pages c.loop-bucket.found.items c.gather_from.new.found.items c.loop-bucket.bucket c.loop-bucket.invariant
+    now c.gather_from.new.pages c.loop-bucket.found.items c.gather_from.new.found.items
+    c.loop-bucket.bucket c.loop-bucket.invariant
     (omega (arith, c.loop-bucket-test.true, within)) c.gather_from.ensures.reads
     (c.in_ok-gather_from.ensures.ends.cause.counted refl)
     (λ told all chain. c.in_ok-gather_from.ensures.found told place.owner all
-    (subst (λ m. IsChain (g.P.PageView.ground now) place.owner (g.P.PageView.working now) m all) (sym c.root-first.ensures) chain))
+    (subst (λ m. IsChain (g.P.PageView.ground now) place.owner (g.P.PageView.working now) m all)
+    (sym c.root-first.ensures) chain))
 
 pub returns-clause-found : goal.returns-clause-found
 returns-clause-found g c map holds =
@@ -65,7 +74,9 @@ returns-clause-found g c map holds =
     let within = c.buckets_inside-from.ensures.within in
     let ordered = c.buckets_inside-from.ensures.ordered in
     let over = c.loop-bucket-test.false in
-    gathered (g.P.PageView.ground p) c.args.place.now (g.P.PageView.working p) map holds.file c.args.span.now.lo c.args.span.now.hi
+    gathered (g.P.PageView.ground p) c.args.place.now (g.P.PageView.working p) map holds.file
+    c.args.span.now.lo c.args.span.now.hi
     c.loop-bucket.found.items c.buckets_inside-from.result.0 c.loop-bucket.bucket low i.within
-    (λ key inside. (let at = c.buckets_inside-from.ensures.inside key inside in let most = at.1 in (at.0, omega (arith, most, over))))
+    (λ key inside. (let at = c.buckets_inside-from.ensures.inside key inside in let most = at.1 in
+    (at.0, omega (arith, most, over))))
     (i.found_is holds.told holds.file.pages holds.file.chains)

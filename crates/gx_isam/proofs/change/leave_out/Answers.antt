@@ -13,10 +13,13 @@ returns-clause-left_out g c told =
     let root_below = c.requires.root.below in
     record {
       between = between;
-      written = index_written s s between c.args.place.now.root c.args.bucket c.args.next c.args.index.now c.set_first.new.page refl
-          (omega (arith, root_below, many.1)) (c.in_ok-write.ensures.written told) c.set_first.ensures.page c.set_first.ensures.count
+      written = index_written s s between c.args.place.now.root c.args.bucket c.args.next
+          c.args.index.now c.set_first.new.page refl
+          (omega (arith, root_below, many.1)) (c.in_ok-write.ensures.written told)
+          c.set_first.ensures.page c.set_first.ensures.count
           c.set_first.ensures.first c.set_first.ensures.others c.set_first.ensures.separators;
-      freed = subst (λ (x : Ground). IsOwnedAnew c.args.first 0 x between (g.P.PageView.working c.free.new.self))
+      freed = subst (λ (x : Ground). IsOwnedAnew c.args.first 0 x between
+          (g.P.PageView.working c.free.new.self))
           c.in_ok-write.ensures.keeps.ground (c.in_ok-free.ensures.freed told);
     }
 
@@ -27,8 +30,10 @@ returns-clause-written g c told =
     let root = c.args.place.now.root in
     let many = g.met.P.Pages.many c.args.pages.now told in
     let root_below = c.requires.root.below in
-    let freed = subst (λ (x : Ground). IsOwnedAnew c.args.first 0 x between (g.P.PageView.working c.free.new.self))
+    let freed = subst (λ (x : Ground). IsOwnedAnew c.args.first 0 x between
+    (g.P.PageView.working c.free.new.self))
     c.in_ok-write.ensures.keeps.ground (c.in_ok-free.ensures.freed told) in
     let here = ap (λ (x : Sheets). bytes_at x root) (c.in_ok-write.ensures.written told)
     ∙ get_or-set_same s.bytes root c.set_first.new.page [] (omega (arith, root_below, many.1)) in
-    sym (bytes_same between (g.P.PageView.working c.free.new.self) root (freed.bytes root c.requires.root.past) ∙ here)
+    sym (bytes_same between (g.P.PageView.working c.free.new.self) root
+    (freed.bytes root c.requires.root.past) ∙ here)

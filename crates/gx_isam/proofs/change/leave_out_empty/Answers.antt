@@ -19,9 +19,13 @@ returns-clause-left_out g c told =
     let reads = c.in_ok-read_entries.ensures.reads in
     let few = c.if-count-gt0.false in
     inr (
-      ap entries_of (sym read) ∙ none_long (entries_of c.read_entries.new.page) (omega (arith, few, c.count.ensures)),
-      subst (λ (x : Ground). IsLeftOut x place index bucket first (next_at s first) s u) reads.keeps.ground
-          (subst (λ (x : Sheets). IsLeftOut (g.P.PageView.ground q) place index bucket first (next_at s first) x u) reads.working
-          (subst (λ n. IsLeftOut (g.P.PageView.ground q) place index bucket first n (g.P.PageView.working q) u)
+      ap entries_of (sym read)
+          ∙ none_long (entries_of c.read_entries.new.page) (omega (arith, few, c.count.ensures)),
+      subst (λ (x : Ground). IsLeftOut x place index bucket first (next_at s first) s u)
+          reads.keeps.ground
+          (subst (λ (x : Sheets). IsLeftOut (g.P.PageView.ground q) place index bucket first
+          (next_at s first) x u) reads.working
+          (subst (λ n. IsLeftOut (g.P.PageView.ground q) place index bucket first n
+          (g.P.PageView.working q) u)
           (c.next.ensures ∙ ap next_of read) (c.in_ok-leave_out.ensures.left_out told))),
     )

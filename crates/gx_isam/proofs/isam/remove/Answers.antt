@@ -6,7 +6,7 @@ use Rattle.gx_ports.specs.Files.{IsWhole}
 use Rattle.gx_ports.specs.Sheets.{Sheets, Ground, IsPast, bytes_at}
 use Rattle.gx_ports.proofs.PageLemmas.{ends_as, ends_handed_on}
 use Rattle.gx_chain.specs.Chain.{IsEntryAt, LeadsOn}
-use Rattle.gx_isam_index.specs.Index.{first_of}
+use Rattle.gx_isam_index.specs.Index.{first_page_of}
 use Rattle.gx_isam.specs.Isam.{IsIsam}
 use Rattle.gx_isam.specs.Change.{IsLeftOutIfEmpty}
 use Rattle.gx_isam.proofs.ChangeLemmas.{isam_read, isam_back, others_back, leads_on, entry_first, chain_first, removed_none, removed_left_out}
@@ -19,21 +19,28 @@ returns-in_err-first_page g c =
     let q = c.read_index.new.pages in
     let place = c.args.place.now in
     let reads = c.in_ok-read_index.ensures.reads in
-    let at = first_of c.read_index.new.page c.bucket_of-bucket.result in
+    let at = first_page_of c.read_index.new.page c.bucket_of-bucket.result in
     record {
       ok = search rules;
       others = search rules;
       keeps = search rules;
       ends =
-          ends_handed_on g.P.PageView (IsWhole g.P.PageView (IsIsam (g.P.PageView.ground p) place) p) (LeadsOn (g.P.PageView.ground q) at)
+          ends_handed_on g.P.PageView
+          (IsWhole g.P.PageView (IsIsam (g.P.PageView.ground p) place) p)
+          (LeadsOn (g.P.PageView.ground q) at)
           p q q _ c.from_residual-in_err-first_page.result
           (c.in_ok-read_index.ensures.ends.cause.counted refl) reads.keeps.ground
           (λ whole. (let h = isam_read g.P.PageView place p q reads whole.0 whole.1.file in
-          let page_is = c.in_ok-read_index.ensures.bytes whole.1.told ∙ ap (λ (x : Sheets). bytes_at x place.root) (sym reads.working) in
-          leads_on (g.P.PageView.ground q) place.owner (g.P.PageView.working q) at (h.pages c.bucket_of-bucket.result)
-          (chain_first (g.P.PageView.ground q) place (g.P.PageView.working q) whole.0 c.requires.place.least
-          (subst (λ (x : Ground). x.tables ≤ place.root) (sym reads.keeps.ground) c.requires.place.past) h c.read_index.new.page page_is
-          c.args.key.now c.bucket_of-bucket.result c.bucket_of-bucket.ensures.value c.bucket_of-bucket.ensures.below at refl)))
+          let page_is = c.in_ok-read_index.ensures.bytes whole.1.told
+          ∙ ap (λ (x : Sheets). bytes_at x place.root) (sym reads.working) in
+          leads_on (g.P.PageView.ground q) place.owner (g.P.PageView.working q) at
+          (h.pages c.bucket_of-bucket.result)
+          (chain_first (g.P.PageView.ground q) place (g.P.PageView.working q) whole.0
+          c.requires.place.least
+          (subst (λ (x : Ground). x.tables ≤ place.root) (sym reads.keeps.ground)
+          c.requires.place.past) h c.read_index.new.page page_is
+          c.args.key.now c.bucket_of-bucket.result c.bucket_of-bucket.ensures.value
+          c.bucket_of-bucket.ensures.below at refl)))
           c.in_err-first_page.ensures.ends c.from_residual-in_err-first_page.ensures.1;
       not_full = search rules;
       frugal = search rules;
@@ -45,17 +52,22 @@ returns-in-None g c =
     let q = c.read_index.new.pages in
     let place = c.args.place.now in
     let reads = c.in_ok-read_index.ensures.reads in
-    let at = first_of c.read_index.new.page c.bucket_of-bucket.result in
-    let none = MatchOption-at_none (at ≡ NONE) (λ n. (at ≡ n) × IsPast (g.P.PageView.ground q) n × (n ≢ NONE)) c.in-None.is
+    let at = first_page_of c.read_index.new.page c.bucket_of-bucket.result in
+    let none = MatchOption-at_none (at ≡ NONE) (λ n. (at ≡ n) × IsPast (g.P.PageView.ground q) n
+    × (n ≢ NONE)) c.in-None.is
     c.in_ok-first_page.ensures.first in
     record {
       ok = λ map holds. (
           let h = isam_read g.P.PageView place p q reads map holds.file in
-          let page_is = c.in_ok-read_index.ensures.bytes holds.told ∙ ap (λ (x : Sheets). bytes_at x place.root) (sym reads.working) in
+          let page_is = c.in_ok-read_index.ensures.bytes holds.told
+          ∙ ap (λ (x : Sheets). bytes_at x place.root) (sym reads.working) in
           isam_back g.P.PageView place p q reads (g.P.PageView.working q) _
-          (removed_none (g.P.PageView.ground q) place (g.P.PageView.working q) map c.requires.place.least
-          (subst (λ (x : Ground). x.tables ≤ place.root) (sym reads.keeps.ground) c.requires.place.past) h c.read_index.new.page page_is
-          c.args.key.now c.bucket_of-bucket.result c.bucket_of-bucket.ensures.value c.bucket_of-bucket.ensures.below none
+          (removed_none (g.P.PageView.ground q) place (g.P.PageView.working q) map
+          c.requires.place.least
+          (subst (λ (x : Ground). x.tables ≤ place.root) (sym reads.keeps.ground)
+          c.requires.place.past) h c.read_index.new.page page_is
+          c.args.key.now c.bucket_of-bucket.result c.bucket_of-bucket.ensures.value
+          c.bucket_of-bucket.ensures.below none
           c.in_ok-first_page.ensures.small));
       others = search rules;
       keeps = search rules;
@@ -75,9 +87,11 @@ returns-in_ok-remove_from-in-Some g c =
     let index = c.read_index.new.page in
     let first = c.in-Some.first in
     let reads = c.in_ok-read_index.ensures.reads in
-    let past = subst (λ (x : Ground). x.tables ≤ place.root) (sym reads.keeps.ground) c.requires.place.past in
-    let at = first_of index bucket in
-    let found = MatchOption-at_some (at ≡ NONE) (λ n. (at ≡ n) × IsPast (g.P.PageView.ground q) n × (n ≢ NONE)) first c.in-Some.is
+    let past = subst (λ (x : Ground). x.tables ≤ place.root) (sym reads.keeps.ground)
+    c.requires.place.past in
+    let at = first_page_of index bucket in
+    let found = MatchOption-at_some (at ≡ NONE) (λ n. (at ≡ n) × IsPast (g.P.PageView.ground q) n
+    × (n ≢ NONE)) first c.in-Some.is
     c.in_ok-first_page.ensures.first in
     let ground = c.in_ok-remove_from-in-Some.ensures.keeps.ground in
     let r = c.remove_from.new.pages in
@@ -85,44 +99,64 @@ returns-in_ok-remove_from-in-Some g c =
     record {
       ok = λ map holds. (
           let h = isam_read g.P.PageView place p q reads map holds.file in
-          let page_is = c.in_ok-read_index.ensures.bytes holds.told ∙ ap (λ (x : Sheets). bytes_at x place.root) (sym reads.working) in
-          let chain = chain_first (g.P.PageView.ground q) place (g.P.PageView.working q) map c.requires.place.least past h index page_is
-          c.args.key.now bucket c.bucket_of-bucket.ensures.value c.bucket_of-bucket.ensures.below first found.0 in
-          let less = c.in_ok-remove_from-in-Some.ensures.removed holds.told (h.pages bucket) chain in
+          let page_is = c.in_ok-read_index.ensures.bytes holds.told
+          ∙ ap (λ (x : Sheets). bytes_at x place.root) (sym reads.working) in
+          let chain = chain_first (g.P.PageView.ground q) place (g.P.PageView.working q) map
+          c.requires.place.least past h index page_is
+          c.args.key.now bucket c.bucket_of-bucket.ensures.value c.bucket_of-bucket.ensures.below
+          first found.0 in
+          let less = c.in_ok-remove_from-in-Some.ensures.removed holds.told (h.pages bucket) chain
+          in
           on_ok_weaker c.leave_out_empty.result
           (λ after. isam_back g.P.PageView place p q reads u _
-          (removed_left_out (g.P.PageView.ground q) place (g.P.PageView.working q) map c.requires.place.least past h index page_is
+          (removed_left_out (g.P.PageView.ground q) place (g.P.PageView.working q) map
+          c.requires.place.least past h index page_is
           c.args.key.now bucket c.bucket_of-bucket.ensures.value c.bucket_of-bucket.ensures.below
-          first found.0 found.2 t u less (subst (λ (x : Ground). IsLeftOutIfEmpty x place index bucket first t u) ground after)).0)
+          first found.0 found.2 t u less
+          (subst (λ (x : Ground). IsLeftOutIfEmpty x place index bucket first t u) ground
+          after)).0)
           (c.leave_out_empty.ensures.left_out holds.told));
       others = λ whole fault. (
           let h = isam_read g.P.PageView place p q reads whole.0 whole.1.file in
-          let page_is = c.in_ok-read_index.ensures.bytes whole.1.told ∙ ap (λ (x : Sheets). bytes_at x place.root) (sym reads.working) in
-          let chain = chain_first (g.P.PageView.ground q) place s whole.0 c.requires.place.least past h index page_is c.args.key.now bucket
+          let page_is = c.in_ok-read_index.ensures.bytes whole.1.told
+          ∙ ap (λ (x : Sheets). bytes_at x place.root) (sym reads.working) in
+          let chain = chain_first (g.P.PageView.ground q) place s whole.0 c.requires.place.least
+          past h index page_is c.args.key.now bucket
           c.bucket_of-bucket.ensures.value c.bucket_of-bucket.ensures.below first found.0 in
-          let less = c.in_ok-remove_from-in-Some.ensures.removed whole.1.told (h.pages bucket) chain in
+          let less = c.in_ok-remove_from-in-Some.ensures.removed whole.1.told (h.pages bucket) chain
+          in
           others_back g.P.PageView place p q reads u
-          (changed_spared g.P.PageView (IsEntryAt g.P.PageView r first) (g.P.PageView.ground q) place.owner s r c.leave_out_empty.new.pages
+          (changed_spared g.P.PageView (IsEntryAt g.P.PageView r first) (g.P.PageView.ground q)
+          place.owner s r c.leave_out_empty.new.pages
           c.leave_out_empty.result
           (whole.1.told, entry_first (g.P.PageView.ground q) place.owner t first less.pages less.chain found.2)
           c.leave_out_empty.ensures.ends
           (on_ok_weaker c.leave_out_empty.result
-          (λ after. (removed_left_out (g.P.PageView.ground q) place s whole.0 c.requires.place.least past h index page_is c.args.key.now
+          (λ after. (removed_left_out (g.P.PageView.ground q) place s whole.0 c.requires.place.least
+          past h index page_is c.args.key.now
           bucket c.bucket_of-bucket.ensures.value c.bucket_of-bucket.ensures.below
-          first found.0 found.2 t u less (subst (λ (x : Ground). IsLeftOutIfEmpty x place index bucket first t u) ground after)).1)
+          first found.0 found.2 t u less
+          (subst (λ (x : Ground). IsLeftOutIfEmpty x place index bucket first t u) ground
+          after)).1)
           (c.leave_out_empty.ensures.left_out whole.1.told))
           c.leave_out_empty.ensures.not_full c.leave_out_empty.ensures.frugal fault));
       keeps = search rules;
       ends =
-          ends_as g.P.PageView (IsWhole g.P.PageView (IsIsam (g.P.PageView.ground p) place) p) (IsEntryAt g.P.PageView r first) p r
+          ends_as g.P.PageView (IsWhole g.P.PageView (IsIsam (g.P.PageView.ground p) place) p)
+          (IsEntryAt g.P.PageView r first) p r
           c.leave_out_empty.new.pages c.leave_out_empty.result
-          (c.in_ok-remove_from-in-Some.ensures.ends.cause.counted refl ∙ c.in_ok-read_index.ensures.ends.cause.counted refl)
+          (c.in_ok-remove_from-in-Some.ensures.ends.cause.counted refl
+          ∙ c.in_ok-read_index.ensures.ends.cause.counted refl)
           (c.in_ok-remove_from-in-Some.ensures.keeps.ground ∙ reads.keeps.ground)
           (λ whole. (let h = isam_read g.P.PageView place p q reads whole.0 whole.1.file in
-          let page_is = c.in_ok-read_index.ensures.bytes whole.1.told ∙ ap (λ (x : Sheets). bytes_at x place.root) (sym reads.working) in
-          let chain = chain_first (g.P.PageView.ground q) place (g.P.PageView.working q) whole.0 c.requires.place.least past h index
-          page_is c.args.key.now bucket c.bucket_of-bucket.ensures.value c.bucket_of-bucket.ensures.below first found.0 in
-          let less = c.in_ok-remove_from-in-Some.ensures.removed whole.1.told (h.pages bucket) chain in
+          let page_is = c.in_ok-read_index.ensures.bytes whole.1.told
+          ∙ ap (λ (x : Sheets). bytes_at x place.root) (sym reads.working) in
+          let chain = chain_first (g.P.PageView.ground q) place (g.P.PageView.working q) whole.0
+          c.requires.place.least past h index
+          page_is c.args.key.now bucket c.bucket_of-bucket.ensures.value
+          c.bucket_of-bucket.ensures.below first found.0 in
+          let less = c.in_ok-remove_from-in-Some.ensures.removed whole.1.told (h.pages bucket) chain
+          in
           (whole.1.told, entry_first (g.P.PageView.ground q) place.owner (g.P.PageView.working r) first less.pages less.chain found.2)))
           c.leave_out_empty.ensures.ends;
       not_full = search rules;

@@ -6,7 +6,8 @@ pub returns : goal.returns
 returns g c =
     record {
       ok = λ map holds.
-          gathered_selected (g.P.PageView.working c.args.pages.now) c.args.span.now.lo c.args.span.now.hi map c.in_ok-found.found.items
+          gathered_selected (g.P.PageView.working c.args.pages.now) c.args.span.now.lo
+          c.args.span.now.hi map c.in_ok-found.found.items
           c.args.out.now c.append_sorted.new.out
           (c.in_ok-found.ensures.found map holds) c.in_ok-append_sorted.ensures.ok;
       extends = search rules;

@@ -18,7 +18,8 @@ loop-end-init g c =
       faults = refl;
       page = c.requires.index;
       within = omega (arith, len);
-      way = λ map told blank. filled_first (g.P.PageView.ground p) c.args.place.now (g.P.PageView.working p) c.args.index.now
+      way = λ map told blank. filled_first (g.P.PageView.ground p) c.args.place.now
+          (g.P.PageView.working p) c.args.index.now
           c.args.entries.now map c.len-end.result blank len;
     }
 
@@ -42,11 +43,15 @@ loop-end-preserved g c =
       page = c.hang_before.ensures.index;
       within = omega (arith, less, within);
       way = λ map told blank.
-          filled_more (g.P.PageView.ground p) place (g.P.PageView.working p) s u c.args.index.now index c.hang_before.new.index
-          c.args.entries.now c.requires.ordered start c.loop-end.end within c.requires.place.least (i.way map told blank)
+          filled_more (g.P.PageView.ground p) place (g.P.PageView.working p) s u c.args.index.now
+          index c.hang_before.new.index
+          c.args.entries.now c.requires.ordered start c.loop-end.end within c.requires.place.least
+          (i.way map told blank)
           bucket c.fill_page-bucket.ensures.bucket es run
-          (subst (λ (x : Ground). IsHungBefore x place index bucket es s u) i.keeps.ground (c.in_ok-hang_before.ensures.hung told))
-          (c.in_ok-hang_before.ensures.written told) c.hang_before.ensures.count c.hang_before.ensures.separators;
+          (subst (λ (x : Ground). IsHungBefore x place index bucket es s u) i.keeps.ground
+          (c.in_ok-hang_before.ensures.hung told))
+          (c.in_ok-hang_before.ensures.written told) c.hang_before.ensures.count
+          c.hang_before.ensures.separators;
     }
 
 pub returns-in_err-hang_before-clause-partly : goal.returns-in_err-hang_before-clause-partly
@@ -58,21 +63,28 @@ returns-in_err-hang_before-clause-partly g c told map blank fault =
     let place = c.args.place.now in
     let refused = c.in_err-hang_before.ensures.claims in
     let why = c.in_err-hang_before.field-0.0 in
-    let same = only_full {T = Unit {0}} g.P.PageView now c.hang_before.new.pages why refused.ends refused.unchanged refused.frugal
-    (λ is. fault (handed_refusal c.from_residual.result why stop.Fault c.from_residual.ensures.1 is)) in
+    let same = only_full {T = Unit {0}} g.P.PageView now c.hang_before.new.pages why refused.ends
+    refused.unchanged refused.frugal
+    (λ is. fault (handed_refusal c.from_residual.result why stop.Fault c.from_residual.ensures.1
+    is)) in
     subst (λ (x : Sheets). IsPartlyFilled ground place (g.P.PageView.working p) x map) (sym same)
-    (filled_partly ground place (g.P.PageView.working p) (g.P.PageView.working now) c.args.index.now c.loop-end.index c.args.entries.now
+    (filled_partly ground place (g.P.PageView.working p) (g.P.PageView.working now) c.args.index.now
+    c.loop-end.index c.args.entries.now
     c.loop-end.end map blank.those (i.way map told blank))
 
 pub returns-clause-filled : goal.returns-clause-filled
 returns-clause-filled g c told map blank =
     let p = c.args.pages.now in
     let over = c.loop-end-test.false in
-    filled_last (g.P.PageView.ground p) c.args.place.now (g.P.PageView.working p) (g.P.PageView.working c.loop-end.pages) c.args.index.now
-    c.loop-end.index c.args.entries.now c.loop-end.end map blank.those (c.loop-end.invariant.way map told blank) (omega (arith, over))
+    filled_last (g.P.PageView.ground p) c.args.place.now (g.P.PageView.working p)
+    (g.P.PageView.working c.loop-end.pages) c.args.index.now
+    c.loop-end.index c.args.entries.now c.loop-end.end map blank.those
+    (c.loop-end.invariant.way map told blank) (omega (arith, over))
 
 pub returns-clause-partly : goal.returns-clause-partly
 returns-clause-partly g c told map blank fault =
     let p = c.args.pages.now in
-    filled_partly (g.P.PageView.ground p) c.args.place.now (g.P.PageView.working p) (g.P.PageView.working c.loop-end.pages)
-    c.args.index.now c.loop-end.index c.args.entries.now c.loop-end.end map blank.those (c.loop-end.invariant.way map told blank)
+    filled_partly (g.P.PageView.ground p) c.args.place.now (g.P.PageView.working p)
+    (g.P.PageView.working c.loop-end.pages)
+    c.args.index.now c.loop-end.index c.args.entries.now c.loop-end.end map blank.those
+    (c.loop-end.invariant.way map told blank)

@@ -10,7 +10,8 @@ add-requires-clause-fit c =
 
 pub add-requires-else-bucket_of-bucket-clause-other : goal.add-requires-else-bucket_of-bucket-clause-other
 add-requires-else-bucket_of-bucket-clause-other c =
-    filling_apart c.args.index.now c.args.entries.now c.loop-start.start c.args.end c.bucket_of-bucket.result c.loop-start.page
+    filling_apart c.args.index.now c.args.entries.now c.loop-start.start c.args.end
+    c.bucket_of-bucket.result c.loop-start.page
     c.entry-entry.result.key.now c.entry-entry.result.body.now
     c.requires.ordered c.loop-start-test.true c.loop-start.invariant c.entry-entry.ensures
 
@@ -21,7 +22,9 @@ add-requires-else-bucket_of-bucket-clause-fit c =
 
 pub loop-start-preserved : goal.loop-start-preserved
 loop-start-preserved c =
-    filling_more c.args.index.now c.args.entries.now c.loop-start.start c.args.end c.bucket_of-bucket.result c.loop-start.page
+    filling_more c.args.index.now c.args.entries.now c.loop-start.start c.args.end
+    c.bucket_of-bucket.result c.loop-start.page
     c.add-else-bucket_of-bucket.new.page c.entry-entry.result.key.now c.entry-entry.result.body.now
-    c.loop-start-test.true c.loop-start.invariant c.entry-entry.ensures (sym c.bucket_of.ensures.value ∙ c.if-bucket_of-bucket.false)
+    c.loop-start-test.true c.loop-start.invariant c.entry-entry.ensures
+    (sym c.bucket_of.ensures.value ∙ c.if-bucket_of-bucket.false)
     c.add-else-bucket_of-bucket.ensures.page c.if-not-add.ensures.added

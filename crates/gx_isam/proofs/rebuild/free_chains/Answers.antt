@@ -23,11 +23,13 @@ loop-bucket-init g c =
         whole = record {
           map = map;
           file = subst (λ (x : Sheets). IsIsam ground place x map) (sym reads.working) h;
-          index_is = c.in_ok-read_index.ensures.bytes told ∙ ap (λ (x : Sheets). bytes_at x place.root) (sym reads.working);
+          index_is = c.in_ok-read_index.ensures.bytes told
+              ∙ ap (λ (x : Sheets). bytes_at x place.root) (sym reads.working);
         };
         small = λ some. absurd (omega (arith, some));
         none = λ i less. absurd (omega (arith, less));
-        others = subst (λ (x : Sheets). OthersStay ground place.owner (g.P.PageView.working p) x) (sym reads.working)
+        others = subst (λ (x : Sheets). OthersStay ground place.owner (g.P.PageView.working p) x)
+            (sym reads.working)
             (others_itself ground place.owner (g.P.PageView.working p));
       };
     }
@@ -39,8 +41,10 @@ returns-in_err-free_chain-clause-ends g c =
     let now = c.loop-bucket.pages in
     let place = c.args.place.now in
     let index = c.loop-bucket.index in
-    ends_handed_on {T = Unit {0}} g.P.PageView (IsWhole g.P.PageView (IsIsam (g.P.PageView.ground p) place) p)
-    (HasIndexAt g.P.PageView now place index) p now c.free_chain.new.pages _ c.from_residual-in_err-free_chain.result
+    ends_handed_on {T = Unit {0}} g.P.PageView
+    (IsWhole g.P.PageView (IsIsam (g.P.PageView.ground p) place) p)
+    (HasIndexAt g.P.PageView now place index) p now c.free_chain.new.pages _
+    c.from_residual-in_err-free_chain.result
     i.faults i.keeps.ground
     (λ whole. (
       whole.1.told,
@@ -70,9 +74,11 @@ loop-bucket-preserved g c =
       counted = c.free_chain.ensures.count ∙ i.counted;
       within = omega (arith, test);
       way = λ map told h. (let so = i.way map told h in
-          freed_more ground place (g.P.PageView.working p) s u index after bucket (omega (arith, test, counted)) so
+          freed_more ground place (g.P.PageView.working p) s u index after bucket
+          (omega (arith, test, counted)) so
           (subst (λ (x : Ground). IsFreed x place bucket index after s u) i.keeps.ground
-          (c.in_ok-free_chain.ensures.freed told (subst (λ (x : Ground). HasIndex x place s index) (sym i.keeps.ground) so.whole))));
+          (c.in_ok-free_chain.ensures.freed told
+          (subst (λ (x : Ground). HasIndex x place s index) (sym i.keeps.ground) so.whole))));
     }
 
 pub returns-clause-emptied : goal.returns-clause-emptied
@@ -82,5 +88,7 @@ returns-clause-emptied g c map holds =
     let within = i.within in
     let counted = i.counted in
     let over = c.loop-bucket-test.false in
-    freed_all (g.P.PageView.ground p) c.args.place.now (g.P.PageView.working p) (g.P.PageView.working c.loop-bucket.pages)
-    c.loop-bucket.index c.loop-bucket.bucket (i.way map holds.told holds.file) (omega (arith, within, counted, over))
+    freed_all (g.P.PageView.ground p) c.args.place.now (g.P.PageView.working p)
+    (g.P.PageView.working c.loop-bucket.pages)
+    c.loop-bucket.index c.loop-bucket.bucket (i.way map holds.told holds.file)
+    (omega (arith, within, counted, over))

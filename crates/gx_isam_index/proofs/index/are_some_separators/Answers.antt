@@ -26,7 +26,8 @@ pub returns-in_default-split_separator : goal.returns-in_default-split_separator
 returns-in_default-split_separator c = (
   λ bad. absurd (false≢true bad),
   λ held. absurd
-      (no_more separator_format own c.args.bytes.now c.loop.counter c.loop.rest.now c.loop.last.now c.args.count c.loop.invariant
+      (no_more separator_format own c.args.bytes.now c.loop.counter c.loop.rest.now c.loop.last.now
+      c.args.count c.loop.invariant
       c.loop-test.true c.in_default-split_separator.ensures held),
 )
 
@@ -35,7 +36,8 @@ returns-then-not-is_below c =
     let found = c.in-Some-split_separator.ensures in (
       λ bad. absurd (false≢true bad),
       λ held. absurd
-          (not_ascending separator_format own c.args.bytes.now c.loop.counter c.loop.rest.now c.loop.last.now c.args.count
+          (not_ascending separator_format own c.args.bytes.now c.loop.counter c.loop.rest.now
+          c.loop.last.now c.args.count
           c.in-Some-split_separator.separator.now c.in-Some-split_separator.behind.now
           c.loop.invariant c.loop-test.true found.0 found.1 (sym c.if-not-is_below.ensures) held),
     )
@@ -54,6 +56,7 @@ returns c =
     let end : c.loop.counter ≡ c.args.count =
     omega (arith, c.loop-test.false, c.loop.auto.counter-end c.requires) in (
       λ _. subst (λ (n : ℕ). HoldsAscending n c.args.bytes.now) end
-          (scanned_all separator_format own c.args.bytes.now c.loop.counter c.loop.rest.now c.loop.last.now c.loop.invariant),
+          (scanned_all separator_format own c.args.bytes.now c.loop.counter c.loop.rest.now
+          c.loop.last.now c.loop.invariant),
       λ _. refl,
     )

@@ -2,7 +2,7 @@ use Rattle.std.proofs.Common.{◌≡◌, ℕ, Bool, List, ap, ◌∙◌, arith}
 use Rattle.std.specs.Ordering.{is_le}
 use Rattle.gx_ports.specs.Keyed.{key_cmp}
 use Rattle.gx_bytes.proofs.RecordLemmas.{holds_split, split_found}
-use Rattle.gx_isam_index.specs.Index.{IsFit, behind_firsts, lent, part_of, separator_bytes}
+use Rattle.gx_isam_index.specs.Index.{IsFitSeparator, behind_firsts, lent, part_of, separator_bytes}
 use Rattle.gx_isam_index.proofs.SeparatorLemmas.{separator_format}
 use Rattle.gx_isam_index.proofs.IndexLemmas.{tick, tick_of, tick_small, counting_more}
 use Rattle.gx_isam_index.proofs.index.count_at_most.Goals as goal
@@ -15,7 +15,8 @@ unwrap-requires c =
 
 pub loop-preserved : goal.loop-preserved
 loop-preserved c =
-    let found = split_found separator_bytes IsFit lent c.loop.rest.now c.split_separator.result
+    let found = split_found separator_bytes IsFitSeparator lent c.loop.rest.now
+    c.split_separator.result
     c.unwrap.result c.unwrap.ensures c.split_separator.ensures in
     let test : List ℕ → Bool = λ (separator : List ℕ).
     is_le (key_cmp (part_of c.args.fronts c.args.key.now separator) c.args.key.now) in

@@ -11,7 +11,8 @@ returns-then-not-fits_page c =
     let e : LeafEntry = record { key = c.entry-entry.result.key.now; body = c.entry-entry.result.body.now } in (
       λ bad. absurd (false≢true bad),
       λ o. absurd
-          (false≢true (sym c.if-not-fits_page.true ∙ c.fits_page.ensures.1 (o.fit c.loop-i.i e c.entry-entry.ensures))),
+          (false≢true (sym c.if-not-fits_page.true
+          ∙ c.fits_page.ensures.1 (o.fit c.loop-i.i e c.entry-entry.ensures))),
     )
 
 pub returns-then-not-is_below : goal.returns-then-not-is_below
@@ -20,11 +21,13 @@ returns-then-not-is_below c =
     let low = c.if-i-gt0.true in
     let d : LeafEntry = record { key = c.entry.result.key.now; body = c.entry.result.body.now } in
     let e : LeafEntry = record { key = c.entry-entry.result.key.now; body = c.entry-entry.result.body.now } in
-    let here = subst (λ n. slice_get c.args.entries.now n ≡ Some e) (let s : i ≡ i - 1 + 1 = omega (arith, low) in s)
+    let here = subst (λ n. slice_get c.args.entries.now n ≡ Some e) (let s : i ≡ i - 1 + 1 =
+    omega (arith, low) in s)
     c.entry-entry.ensures in (
       λ bad. absurd (false≢true bad),
       λ o. absurd
-          (false≢true (sym c.if-not-is_below.true ∙ c.is_below.ensures ∙ ap is_lt (o.ascending (i - 1) d e c.entry.ensures here))),
+          (false≢true (sym c.if-not-is_below.true ∙ c.is_below.ensures
+          ∙ ap is_lt (o.ascending (i - 1) d e c.entry.ensures here))),
     )
 
 pub returns : goal.returns

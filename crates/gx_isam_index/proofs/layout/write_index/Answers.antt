@@ -1,6 +1,6 @@
 use Rattle.std.proofs.Common.{inl, inr, ap, ◌∙◌, arith}
 use Rattle.std.proofs.lemmas.Bool.{cases_eq}
-use Rattle.gx_isam_index.specs.Index.{first_of}
+use Rattle.gx_isam_index.specs.Index.{first_page_of}
 use Rattle.gx_isam_index.specs.Layout.{keys_of}
 use Rattle.gx_isam_index.proofs.LayoutLemmas.{fresh_new, fresh_stays, index_new, new_count}
 use Rattle.gx_isam_index.proofs.layout.write_index.Goals as goal
@@ -37,7 +37,8 @@ loop-bucket-preserved c =
       counted = set.count ∙ i.counted;
       within = omega (arith, test);
       none = λ n less. elim (cases_eq n bucket) [
-        | inl e ↦ ap (first_of c.set_first.new.page) e ∙ set.first
-        | inr d ↦ set.others n (omega (arith, less, test, counted)) d ∙ i.none n (omega (arith, less, d))
+        | inl e ↦ ap (first_page_of c.set_first.new.page) e ∙ set.first
+        | inr d ↦ set.others n (omega (arith, less, test, counted)) d
+            ∙ i.none n (omega (arith, less, d))
       ];
     }

@@ -79,18 +79,22 @@ returns-clause-keeps g c =
 pub returns-in-Some-clause-unchanged : goal.returns-in-Some-clause-unchanged
 returns-in-Some-clause-unchanged g c is =
     let rs = c.args.working.now.frames.resident in
-    let e : c.get.follows.lender-at-none ≡ with_residents c.args.working.now.frames (to_front c.args.p rs) = c.get.follows.holds-at-none in
+    let e : c.get.follows.lender-at-none ≡ with_residents c.args.working.now.frames
+    (to_front c.args.p rs) = c.get.follows.holds-at-none in
     record {
-      clean = λ q. still_unchanged rs _ q (front_found c.args.p rs _ (ap (λ (x : Pool). x.resident) e) q) (is.clean q);
+      clean = λ q. still_unchanged rs _ q
+          (front_found c.args.p rs _ (ap (λ (x : Pool). x.resident) e) q) (is.clean q);
       unspilled = is.unspilled;
     }
 
 pub returns-clause-unchanged : goal.returns-clause-unchanged
 returns-clause-unchanged g c is =
     let rs = c.args.working.now.frames.resident in
-    let e : c.get.follows.lender-at-none ≡ with_residents c.args.working.now.frames (to_front c.args.p rs) = c.get.follows.holds-at-none in
+    let e : c.get.follows.lender-at-none ≡ with_residents c.args.working.now.frames
+    (to_front c.args.p rs) = c.get.follows.holds-at-none in
     let made = c.make_room.ensures.unchanged (record {
-      clean = λ q. still_unchanged rs _ q (front_found c.args.p rs _ (ap (λ (x : Pool). x.resident) e) q) (is.clean q);
+      clean = λ q. still_unchanged rs _ q
+          (front_found c.args.p rs _ (ap (λ (x : Pool). x.resident) e) q) (is.clean q);
       unspilled = is.unspilled;
     }) in
     record {

@@ -14,8 +14,10 @@ returns-clause-others g c told q ne =
     let rs = c.reserve.new.working.frames.resident in
     let p = c.args.p in
     let r : Resident = record { page = p; bytes = c.args.from.now; changed = true } in
-    ap (λ (x : Pool). page_of P blocks c.reserve.new.working.spilled.items x.resident q) c.put.ensures
-    ∙ placed_other P blocks c.reserve.new.working.spilled.items rs (r ∷ without p rs) p r (find_here p r (without p rs) refl)
+    ap (λ (x : Pool). page_of P blocks c.reserve.new.working.spilled.items x.resident q)
+    c.put.ensures
+    ∙ placed_other P blocks c.reserve.new.working.spilled.items rs (r ∷ without p rs) p r
+    (find_here p r (without p rs) refl)
     (λ k off. find_past k r (without p rs) off ∙ find_without_other p k rs off) q ne
     ∙ c.reserve.ensures.keeps.same told q
 

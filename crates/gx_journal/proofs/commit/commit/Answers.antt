@@ -245,7 +245,8 @@ returns-then-is_empty-clause-saved g c =
 
 pub returns-clause-saved : goal.returns-clause-saved
 returns-clause-saved g c = record {
-  clean = λ q. still_unchanged c.spill_all.new.working.frames.resident c.publish.new.frames.resident q
+  clean = λ q. still_unchanged c.spill_all.new.working.frames.resident c.publish.new.frames.resident
+      q
       (c.publish.ensures.frames.found q) (c.in_ok-spill_all.ensures.none_changed q);
   unspilled = c.clear.ensures.none;
 }

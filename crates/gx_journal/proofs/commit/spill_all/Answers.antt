@@ -7,12 +7,14 @@ use Rattle.gx_journal.proofs.CleanLemmas.{changed_at}
 use Rattle.gx_journal.proofs.UnchangedLemmas.{never_changed}
 use Rattle.gx_journal.proofs.commit.spill_all.Goals as goal
 
-next_below : (pool : Pool) (from page : ℕ) → IsPool pool → IsNextChanged pool from page → page < pool.pages
+next_below : (pool : Pool) (from page : ℕ) → IsPool pool → IsNextChanged pool from page
+    → page < pool.pages
 next_below pool from page whole next =
     let r = changed_at (find_page page pool.resident) next.changed in
     found_below pool.pages page pool.resident r.0 whole.within r.1
 
-none_before : (pool : Pool) (from page : ℕ) → IsNextChanged pool from page → ((q : ℕ) → q < from → IsChanged pool q → ⊥) → (q : ℕ)
+none_before : (pool : Pool) (from page : ℕ) → IsNextChanged pool from page
+    → ((q : ℕ) → q < from → IsChanged pool q → ⊥) → (q : ℕ)
     → q < page → IsChanged pool q → ⊥
 none_before pool from page next below q lt ch = elim (leb_tells from q) [
   | inl high ↦ (let least = next.least q high.1 ch in absurd (omega (arith, least, lt)))
@@ -22,14 +24,16 @@ none_before pool from page next below q lt ch = elim (leb_tells from q) [
 pub spill_one-requires-clause-below : goal.spill_one-requires-clause-below
 spill_one-requires-clause-below g c = omega (
   arith,
-  next_below c.loop-p.working.frames c.loop-p.from c.in-Some.p c.next_changed.ensures.pool c.in-Some.ensures.next,
+  next_below c.loop-p.working.frames c.loop-p.from c.in-Some.p c.next_changed.ensures.pool
+      c.in-Some.ensures.next,
   c.loop-p.working.pages,
 )
 
 pub overflow_add-from : goal.overflow_add-from
 overflow_add-from g c = omega (
   arith,
-  next_below c.loop-p.working.frames c.loop-p.from c.in-Some.p c.next_changed.ensures.pool c.in-Some.ensures.next,
+  next_below c.loop-p.working.frames c.loop-p.from c.in-Some.p c.next_changed.ensures.pool
+      c.in-Some.ensures.next,
   c.loop-p.working.pages,
   c.loop-p.working.few,
 )
@@ -54,9 +58,11 @@ loop-p-preserved g c =
       idle = λ none. absurd (never_changed c.args.working.now c.loop-p.working c.in-Some.p none
           (inv.idle none).1 c.in-Some.ensures.next.changed);
       below = λ q lt h. elim (eqb_tells q c.in-Some.p) [
-        | inl same ↦ c.in_ok-spill_one.ensures.clean (subst (λ (k : ℕ). IsChanged c.spill_one.new.working.frames k) same.1 h)
+        | inl same ↦ c.in_ok-spill_one.ensures.clean
+            (subst (λ (k : ℕ). IsChanged c.spill_one.new.working.frames k) same.1 h)
         | inr other ↦ (let ne = other.1 in c.in_ok-spill_one.ensures.still q
-            (none_before c.loop-p.working.frames c.loop-p.from c.in-Some.p c.in-Some.ensures.next inv.below q (omega (arith, lt, ne))) h)
+            (none_before c.loop-p.working.frames c.loop-p.from c.in-Some.p c.in-Some.ensures.next
+            inv.below q (omega (arith, lt, ne))) h)
       ];
     }
 

@@ -14,7 +14,8 @@ clean-requires-clause-resident g c =
     let rs = c.args.working.now.frames.resident in
     let r = changed_at (find_page c.args.p rs) c.requires.changed in
     some_found c.args.p c.spill.new.working.frames.resident r.0
-    (front_found c.args.p rs _ (ap (λ (x : Pool). x.resident) c.spill.ensures.frames) c.args.p ∙ r.1)
+    (front_found c.args.p rs _ (ap (λ (x : Pool). x.resident) c.spill.ensures.frames) c.args.p
+    ∙ r.1)
 
 pub returns-clause-clean : goal.returns-clause-clean
 returns-clause-clean g c h =
@@ -24,7 +25,8 @@ returns-clause-clean g c h =
     let r = changed_at (find_page p rs) c.requires.changed in
     let order = front_found p rs ss (ap (λ (x : Pool). x.resident) c.spill.ensures.frames) in
     let x = find_cleaned p ss r.0 (order p ∙ r.1) in
-    unchanged_at (find_page p c.clean.new.self.resident) x.0 (ap (λ (y : Pool). find_page p y.resident) c.clean.ensures ∙ x.1) x.3 h
+    unchanged_at (find_page p c.clean.new.self.resident) x.0
+    (ap (λ (y : Pool). find_page p y.resident) c.clean.ensures ∙ x.1) x.3 h
 
 pub returns-clause-still : goal.returns-clause-still
 returns-clause-still g c q not h =
@@ -36,9 +38,11 @@ returns-clause-still g c q not h =
     let x = find_cleaned p ss r.0 (order p ∙ r.1) in
     elim (eqb_tells p q) [
       | inl same ↦ unchanged_at (find_page q c.clean.new.self.resident) x.0
-          (ap (λ (y : Pool). find_page q y.resident) c.clean.ensures ∙ ap (λ (k : ℕ). find_page k (cleaned p ss)) (sym same.1) ∙ x.1) x.3 h
+          (ap (λ (y : Pool). find_page q y.resident) c.clean.ensures
+          ∙ ap (λ (k : ℕ). find_page k (cleaned p ss)) (sym same.1) ∙ x.1) x.3 h
       | inr other ↦ not (subst (λ (o : Option Resident). IsSomeAnd o (λ y. IsTrue y.changed))
-          (ap (λ (y : Pool). find_page q y.resident) c.clean.ensures ∙ find_cleaned_other p q ss other.1 ∙ order q) h)
+          (ap (λ (y : Pool). find_page q y.resident) c.clean.ensures
+          ∙ find_cleaned_other p q ss other.1 ∙ order q) h)
     ]
 
 pub returns-clause-keeps : goal.returns-clause-keeps
@@ -55,9 +59,12 @@ returns-clause-keeps g c =
     keeps_placed g.D.Device _ c.in_ok-spill.ensures.keeps refl
     (λ told q. ap (λ (y : Pool). page_of P blocks spilled y.resident q) c.clean.ensures ∙ elim
     (eqb_tells p q) [
-      | inl same ↦ page_resident P blocks spilled (cleaned p ss) q x.0 (ap (λ (k : ℕ). find_page k (cleaned p ss)) (sym same.1) ∙ x.1) ∙ x.2
-          ∙ sym (page_resident P blocks spilled ss q r.0 (ap (λ (k : ℕ). find_page k ss) (sym same.1) ∙ order p ∙ r.1))
-      | inr other ↦ placed_other P blocks spilled ss (cleaned p ss) p x.0 x.1 (λ k off. find_cleaned_other p k ss off) q other.1
+      | inl same ↦ page_resident P blocks spilled (cleaned p ss) q x.0
+          (ap (λ (k : ℕ). find_page k (cleaned p ss)) (sym same.1) ∙ x.1) ∙ x.2
+          ∙ sym (page_resident P blocks spilled ss q r.0
+          (ap (λ (k : ℕ). find_page k ss) (sym same.1) ∙ order p ∙ r.1))
+      | inr other ↦ placed_other P blocks spilled ss (cleaned p ss) p x.0 x.1
+          (λ k off. find_cleaned_other p k ss off) q other.1
     ])
     (λ told cached. subst (λ (y : Pool). IsCached P blocks spilled y.resident) (sym c.clean.ensures)
     (placed_cached P blocks spilled ss (cleaned p ss) p x.0 x.1

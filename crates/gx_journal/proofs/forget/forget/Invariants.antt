@@ -8,5 +8,6 @@ invariant-loop-i l = record {
   listed : l.working.listed.items ≡ l.fn.working.listed.items;
   kept : (q : ℕ) (r : Resident) → find_page q l.working.frames.resident ≡ Some r
       → (find_page q l.fn.working.frames.resident ≡ Some r) × (r.changed ≡ false);
-  gone : (k : ℕ) → k < l.i → find_page (get_or l.fn.working.listed.items k 0) l.working.frames.resident ≡ None;
+  gone : (k : ℕ) → k < l.i
+      → find_page (get_or l.fn.working.listed.items k 0) l.working.frames.resident ≡ None;
 }

@@ -32,5 +32,8 @@ pub returns-clause-names : goal.returns-clause-names
 returns-clause-names g c told =
     let flags = c.args.spilled.now.items in
     let bits = block_of (g.D.Device.content c.write_bitmap.new.device).now 2 in
-    on_ok_always c.sync.result (subst (λ (l : List (List ℕ)). Names flags (get_or l 2 []) (length flags)) (sym c.sync.ensures.rest.blocks)
-    (subst (λ (xs : List Bool). Names xs bits (length xs)) c.deref.ensures.value (c.in_ok-write_bitmap.ensures.written told)))
+    on_ok_always c.sync.result
+    (subst (λ (l : List (List ℕ)). Names flags (get_or l 2 []) (length flags))
+    (sym c.sync.ensures.rest.blocks)
+    (subst (λ (xs : List Bool). Names xs bits (length xs)) c.deref.ensures.value
+    (c.in_ok-write_bitmap.ensures.written told)))

@@ -80,11 +80,13 @@ returns-clause-keeps g c =
 pub returns-in_err-settle-clause-unchanged : goal.returns-in_err-settle-clause-unchanged
 returns-in_err-settle-clause-unchanged g c is =
     subst IsUnchangedIn (sym (c.settle.ensures.untouched (last_unchanged c.args.working.now.frames
-    c.in-Some.page c.in-Some.changed c.victim.ensures.pool c.in-Some.ensures.last (is.clean c.in-Some.page)))) is
+    c.in-Some.page c.in-Some.changed c.victim.ensures.pool c.in-Some.ensures.last
+    (is.clean c.in-Some.page)))) is
 
 pub returns-clause-unchanged : goal.returns-clause-unchanged
 returns-clause-unchanged g c is =
-    let settled : IsUnchangedIn c.settle.new.working = subst IsUnchangedIn (sym (c.settle.ensures.untouched
+    let settled : IsUnchangedIn c.settle.new.working =
+    subst IsUnchangedIn (sym (c.settle.ensures.untouched
     (last_unchanged c.args.working.now.frames c.in-Some.page c.in-Some.changed c.victim.ensures.pool
     c.in-Some.ensures.last (is.clean c.in-Some.page)))) is in
     record {

@@ -11,6 +11,8 @@ returns-then-not-index-clause-listed c =
     let p = c.args.p in
     let off : get_or old p false ≡ false = search rules in
     let less = listed_fewer old listed p c.requires.below off c.requires.listed in
-    let ok = c.push-pushed.ensures.succeeds (omega (arith, less, c.requires.space, c.args.listed.now.ok.0)) in
-    subst (IsListed _) (sym (c.push-pushed.ensures.items ∙ ap (λ (b : Bool). if b then listed ++ p ∷ [] else listed) ok))
+    let ok = c.push-pushed.ensures.succeeds
+    (omega (arith, less, c.requires.space, c.args.listed.now.ok.0)) in
+    subst (IsListed _) (sym (c.push-pushed.ensures.items
+    ∙ ap (λ (b : Bool). if b then listed ++ p ∷ [] else listed) ok))
     (listed_more old listed p c.requires.below off c.requires.listed)

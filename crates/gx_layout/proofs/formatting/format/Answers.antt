@@ -12,22 +12,30 @@ returns-in_err-lay_out-clause-images g c = besides IsFormatted _ _ c.lay_out.ens
 
 pub returns-clause-images : goal.returns-clause-images
 returns-clause-images g c =
-    besides_synced IsFormatted _ (g.D.Device.content c.lay_out.new.device) _ c.lay_out.ensures.run c.sync.ensures.rest
+    besides_synced IsFormatted _ (g.D.Device.content c.lay_out.new.device) _ c.lay_out.ensures.run
+    c.sync.ensures.rest
 
 pub returns-clause-rest : goal.returns-clause-rest
-returns-clause-rest g c = blocks_twice IsFormatted _ (g.D.Device.content c.lay_out.new.device) _ c.lay_out.ensures.rest
+returns-clause-rest g c =
+    blocks_twice IsFormatted _ (g.D.Device.content c.lay_out.new.device) _ c.lay_out.ensures.rest
     (blocks_sync IsFormatted _ _ c.sync.ensures.rest)
 
 pub returns-clause-head : goal.returns-clause-head
-returns-clause-head g c told = on_ok_always c.sync.result (ap head_of c.sync.ensures.rest.blocks ∙ c.in_ok-lay_out.ensures.head told)
+returns-clause-head g c told =
+    on_ok_always c.sync.result (ap head_of c.sync.ensures.rest.blocks
+    ∙ c.in_ok-lay_out.ensures.head told)
 
 pub returns-clause-closed : goal.returns-clause-closed
-returns-clause-closed g c told = on_ok_always c.sync.result (ap (λ (l : List (List ℕ)). is_open (get_or l 1 [])) c.sync.ensures.rest.blocks
+returns-clause-closed g c told =
+    on_ok_always c.sync.result
+    (ap (λ (l : List (List ℕ)). is_open (get_or l 1 [])) c.sync.ensures.rest.blocks
     ∙ c.in_ok-lay_out.ensures.closed told)
 
 pub returns-clause-bitmap : goal.returns-clause-bitmap
 returns-clause-bitmap g c told = on_ok_always c.sync.result
-    (λ p. ap (λ (l : List (List ℕ)). has_bit (get_or l 2 []) p) c.sync.ensures.rest.blocks ∙ c.in_ok-lay_out.ensures.bitmap told p)
+    (λ p. ap (λ (l : List (List ℕ)). has_bit (get_or l 2 []) p) c.sync.ensures.rest.blocks
+    ∙ c.in_ok-lay_out.ensures.bitmap told p)
 
 pub returns-in_err-lay_out-clause-head : goal.returns-in_err-lay_out-clause-head
-returns-in_err-lay_out-clause-head g c told = IfOk-from_err c.from_residual.result _ c.from_residual.ensures.0
+returns-in_err-lay_out-clause-head g c told =
+    IfOk-from_err c.from_residual.result _ c.from_residual.ensures.0

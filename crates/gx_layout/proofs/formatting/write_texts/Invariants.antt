@@ -11,7 +11,9 @@ invariant-loop-i g l =
     record {
       size : g.D.Device.size l.device ≡ g.D.Device.size l.fn.device;
       faults : g.D.Device.faults l.device ≡ g.D.Device.faults l.fn.device;
-      run : Through (Outside IsText (content l.fn.device).now) (content l.fn.device) (content l.device);
+      run : Through (Outside IsText (content l.fn.device).now) (content l.fn.device)
+          (content l.device);
       rest : OnlyBlocks IsText (content l.fn.device) (content l.device);
-      texts : IsTrue g.D.Device.tells → (k : ℕ) → k < l.i → block_of (content l.device).now (3 + k) ≡ block_in l.area k;
+      texts : IsTrue g.D.Device.tells → (k : ℕ) → k < l.i
+          → block_of (content l.device).now (3 + k) ≡ block_in l.area k;
     }

@@ -5,14 +5,17 @@ use Rattle.gx_layout.proofs.SealLemmas.{magic_stands, unsealed_images, unsealed_
 use Rattle.gx_layout.proofs.head.seal.Goals as goal
 
 pub returns-in_err-write_block-clause-images : goal.returns-in_err-write_block-clause-images
-returns-in_err-write_block-clause-images g c v rest = unsealed_images v _ _ rest c.write_block.ensures.rest
+returns-in_err-write_block-clause-images g c v rest =
+    unsealed_images v _ _ rest c.write_block.ensures.rest
 
 pub returns-clause-images : goal.returns-clause-images
 returns-clause-images g c v rest =
-    unsealed_synced v _ (g.D.Device.content c.write_block.new.self) _ rest c.write_block.ensures.rest c.sync.ensures.rest
+    unsealed_synced v _ (g.D.Device.content c.write_block.new.self) _ rest
+    c.write_block.ensures.rest c.sync.ensures.rest
 
 pub returns-in_err-write_block-clause-rest : goal.returns-in_err-write_block-clause-rest
-returns-in_err-write_block-clause-rest g c = blocks_write (λ n. n ≡ 0) 0 _ _ refl c.write_block.ensures.rest
+returns-in_err-write_block-clause-rest g c =
+    blocks_write (λ n. n ≡ 0) 0 _ _ refl c.write_block.ensures.rest
 
 pub returns-clause-rest : goal.returns-clause-rest
 returns-clause-rest g c =
@@ -22,6 +25,7 @@ returns-clause-rest g c =
 
 pub returns-clause-magic : goal.returns-clause-magic
 returns-clause-magic g c told =
-    on_ok_always c.sync.result (magic_stands c.magic_block.result _ (g.D.Device.content c.write_block.new.self) _
+    on_ok_always c.sync.result
+    (magic_stands c.magic_block.result _ (g.D.Device.content c.write_block.new.self) _
     (omega (arith, c.requires, g.met.D.Device.sized c.args.device.now told))
     (c.in_ok-write_block.ensures.block told) c.sync.ensures.rest c.magic_block.ensures)

@@ -11,7 +11,8 @@ returns-in_err-read_block-clause-images g c told v counts none reads opened =
     let content = g.D.Device.content in
     let room : 7 ≤ length (content c.args.device.now).now.blocks =
     omega (arith, g.met.D.Device.sized c.args.device.now told, c.requires.room) in
-    back_read v (content c.args.device.now) (content c.read_block.new.self) [] (c.read_block.ensures.rest) room none reads opened
+    back_read v (content c.args.device.now) (content c.read_block.new.self) []
+    (c.read_block.ensures.rest) room none reads opened
 
 pub returns-in_err-copy_home-clause-images : goal.returns-in_err-copy_home-clause-images
 returns-in_err-copy_home-clause-images g c told v counts none reads opened =
@@ -20,7 +21,8 @@ returns-in_err-copy_home-clause-images g c told v counts none reads opened =
     omega (arith, g.met.D.Device.sized c.args.device.now told, c.requires.room) in
     back_copied v (content c.args.device.now) (content c.read_block.new.self) c.read_block.new.into
     (c.read_block.ensures.rest) room none reads opened
-    (c.in_ok-read_block.ensures.block told) c.args.pages counts (content c.copy_home.new.device) (c.copy_home.ensures.rest)
+    (c.in_ok-read_block.ensures.block told) c.args.pages counts (content c.copy_home.new.device)
+    (c.copy_home.ensures.rest)
 
 pub returns-clause-images : goal.returns-clause-images
 returns-clause-images g c told v counts none reads opened =
@@ -29,7 +31,8 @@ returns-clause-images g c told v counts none reads opened =
     omega (arith, g.met.D.Device.sized c.args.device.now told, c.requires.room) in
     back_synced v (content c.args.device.now) (content c.read_block.new.self) c.read_block.new.into
     (c.read_block.ensures.rest) room none reads opened
-    (c.in_ok-read_block.ensures.block told) c.args.pages counts (content c.copy_home.new.device) (c.copy_home.ensures.rest)
+    (c.in_ok-read_block.ensures.block told) c.args.pages counts (content c.copy_home.new.device)
+    (c.copy_home.ensures.rest)
     (content c.sync.new.self) (c.sync.ensures.rest)
 
 pub returns-clause-ready : goal.returns-clause-ready
@@ -37,9 +40,12 @@ returns-clause-ready g c told v counts none reads opened =
     let content = g.D.Device.content in
     let room : 7 ≤ length (content c.args.device.now).now.blocks =
     omega (arith, g.met.D.Device.sized c.args.device.now told, c.requires.room) in
-    on_ok_weaker c.sync.result (λ settled. back_ready v (content c.args.device.now) (content c.read_block.new.self) c.read_block.new.into
+    on_ok_weaker c.sync.result
+    (λ settled. back_ready v (content c.args.device.now) (content c.read_block.new.self)
+    c.read_block.new.into
     (c.read_block.ensures.rest) room none reads opened
-    (c.in_ok-read_block.ensures.block told) c.args.pages counts (content c.copy_home.new.device) (c.copy_home.ensures.rest)
+    (c.in_ok-read_block.ensures.block told) c.args.pages counts (content c.copy_home.new.device)
+    (c.copy_home.ensures.rest)
     (content c.sync.new.self) (c.sync.ensures.rest) settled (c.in_ok-copy_home.ensures.copied told))
     (c.sync.ensures.none_pending told)
 
@@ -53,7 +59,8 @@ returns-in_err-copy_home-clause-touched g c told =
 
 pub returns-clause-touched : goal.returns-clause-touched
 returns-clause-touched g c told =
-    let free = IsIn (7 + c.args.pages) (flags (block_of (g.D.Device.content c.args.device.now).now 2) c.args.pages) in
+    let free = IsIn (7 + c.args.pages)
+    (flags (block_of (g.D.Device.content c.args.device.now).now 2) c.args.pages) in
     blocks_twice free _ (g.D.Device.content c.copy_home.new.device) _
     (back_touched c.args.pages _ _ _ c.read_block.new.into c.read_block.ensures.rest
     (c.in_ok-read_block.ensures.block told) c.copy_home.ensures.touched)
@@ -61,10 +68,12 @@ returns-clause-touched g c told =
 
 pub returns-in_err-copy_home-clause-silent : goal.returns-in_err-copy_home-clause-silent
 returns-in_err-copy_home-clause-silent g c =
-    silent_twice _ _ _ (blocks_read (λ n. Unit {0}) _ _ c.read_block.ensures.rest).silent c.copy_home.ensures.touched.silent
+    silent_twice _ _ _ (blocks_read (λ n. Unit {0}) _ _ c.read_block.ensures.rest).silent
+    c.copy_home.ensures.touched.silent
 
 pub returns-clause-silent : goal.returns-clause-silent
 returns-clause-silent g c =
     silent_twice _ (g.D.Device.content c.copy_home.new.device) _
-    (silent_twice _ _ _ (blocks_read (λ n. Unit {0}) _ _ c.read_block.ensures.rest).silent c.copy_home.ensures.touched.silent)
+    (silent_twice _ _ _ (blocks_read (λ n. Unit {0}) _ _ c.read_block.ensures.rest).silent
+    c.copy_home.ensures.touched.silent)
     (blocks_sync (λ n. Unit {0}) _ _ c.sync.ensures.rest).silent

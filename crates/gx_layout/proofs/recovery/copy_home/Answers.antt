@@ -6,16 +6,19 @@ use Rattle.gx_layout.proofs.recovery.copy_home.Goals.{then-bit_of+in_ok-copy_pag
 pub returns-in_err-copy_page-clause-rest : goal.returns-in_err-copy_page-clause-rest
 returns-in_err-copy_page-clause-rest g c =
     let content = g.D.Device.content in
-    more_copied_run c.args.pages c.args.bitmap.now c.loop-p.p (content c.args.device.now) (content c.loop-p.device)
+    more_copied_run c.args.pages c.args.bitmap.now c.loop-p.p (content c.args.device.now)
+    (content c.loop-p.device)
     (content c.copy_page.new.device) c.loop-p-test.true
     (sym c.bit_of.ensures ∙ c.if-bit_of.true) (c.loop-p.invariant.run) (c.copy_page.ensures.rest)
 
 pub returns-in_err-copy_page-clause-touched : goal.returns-in_err-copy_page-clause-touched
 returns-in_err-copy_page-clause-touched g c =
     let content = g.D.Device.content in
-    more_touched c.args.pages c.args.bitmap.now c.loop-p.p (content c.args.device.now) (content c.loop-p.device)
+    more_touched c.args.pages c.args.bitmap.now c.loop-p.p (content c.args.device.now)
+    (content c.loop-p.device)
     (content c.copy_page.new.device) c.loop-p-test.true
-    (sym c.bit_of.ensures ∙ c.if-bit_of.true) (c.loop-p.invariant.touched) (c.copy_page.ensures.touched)
+    (sym c.bit_of.ensures ∙ c.if-bit_of.true) (c.loop-p.invariant.touched)
+    (c.copy_page.ensures.touched)
 
 pub loop-p-preserved : goal.loop-p-preserved
 loop-p-preserved g c =
@@ -25,22 +28,28 @@ loop-p-preserved g c =
       | then-bit_of+in_ok-copy_page w ↦ rw w.device-is (record {
         size = w.copy_page.ensures.size ∙ so_far.size;
         faults = w.in_ok-copy_page.ensures.faults.same ∙ so_far.faults;
-        run = more_copied_run c.args.pages c.args.bitmap.now c.loop-p.p (content c.args.device.now) (content c.loop-p.device)
+        run = more_copied_run c.args.pages c.args.bitmap.now c.loop-p.p (content c.args.device.now)
+            (content c.loop-p.device)
             (content w.copy_page.new.device) c.loop-p-test.true
             (sym c.bit_of.ensures ∙ w.if-bit_of.true) (so_far.run) (w.copy_page.ensures.rest);
-        touched = more_touched c.args.pages c.args.bitmap.now c.loop-p.p (content c.args.device.now) (content c.loop-p.device)
+        touched = more_touched c.args.pages c.args.bitmap.now c.loop-p.p (content c.args.device.now)
+            (content c.loop-p.device)
             (content w.copy_page.new.device) c.loop-p-test.true
-            (sym c.bit_of.ensures ∙ w.if-bit_of.true) (so_far.touched) (w.copy_page.ensures.touched);
-        copied = λ told. more_copied c.args.pages c.args.bitmap.now c.loop-p.p (content c.args.device.now) (content c.loop-p.device)
+            (sym c.bit_of.ensures ∙ w.if-bit_of.true) (so_far.touched)
+            (w.copy_page.ensures.touched);
+        copied = λ told. more_copied c.args.pages c.args.bitmap.now c.loop-p.p
+            (content c.args.device.now) (content c.loop-p.device)
             (content w.copy_page.new.device) c.loop-p-test.true
-            (so_far.copied told) (so_far.run) (w.copy_page.ensures.rest) (w.in_ok-copy_page.ensures.copied told);
+            (so_far.copied told) (so_far.run) (w.copy_page.ensures.rest)
+            (w.in_ok-copy_page.ensures.copied told);
       })
       | else-bit_of w ↦ rw w.device-is (record {
         size = so_far.size;
         faults = so_far.faults;
         run = so_far.run;
         touched = so_far.touched;
-        copied = λ told. more_passed c.args.pages c.args.bitmap.now c.loop-p.p (content c.args.device.now).now (content c.loop-p.device).now
+        copied = λ told. more_passed c.args.pages c.args.bitmap.now c.loop-p.p
+            (content c.args.device.now).now (content c.loop-p.device).now
             (so_far.copied told) (sym c.bit_of.ensures ∙ w.if-bit_of.false);
       })
     ]

@@ -9,8 +9,11 @@ invariant-loop-p g l =
     record {
       size : g.D.Device.size l.device ≡ g.D.Device.size l.fn.device;
       faults : g.D.Device.faults l.device ≡ g.D.Device.faults l.fn.device;
-      run : Through (Outside (IsIn (7 + l.pages) (flags l.bitmap l.pages)) (content l.fn.device).now) (content l.fn.device)
+      run : Through (Outside (IsIn (7 + l.pages) (flags l.bitmap l.pages))
+          (content l.fn.device).now) (content l.fn.device)
           (content l.device);
-      touched : OnlyBlocks (IsIn (7 + l.pages) (flags l.bitmap l.pages)) (content l.fn.device) (content l.device);
-      copied : IsTrue g.D.Device.tells → CopiedBelow l.p l.pages l.bitmap (content l.fn.device).now (content l.device).now;
+      touched : OnlyBlocks (IsIn (7 + l.pages) (flags l.bitmap l.pages)) (content l.fn.device)
+          (content l.device);
+      copied : IsTrue g.D.Device.tells
+          → CopiedBelow l.p l.pages l.bitmap (content l.fn.device).now (content l.device).now;
     }

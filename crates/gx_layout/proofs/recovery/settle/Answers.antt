@@ -11,13 +11,15 @@ pub returns-in_err-is_gate_open-clause-images : goal.returns-in_err-is_gate_open
 returns-in_err-is_gate_open-clause-images g c told v counts none reads =
     let a = g.D.Device.content c.args.device.now in
     read_images (StandsFor v) a _ (c.is_gate_open.ensures.rest)
-    (found_leaves a v (room_of a c.args.pages (omega (arith, g.met.D.Device.sized c.args.device.now told, c.requires.room))) none reads)
+    (found_leaves a v (room_of a c.args.pages
+    (omega (arith, g.met.D.Device.sized c.args.device.now told, c.requires.room))) none reads)
 
 pub returns-else-branch-clause-images : goal.returns-else-branch-clause-images
 returns-else-branch-clause-images g c told v counts none reads =
     let a = g.D.Device.content c.args.device.now in
     read_images (StandsFor v) a _ (c.is_gate_open.ensures.rest)
-    (found_leaves a v (room_of a c.args.pages (omega (arith, g.met.D.Device.sized c.args.device.now told, c.requires.room))) none reads)
+    (found_leaves a v (room_of a c.args.pages
+    (omega (arith, g.met.D.Device.sized c.args.device.now told, c.requires.room))) none reads)
 
 pub returns-in_err-bring_back-clause-images : goal.returns-in_err-bring_back-clause-images
 returns-in_err-bring_back-clause-images g c told v counts none reads =
@@ -26,10 +28,13 @@ returns-in_err-bring_back-clause-images g c told v counts none reads =
     let b = content c.is_gate_open.new.device in
     let r = c.is_gate_open.ensures.rest in
     let first = read_images (StandsFor v) a b r (found_leaves a v
-    (room_of a c.args.pages (omega (arith, g.met.D.Device.sized c.args.device.now told, c.requires.room))) none reads) in
+    (room_of a c.args.pages
+    (omega (arith, g.met.D.Device.sized c.args.device.now told, c.requires.room))) none reads)
+    in
     let none_b = still_none a b r none in
     let reads_b = still_reads a b v r reads in
-    let gate_b = still_gate a b true r (c.in_ok-is_gate_open.ensures.gate told ∙ c.if-branch.true) in
+    let gate_b = still_gate a b true r (c.in_ok-is_gate_open.ensures.gate told ∙ c.if-branch.true)
+    in
     joined (EachImage (StandsFor v)) a b (content c.bring_back.new.device) first
     (c.bring_back.ensures.images told v counts none_b reads_b gate_b)
 
@@ -40,14 +45,18 @@ returns-in_err-close_gate-clause-images g c told v counts none reads =
     let b = content c.is_gate_open.new.device in
     let r = c.is_gate_open.ensures.rest in
     let first = read_images (StandsFor v) a b r (found_leaves a v
-    (room_of a c.args.pages (omega (arith, g.met.D.Device.sized c.args.device.now told, c.requires.room))) none reads) in
+    (room_of a c.args.pages
+    (omega (arith, g.met.D.Device.sized c.args.device.now told, c.requires.room))) none reads)
+    in
     let none_b = still_none a b r none in
     let reads_b = still_reads a b v r reads in
-    let gate_b = still_gate a b true r (c.in_ok-is_gate_open.ensures.gate told ∙ c.if-branch.true) in
+    let gate_b = still_gate a b true r (c.in_ok-is_gate_open.ensures.gate told ∙ c.if-branch.true)
+    in
     let back = joined (EachImage (StandsFor v)) a b (content c.bring_back.new.device) first
     (c.bring_back.ensures.images told v counts none_b reads_b gate_b) in
     let ready = c.in_ok-bring_back.ensures.ready told v counts none_b reads_b gate_b in
-    joined (EachImage (StandsFor v)) a (content c.bring_back.new.device) (content c.close_gate.new.device) back
+    joined (EachImage (StandsFor v)) a (content c.bring_back.new.device)
+    (content c.close_gate.new.device) back
     (c.close_gate.ensures.images told v (flags (block_of b.now 2) c.args.pages) ready)
 
 pub returns-in_ok-close_gate-clause-images : goal.returns-in_ok-close_gate-clause-images
@@ -57,14 +66,18 @@ returns-in_ok-close_gate-clause-images g c told v counts none reads =
     let b = content c.is_gate_open.new.device in
     let r = c.is_gate_open.ensures.rest in
     let first = read_images (StandsFor v) a b r (found_leaves a v
-    (room_of a c.args.pages (omega (arith, g.met.D.Device.sized c.args.device.now told, c.requires.room))) none reads) in
+    (room_of a c.args.pages
+    (omega (arith, g.met.D.Device.sized c.args.device.now told, c.requires.room))) none reads)
+    in
     let none_b = still_none a b r none in
     let reads_b = still_reads a b v r reads in
-    let gate_b = still_gate a b true r (c.in_ok-is_gate_open.ensures.gate told ∙ c.if-branch.true) in
+    let gate_b = still_gate a b true r (c.in_ok-is_gate_open.ensures.gate told ∙ c.if-branch.true)
+    in
     let back = joined (EachImage (StandsFor v)) a b (content c.bring_back.new.device) first
     (c.bring_back.ensures.images told v counts none_b reads_b gate_b) in
     let ready = c.in_ok-bring_back.ensures.ready told v counts none_b reads_b gate_b in
-    joined (EachImage (StandsFor v)) a (content c.bring_back.new.device) (content c.close_gate.new.device) back
+    joined (EachImage (StandsFor v)) a (content c.bring_back.new.device)
+    (content c.close_gate.new.device) back
     (c.close_gate.ensures.images told v (flags (block_of b.now 2) c.args.pages) ready)
 
 pub returns-in_ok-close_gate-clause-at_rest : goal.returns-in_ok-close_gate-clause-at_rest
@@ -74,10 +87,13 @@ returns-in_ok-close_gate-clause-at_rest g c told v counts none reads =
     let b = content c.is_gate_open.new.device in
     let r = c.is_gate_open.ensures.rest in
     let first = read_images (StandsFor v) a b r (found_leaves a v
-    (room_of a c.args.pages (omega (arith, g.met.D.Device.sized c.args.device.now told, c.requires.room))) none reads) in
+    (room_of a c.args.pages
+    (omega (arith, g.met.D.Device.sized c.args.device.now told, c.requires.room))) none reads)
+    in
     let none_b = still_none a b r none in
     let reads_b = still_reads a b v r reads in
-    let gate_b = still_gate a b true r (c.in_ok-is_gate_open.ensures.gate told ∙ c.if-branch.true) in
+    let gate_b = still_gate a b true r (c.in_ok-is_gate_open.ensures.gate told ∙ c.if-branch.true)
+    in
     let ready = c.in_ok-bring_back.ensures.ready told v counts none_b reads_b gate_b in
     c.in_ok-close_gate.ensures.at_rest told v (flags (block_of b.now 2) c.args.pages) ready
 
@@ -93,7 +109,8 @@ returns-in_err-bring_back-clause-touched g c told =
     let a = content c.args.device.now in
     let b = content c.is_gate_open.new.device in
     let r = c.is_gate_open.ensures.rest in
-    settled_home c.args.pages a b _ r (still_gate a b true r (c.in_ok-is_gate_open.ensures.gate told ∙ c.if-branch.true))
+    settled_home c.args.pages a b _ r
+    (still_gate a b true r (c.in_ok-is_gate_open.ensures.gate told ∙ c.if-branch.true))
     (c.bring_back.ensures.touched told)
 
 pub returns-in_err-close_gate-clause-touched : goal.returns-in_err-close_gate-clause-touched
@@ -102,7 +119,8 @@ returns-in_err-close_gate-clause-touched g c told =
     let a = content c.args.device.now in
     let b = content c.is_gate_open.new.device in
     let r = c.is_gate_open.ensures.rest in
-    settled_gate c.args.pages a b _ r (still_gate a b true r (c.in_ok-is_gate_open.ensures.gate told ∙ c.if-branch.true)) _
+    settled_gate c.args.pages a b _ r
+    (still_gate a b true r (c.in_ok-is_gate_open.ensures.gate told ∙ c.if-branch.true)) _
     (c.bring_back.ensures.touched told) c.close_gate.ensures.rest
 
 pub returns-in_ok-close_gate-clause-touched : goal.returns-in_ok-close_gate-clause-touched
@@ -111,19 +129,23 @@ returns-in_ok-close_gate-clause-touched g c told =
     let a = content c.args.device.now in
     let b = content c.is_gate_open.new.device in
     let r = c.is_gate_open.ensures.rest in
-    settled_gate c.args.pages a b _ r (still_gate a b true r (c.in_ok-is_gate_open.ensures.gate told ∙ c.if-branch.true)) _
+    settled_gate c.args.pages a b _ r
+    (still_gate a b true r (c.in_ok-is_gate_open.ensures.gate told ∙ c.if-branch.true)) _
     (c.bring_back.ensures.touched told) c.close_gate.ensures.rest
 
 pub returns-in_err-bring_back-clause-silent : goal.returns-in_err-bring_back-clause-silent
 returns-in_err-bring_back-clause-silent g c =
-    silent_twice _ _ _ (blocks_read (λ n. Unit {0}) _ _ c.is_gate_open.ensures.rest).silent c.bring_back.ensures.silent
+    silent_twice _ _ _ (blocks_read (λ n. Unit {0}) _ _ c.is_gate_open.ensures.rest).silent
+    c.bring_back.ensures.silent
 
 pub returns-in_err-close_gate-clause-silent : goal.returns-in_err-close_gate-clause-silent
 returns-in_err-close_gate-clause-silent g c =
     silent_twice _ _ _ (silent_twice _ _ _
-    (blocks_read (λ n. Unit {0}) _ _ c.is_gate_open.ensures.rest).silent c.bring_back.ensures.silent) c.close_gate.ensures.rest.silent
+    (blocks_read (λ n. Unit {0}) _ _ c.is_gate_open.ensures.rest).silent
+    c.bring_back.ensures.silent) c.close_gate.ensures.rest.silent
 
 pub returns-in_ok-close_gate-clause-silent : goal.returns-in_ok-close_gate-clause-silent
 returns-in_ok-close_gate-clause-silent g c =
     silent_twice _ _ _ (silent_twice _ _ _
-    (blocks_read (λ n. Unit {0}) _ _ c.is_gate_open.ensures.rest).silent c.bring_back.ensures.silent) c.close_gate.ensures.rest.silent
+    (blocks_read (λ n. Unit {0}) _ _ c.is_gate_open.ensures.rest).silent
+    c.bring_back.ensures.silent) c.close_gate.ensures.rest.silent

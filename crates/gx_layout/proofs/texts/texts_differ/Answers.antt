@@ -7,11 +7,13 @@ use Rattle.gx_layout.proofs.texts.texts_differ.Goals as goal
 
 pub returns-in_err-read_block-clause-reads : goal.returns-in_err-read_block-clause-reads
 returns-in_err-read_block-clause-reads g c =
-    reads_twice _ (g.D.Device.content c.loop-i.device) _ c.loop-i.invariant.reads (one_read _ _ c.read_block.ensures.rest)
+    reads_twice _ (g.D.Device.content c.loop-i.device) _ c.loop-i.invariant.reads
+    (one_read _ _ c.read_block.ensures.rest)
 
 pub returns-in-Some-clause-reads : goal.returns-in-Some-clause-reads
 returns-in-Some-clause-reads g c =
-    reads_twice _ (g.D.Device.content c.loop-i.device) _ c.loop-i.invariant.reads (one_read _ _ c.read_block.ensures.rest)
+    reads_twice _ (g.D.Device.content c.loop-i.device) _ c.loop-i.invariant.reads
+    (one_read _ _ c.read_block.ensures.rest)
 
 pub returns-in-Some-clause-place : goal.returns-in-Some-clause-place
 returns-in-Some-clause-place g c told =
@@ -30,7 +32,8 @@ returns-in-Some-clause-place g c told =
     let found = c.in-Some.ensures in
     subst (λ (a : List ℕ). DifferFirst (text_at (head_of old.now.blocks)) (λ q. get_or a q 0)
     (Some (4096 * i + c.in-Some.at))) c.text_area-area.ensures
-    (differ_here old.now area i low block part block_is c.text_block.ensures.is (inv.same told) c.in-Some.at
+    (differ_here old.now area i low block part block_is c.text_block.ensures.is
+    (inv.same told) c.in-Some.at
     (let lt = found.0 in omega (arith, lt, wide)) found.1 found.2)
 
 pub loop-i-preserved : goal.loop-i-preserved
@@ -39,7 +42,8 @@ loop-i-preserved g c =
     record {
       size = c.read_block.ensures.size ∙ inv.size;
       faults = c.in_ok-read_block.ensures.counted ∙ inv.faults;
-      reads = reads_twice _ (g.D.Device.content c.loop-i.device) _ inv.reads (one_read _ _ c.read_block.ensures.rest);
+      reads = reads_twice _ (g.D.Device.content c.loop-i.device) _ inv.reads
+          (one_read _ _ c.read_block.ensures.rest);
       same = λ told.
           let content = g.D.Device.content in
           let old = content c.args.device.now in
@@ -52,7 +56,8 @@ loop-i-preserved g c =
           let low : i < 4 = c.loop-i-test.true in
           let wide : length block ≡ 4096 = search rules in
           let block_is : block ≡ block_of old.now (3 + i) =
-          c.in_ok-read_block.ensures.block told ∙ ap (λ (m : Moment). block_of m (3 + i)) inv.reads.now in
+          c.in_ok-read_block.ensures.block told
+          ∙ ap (λ (m : Moment). block_of m (3 + i)) inv.reads.now in
           more_same old.now area i low block part block_is c.text_block.ensures.is (inv.same told)
           (λ k lt. c.in_default.ensures k (omega (arith, lt, wide)));
     }

@@ -11,5 +11,6 @@ invariant-loop-i g l =
       size : g.D.Device.size l.device ≡ g.D.Device.size l.fn.device;
       faults : g.D.Device.faults l.device ≡ g.D.Device.faults l.fn.device;
       reads : OnlyReads (content l.fn.device) (content l.device);
-      same : IsTrue g.D.Device.tells → (q : ℕ) → q < 4096 * l.i → text_at (head_of (content l.fn.device).now.blocks) q ≡ get_or l.area q 0;
+      same : IsTrue g.D.Device.tells → (q : ℕ) → q < 4096 * l.i
+          → text_at (head_of (content l.fn.device).now.blocks) q ≡ get_or l.area q 0;
     }

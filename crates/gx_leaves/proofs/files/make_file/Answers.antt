@@ -25,7 +25,7 @@ returns-in-Isam g c =
     let place = c.args.place.now in
     let call = c.make-in-Isam in
     subst (λ F. MakesFile g.P.PageView F place old call.new.pages call.result)
-    (isam_is (g.P.PageView.ground old) place c.in-Isam.is) call.ensures
+    (isam_is (g.P.PageView.ground old) place c.in-Isam.is) call.ensures.made
 
 pub returns-in-Bplus : goal.returns-in-Bplus
 returns-in-Bplus g c =

@@ -17,22 +17,28 @@ no_place = record { spec = record { kind = Heap; first = Int; key_width = 0 }; r
 
 pub loop-place-init : goal.loop-place-init
 loop-place-init g c = record {
-  made = λ told free. none_made (g.P.PageView.ground c.args.pages.now) c.args.places.now c.requires (g.P.PageView.working c.args.pages.now) free;
+  made = λ told free. none_made (g.P.PageView.ground c.args.pages.now) c.args.places.now c.requires
+      (g.P.PageView.working c.args.pages.now) free;
   keeps = pages_keep_themselves g.P.PageView c.args.pages.now;
   faults = refl;
 }
 
 pub make_file-requires-clause-built : goal.make_file-requires-clause-built
 make_file-requires-clause-built g c =
-    let at = slice_get-get_or c.args.places.now c.loop-place.place-index no_place c.loop-place-test.true in
-    (placed (g.P.PageView.ground c.args.pages.now) c.args.places.now c.requires c.loop-place.place-index (slice_index_or c.args.places.now c.loop-place.place-index no_place) at).built
+    let at = slice_get-get_or c.args.places.now c.loop-place.place-index no_place
+    c.loop-place-test.true in
+    (placed (g.P.PageView.ground c.args.pages.now) c.args.places.now c.requires
+    c.loop-place.place-index
+    (slice_index_or c.args.places.now c.loop-place.place-index no_place) at).built
 
 pub make_file-requires-clause-place : goal.make_file-requires-clause-place
 make_file-requires-clause-place g c =
     let place = slice_index_or c.args.places.now c.loop-place.place-index no_place in
-    let at = slice_get-get_or c.args.places.now c.loop-place.place-index no_place c.loop-place-test.true in
+    let at = slice_get-get_or c.args.places.now c.loop-place.place-index no_place
+    c.loop-place-test.true in
     subst (λ b. IsPlace b place) (sym c.loop-place.invariant.keeps.ground)
-    (placed (g.P.PageView.ground c.args.pages.now) c.args.places.now c.requires c.loop-place.place-index place at).is
+    (placed (g.P.PageView.ground c.args.pages.now) c.args.places.now c.requires
+    c.loop-place.place-index place at).is
 
 pub loop-place-preserved : goal.loop-place-preserved
 loop-place-preserved g c =
@@ -40,15 +46,20 @@ loop-place-preserved g c =
     let old = g.P.PageView.working c.loop-place.pages in
     let new = g.P.PageView.working c.make_file.new.pages in
     let place = slice_index_or c.args.places.now c.loop-place.place-index no_place in
-    let at = slice_get-get_or c.args.places.now c.loop-place.place-index no_place c.loop-place-test.true in
+    let at = slice_get-get_or c.args.places.now c.loop-place.place-index no_place
+    c.loop-place-test.true in
     let so_far = c.loop-place.invariant in
     let done = c.in_ok-make_file.ensures in record {
       made = λ told free.
-          let many = (g.met.P.Pages.many c.loop-place.pages told).0 ∙ (λ i. (so_far.keeps.ground i).size) in
-          let vacant = next_vacant base c.args.places.now c.requires c.loop-place.place-index old place at (so_far.made told free) many in
-          next_made base c.args.places.now c.requires c.loop-place.place-index old place at (so_far.made told free) many new
+          let many = (g.met.P.Pages.many c.loop-place.pages told).0
+          ∙ (λ i. (so_far.keeps.ground i).size) in
+          let vacant = next_vacant base c.args.places.now c.requires c.loop-place.place-index old
+          place at (so_far.made told free) many in
+          next_made base c.args.places.now c.requires c.loop-place.place-index old place at
+          (so_far.made told free) many new
           (subst (λ b. IsFileAt b place new empty) so_far.keeps.ground (done.made told vacant))
-          (subst (λ b. OthersStay b place.owner old new) so_far.keeps.ground (done.others told vacant))
+          (subst (λ b. OthersStay b place.owner old new) so_far.keeps.ground
+          (done.others told vacant))
           (done.roots told vacant);
       keeps = kept_pages_joined g.P.PageView so_far.keeps done.keeps;
       faults = done.faults.counted ∙ so_far.faults;

@@ -26,7 +26,9 @@ returns-clause-changed g c = λ whole.
         others = λ n away. c.in_ok-replace.ensures.replaces.others n whole (λ f. cc) away;
       };
       two = record {
-        internal = λ R set change is. subst (λ r. OnOk r (IsInternal rule second (changed R c.args.second_change.old c.args.second_change.new) now))
+        internal = λ R set change is.
+            subst (λ r. OnOk r (IsInternal rule second
+            (changed R c.args.second_change.old c.args.second_change.new) now))
             done (c.replace-2.ensures.internal R half_whole set change is);
         others = λ n away. c.replace-2.ensures.replaces.others n half_whole (λ f. cc) away;
       };

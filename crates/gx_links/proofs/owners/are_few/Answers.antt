@@ -20,5 +20,6 @@ loop-owned-preserved c = λ g h.
     let few : length item.members ≤ most_members = search rules in
     elim (in_more items c.loop-owned.owned-index item g c.loop-owned-test.true h) [
       | inl k ↦ c.loop-owned.invariant g k
-      | inr e ↦ subst (λ (x : Owned). length x.members ≤ most_members) (sym (e ∙ sym c.owned-item.is)) few
+      | inr e ↦ subst (λ (x : Owned). length x.members ≤ most_members)
+          (sym (e ∙ sym c.owned-item.is)) few
     ]

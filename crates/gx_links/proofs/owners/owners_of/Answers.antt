@@ -15,8 +15,10 @@ returns c =
     let view : c.sorted.inside.0.items ≡ given = search rules in
     let perm = subst (λ zs. IsPermutation zs ps) view c.sort_by_owner.ensures.those in
     let first : into_iter_items c.into_iter-pair-iterator.result ≡ ps = search rules in
-    let none = nothing_left (into_iter_items at.pair-iterator) (let many = at.invariant.many in let steps = c.in-None.ensures.steps in search rules) in
-    let made : at.owners.items ≡ with_pairs [] ps = sym (ap (with_pairs at.owners.items) none) ∙ at.invariant.so_far ∙ ap (with_pairs []) first in
+    let none = nothing_left (into_iter_items at.pair-iterator) (let many = at.invariant.many in
+    let steps = c.in-None.ensures.steps in search rules) in
+    let made : at.owners.items ≡ with_pairs [] ps = sym (ap (with_pairs at.owners.items) none)
+    ∙ at.invariant.so_far ∙ ap (with_pairs []) first in
     record {
       owners = λ link is. subst (AreOwners link) (sym made)
           (owners_from link given ps is perm c.in_ok-sort_by_owner.ensures.in_order);

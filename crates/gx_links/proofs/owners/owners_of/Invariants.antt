@@ -6,5 +6,6 @@ use Rattle.gx_links.proofs.owners.owners_of.Given as goal
 abbrev pub invariant-loop-pair : goal.invariant-loop-pair
 invariant-loop-pair l = record {
   many : into_iter_len l.pair-iterator ≡ length (into_iter_items l.pair-iterator);
-  so_far : with_pairs l.owners.items (into_iter_items l.pair-iterator) ≡ with_pairs [] (into_iter_items l.initial.pair-iterator);
+  so_far : with_pairs l.owners.items (into_iter_items l.pair-iterator) ≡ with_pairs []
+      (into_iter_items l.initial.pair-iterator);
 }

@@ -10,7 +10,8 @@ loop-member-preserved c =
     let owner = c.args.owner.now in
     let member = c.in-Some.member in
     let old = at.pairs-inside.0.items in
-    let steps : into_iter_items at.member-iterator ≡ member ∷ into_iter_items c.next.new.self = c.in-Some.ensures.steps.0 in
+    let steps : into_iter_items at.member-iterator ≡ member ∷ into_iter_items c.next.new.self =
+    c.in-Some.ensures.steps.0 in
     let rest = map (pair_with owner) (into_iter_items c.next.new.self) in
     record {
       many = search rules;

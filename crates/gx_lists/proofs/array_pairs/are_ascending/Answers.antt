@@ -10,9 +10,11 @@ use Rattle.gx_lists.proofs.array_pairs.are_ascending.Goals as goal
 pub returns-clause-yes : goal.returns-clause-yes
 returns-clause-yes c = answer_yes value_cmp_total c.args.members.now c.is_sorted_by.result
     (c.is_sorted_by.ensures.cases (λ (a b : Value). is_lt (value_cmp a b))
-    (always_returns_same _ (λ a r. r ≡ is_lt (value_cmp a.0.now a.1.0.now)) _ (λ a r q k. search rules)))
+    (always_returns_same _ (λ a r. r ≡ is_lt (value_cmp a.0.now a.1.0.now)) _
+    (λ a r q k. search rules)))
 
 pub returns-clause-no : goal.returns-clause-no
 returns-clause-no c = answer_no value_cmp c.args.members.now c.is_sorted_by.result
     (c.is_sorted_by.ensures.cases (λ (a b : Value). is_lt (value_cmp a b))
-    (always_returns_same _ (λ a r. r ≡ is_lt (value_cmp a.0.now a.1.0.now)) _ (λ a r q k. search rules)))
+    (always_returns_same _ (λ a r. r ≡ is_lt (value_cmp a.0.now a.1.0.now)) _
+    (λ a r q k. search rules)))

@@ -12,14 +12,16 @@ cut_owner-requires-clause-some c =
     let items = c.deref-rec-items.result.now in
     let is : items ≡ c.args.found.now = search rules in
     c.requires.some c.rec-item.result
-    (subst (In c.rec-item.result) is (in_read items c.loop-rec.rec-index c.rec-item.result c.rec-item.is c.loop-rec-test.true))
+    (subst (In c.rec-item.result) is
+    (in_read items c.loop-rec.rec-index c.rec-item.result c.rec-item.is c.loop-rec-test.true))
 
 pub cut_owner-requires-clause-sized : goal.cut_owner-requires-clause-sized
 cut_owner-requires-clause-sized c =
     let items = c.deref-rec-items.result.now in
     let is : items ≡ c.args.found.now = search rules in
     c.requires.sized c.rec-item.result
-    (subst (In c.rec-item.result) is (in_read items c.loop-rec.rec-index c.rec-item.result c.rec-item.is c.loop-rec-test.true))
+    (subst (In c.rec-item.result) is
+    (in_read items c.loop-rec.rec-index c.rec-item.result c.rec-item.is c.loop-rec-test.true))
 
 pub returns-in_default : goal.returns-in_default
 returns-in_default c =
@@ -37,8 +39,10 @@ loop-rec-preserved c =
     let items = c.deref-rec-items.result.now in
     let rec = c.rec-item.result in
     let one = subst (IsCutOwner c.args.kind rec) c.in-Some.is c.in_ok-owned.ensures in
-    let more = cut_more c.args.kind (take at.rec-index items) at.owners.items rec c.in-Some.owned at.invariant one in
+    let more = cut_more c.args.kind (take at.rec-index items) at.owners.items rec c.in-Some.owned
+    at.invariant one in
     let front = take_more items at.rec-index rec c.loop-rec-test.true
     ∙ ap (λ (r : Rec). take at.rec-index items ++ r ∷ []) (sym c.rec-item.is) in
     subst (λ rs. AreCutOf c.args.kind rs c.push.new.self.items) (sym front)
-    (subst (AreCutOf c.args.kind (take at.rec-index items ++ rec ∷ [])) (sym c.in_ok-push.ensures.items) more)
+    (subst (AreCutOf c.args.kind (take at.rec-index items ++ rec ∷ []))
+    (sym c.in_ok-push.ensures.items) more)

@@ -16,21 +16,25 @@ loop-owned-init c =
     }
 
 -- the pairs of one owner more
-more : (old new all : List (Value × Value)) (left rest : List Owned) (g : Owned) → left ≡ g ∷ rest → new ≡ old ++ pairs_under g
+more : (old new all : List (Value × Value)) (left rest : List Owned) (g : Owned) → left ≡ g ∷ rest
+    → new ≡ old ++ pairs_under g
     → old ++ pairs_of left ≡ all → new ++ pairs_of rest ≡ all
 more old new all left rest g steps added so_far =
-    ap (λ zs. zs ++ pairs_of rest) added ∙ append_assoc old (pairs_under g) (pairs_of rest) ∙ ap (λ gs. old ++ pairs_of gs) (sym steps)
+    ap (λ zs. zs ++ pairs_of rest) added ∙ append_assoc old (pairs_under g) (pairs_of rest)
+    ∙ ap (λ gs. old ++ pairs_of gs) (sym steps)
     ∙ so_far
 
 pub loop-owned-preserved : goal.loop-owned-preserved
 loop-owned-preserved c =
     let at = c.loop-owned in
     let rest = into_iter_items c.next.new.self in
-    let steps : into_iter_items at.owned-iterator ≡ c.in-Some.owned ∷ rest = c.in-Some.ensures.steps.0 in
+    let steps : into_iter_items at.owned-iterator ≡ c.in-Some.owned ∷ rest =
+    c.in-Some.ensures.steps.0 in
     record {
       many = search rules;
       sized = λ g h. at.invariant.sized g (subst (In g) (sym steps) (inr h));
-      so_far = more at.pairs c.add_pairs.new.pairs (pairs_of c.args.owners) (into_iter_items at.owned-iterator) rest c.in-Some.owned steps
+      so_far = more at.pairs c.add_pairs.new.pairs (pairs_of c.args.owners)
+          (into_iter_items at.owned-iterator) rest c.in-Some.owned steps
           c.in_ok-add_pairs.ensures at.invariant.so_far;
     }
 
@@ -38,11 +42,13 @@ pub loop-owned-preserved-in_ok-add_pairs : goal.loop-owned-preserved-in_ok-add_p
 loop-owned-preserved-in_ok-add_pairs c =
     let at = c.loop-owned in
     let rest = into_iter_items c.next.new.self in
-    let steps : into_iter_items at.owned-iterator ≡ c.in-Some.owned ∷ rest = c.in-Some.ensures.steps.0 in
+    let steps : into_iter_items at.owned-iterator ≡ c.in-Some.owned ∷ rest =
+    c.in-Some.ensures.steps.0 in
     record {
       many = search rules;
       sized = λ g h. at.invariant.sized g (subst (In g) (sym steps) (inr h));
-      so_far = more at.pairs c.add_pairs.new.pairs (pairs_of c.args.owners) (into_iter_items at.owned-iterator) rest c.in-Some.owned steps
+      so_far = more at.pairs c.add_pairs.new.pairs (pairs_of c.args.owners)
+          (into_iter_items at.owned-iterator) rest c.in-Some.owned steps
           c.in_ok-add_pairs.ensures at.invariant.so_far;
     }
 
@@ -50,10 +56,12 @@ pub loop-owned-preserved-in_ok-add_pairs-2 : goal.loop-owned-preserved-in_ok-add
 loop-owned-preserved-in_ok-add_pairs-2 c =
     let at = c.loop-owned in
     let rest = into_iter_items c.next.new.self in
-    let steps : into_iter_items at.owned-iterator ≡ c.in-Some.owned ∷ rest = c.in-Some.ensures.steps.0 in
+    let steps : into_iter_items at.owned-iterator ≡ c.in-Some.owned ∷ rest =
+    c.in-Some.ensures.steps.0 in
     record {
       many = search rules;
       sized = λ g h. at.invariant.sized g (subst (In g) (sym steps) (inr h));
-      so_far = more at.pairs c.add_pairs.new.pairs (pairs_of c.args.owners) (into_iter_items at.owned-iterator) rest c.in-Some.owned steps
+      so_far = more at.pairs c.add_pairs.new.pairs (pairs_of c.args.owners)
+          (into_iter_items at.owned-iterator) rest c.in-Some.owned steps
           c.in_ok-add_pairs.ensures at.invariant.so_far;
     }

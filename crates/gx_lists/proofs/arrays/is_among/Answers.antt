@@ -34,4 +34,5 @@ loop-other-preserved c = λ h.
 
 pub returns-clause-no : goal.returns-clause-no
 returns-clause-no c = λ e h. c.loop-other.invariant
-    (subst (In c.args.member.now) (sym (take_all c.loop-other.other-index c.args.members.now (omega arith))) h)
+    (subst (In c.args.member.now)
+    (sym (take_all c.loop-other.other-index c.args.members.now (omega arith))) h)

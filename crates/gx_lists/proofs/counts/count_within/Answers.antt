@@ -9,7 +9,8 @@ use Rattle.gx_lists.proofs.counts.count_within.Goals as goal
 
 pub select-requires : goal.select-requires
 select-requires g c = c.requires.below c.in-Leaf.node.leaf
-    (subst (λ t. In c.in-Leaf.node.leaf (leaves_of t)) (sym (seen_leaf c.args.node.now c.in-Leaf.node c.in-Leaf.is)) (inl refl))
+    (subst (λ t. In c.in-Leaf.node.leaf (leaves_of t))
+    (sym (seen_leaf c.args.node.now c.in-Leaf.node c.in-Leaf.is)) (inl refl))
 
 pub returns-in_ok-select-in-Leaf-clause-count : goal.returns-in_ok-select-in-Leaf-clause-count
 returns-in_ok-select-in-Leaf-clause-count g c =
@@ -24,9 +25,12 @@ returns-in_ok-select-in-Leaf-clause-count g c =
     let out = c.select.new.out in
     let seen = seen_leaf c.args.node.now l c.in-Leaf.is in
     let many : c.len.result ≡ length out = search rules in
-    let taken = subst (λ zs. steps ≡ counted before (1 + (length out - length zs))) c.new-entries.ensures
+    let taken = subst (λ zs. steps ≡ counted before (1 + (length out - length zs)))
+    c.new-entries.ensures
     c.in_ok-select-in-Leaf.ensures.steps in
     subst (λ t. IsCount rule t whole maps span before steps c.len.result) (sym seen)
-    (leaf_counted rule l.leaf l.form whole maps span before steps c.len.result out (subst (IsValid rule) seen c.requires.valid)
-    (λ w. c.in_ok-select-in-Leaf.ensures.ok w ∙ ap (λ zs. zs ++ selected span.lo span.hi (map_at maps l.leaf)) c.new-entries.ensures) many
+    (leaf_counted rule l.leaf l.form whole maps span before steps c.len.result out
+    (subst (IsValid rule) seen c.requires.valid)
+    (λ w. c.in_ok-select-in-Leaf.ensures.ok w
+    ∙ ap (λ zs. zs ++ selected span.lo span.hi (map_at maps l.leaf)) c.new-entries.ensures) many
     taken)

@@ -9,7 +9,8 @@ pair_rec-requires-clause-owner c =
     let is : items ≡ c.args.members.now = search rules in
     (c.requires c.member-item.result
     (subst (In c.member-item.result) is
-    (in_read items c.loop-member.member-index c.member-item.result c.member-item.is c.loop-member-test.true))).0
+    (in_read items c.loop-member.member-index c.member-item.result c.member-item.is
+    c.loop-member-test.true))).0
 
 pub pair_rec-requires-clause-member : goal.pair_rec-requires-clause-member
 pair_rec-requires-clause-member c =
@@ -17,7 +18,8 @@ pair_rec-requires-clause-member c =
     let is : items ≡ c.args.members.now = search rules in
     (c.requires c.member-item.result
     (subst (In c.member-item.result) is
-    (in_read items c.loop-member.member-index c.member-item.result c.member-item.is c.loop-member-test.true))).1
+    (in_read items c.loop-member.member-index c.member-item.result c.member-item.is
+    c.loop-member-test.true))).1
 
 pub owned_rec-requires-clause-owner : goal.owned_rec-requires-clause-owner
 owned_rec-requires-clause-owner c =
@@ -25,7 +27,8 @@ owned_rec-requires-clause-owner c =
     let is : items ≡ c.args.members.now = search rules in
     (c.requires c.member-item.result
     (subst (In c.member-item.result) is
-    (in_read items c.loop-member.member-index c.member-item.result c.member-item.is c.loop-member-test.true))).0
+    (in_read items c.loop-member.member-index c.member-item.result c.member-item.is
+    c.loop-member-test.true))).0
 
 pub owned_rec-requires-clause-member : goal.owned_rec-requires-clause-member
 owned_rec-requires-clause-member c =
@@ -33,4 +36,5 @@ owned_rec-requires-clause-member c =
     let is : items ≡ c.args.members.now = search rules in
     (c.requires c.member-item.result
     (subst (In c.member-item.result) is
-    (in_read items c.loop-member.member-index c.member-item.result c.member-item.is c.loop-member-test.true))).1
+    (in_read items c.loop-member.member-index c.member-item.result c.member-item.is
+    c.loop-member-test.true))).1

@@ -8,4 +8,6 @@ add_rows-requires c =
     let items = c.deref-owned-items.result.now in
     let is : items ≡ c.args.owners.now = search rules in
     c.requires c.owned-item.result
-    (subst (In c.owned-item.result) is (in_read items c.loop-owned.owned-index c.owned-item.result c.owned-item.is c.loop-owned-test.true))
+    (subst (In c.owned-item.result) is
+    (in_read items c.loop-owned.owned-index c.owned-item.result c.owned-item.is
+    c.loop-owned-test.true))

@@ -9,4 +9,5 @@ pub returns-in-Some : goal.returns-in-Some
 returns-in-Some c = λ less.
     let keys = keys_of c.args.cells.now.entries in
     let up_to = recursion_from_All _ keys c.in-Some.ensures.all_up_to in
-    past_each c.in-Some.last.now c.args.key.now keys up_to (sym c.cmp.ensures ∙ less_from_lt c.cmp.result (sym c.is_lt.ensures ∙ less))
+    past_each c.in-Some.last.now c.args.key.now keys up_to (sym c.cmp.ensures
+    ∙ less_from_lt c.cmp.result (sym c.is_lt.ensures ∙ less))

@@ -14,20 +14,26 @@ pub returns-in_ok-push-in-None-clause-kept : goal.returns-in_ok-push-in-None-cla
 returns-in_ok-push-in-None-clause-kept c =
     let same : c.in_ok-noted.noted ≡ c.args.key = search rules in
     let es = c.args.cells.now.entries in
-    let none : fin.get (cells_of es) c.args.key ≡ None = get_cells es c.args.key ∙ sym c.in_ok-insert.ensures.old ∙ c.in-None.is in
-    (made_more c.args.made.now.items _ _ c.args.undos.now.items _ (cells_of es) _ c.args.key c.in_ok-noted.noted c.args.cell
-    c.in_ok-try_reserve.ensures.items c.in_ok-push-in-None.ensures.items same c.in_ok-try_reserve-2.ensures.items
+    let none : fin.get (cells_of es) c.args.key ≡ None = get_cells es c.args.key
+    ∙ sym c.in_ok-insert.ensures.old ∙ c.in-None.is in
+    (made_more c.args.made.now.items _ _ c.args.undos.now.items _ (cells_of es) _ c.args.key
+    c.in_ok-noted.noted c.args.cell
+    c.in_ok-try_reserve.ensures.items c.in_ok-push-in-None.ensures.items same
+    c.in_ok-try_reserve-2.ensures.items
     (returns-in_ok-push-in-None-clause-ok c) none c.requires.can).0
 
 pub returns-in_ok-push-in-None-clause-open : goal.returns-in_ok-push-in-None-clause-open
 returns-in_ok-push-in-None-clause-open c =
     let same : c.in_ok-noted.noted ≡ c.args.key = search rules in
     let es = c.args.cells.now.entries in
-    let none : fin.get (cells_of es) c.args.key ≡ None = get_cells es c.args.key ∙ sym c.in_ok-insert.ensures.old ∙ c.in-None.is in
+    let none : fin.get (cells_of es) c.args.key ≡ None = get_cells es c.args.key
+    ∙ sym c.in_ok-insert.ensures.old ∙ c.in-None.is in
     record {
       ascending = c.in_ok-insert.ensures.ordered;
-      can = (made_more c.args.made.now.items _ _ c.args.undos.now.items _ (cells_of es) _ c.args.key c.in_ok-noted.noted c.args.cell
-          c.in_ok-try_reserve.ensures.items c.in_ok-push-in-None.ensures.items same c.in_ok-try_reserve-2.ensures.items
+      can = (made_more c.args.made.now.items _ _ c.args.undos.now.items _ (cells_of es) _ c.args.key
+          c.in_ok-noted.noted c.args.cell
+          c.in_ok-try_reserve.ensures.items c.in_ok-push-in-None.ensures.items same
+          c.in_ok-try_reserve-2.ensures.items
           (returns-in_ok-push-in-None-clause-ok c) none c.requires.can).1;
     }
 
@@ -40,7 +46,8 @@ pub returns-in_ok-push-in-Some-clause-kept : goal.returns-in_ok-push-in-Some-cla
 returns-in_ok-push-in-Some-clause-kept c =
     let same : c.in_ok-noted.noted ≡ c.args.key = search rules in
     let es = c.args.cells.now.entries in
-    let some : fin.get (cells_of es) c.args.key ≡ Some c.in-Some.before = get_cells es c.args.key ∙ sym c.in_ok-insert.ensures.old ∙ c.in-Some.is in
+    let some : fin.get (cells_of es) c.args.key ≡ Some c.in-Some.before = get_cells es c.args.key
+    ∙ sym c.in_ok-insert.ensures.old ∙ c.in-Some.is in
     let rest = noted_more c.args.undos.now.items _ _ _ (cells_of es) _ c.args.key c.args.cell
     c.in_ok-try_reserve-2.ensures.items c.in_ok-push-in-Some.ensures.items
     (returns-in_ok-push-in-Some-clause-ok c) same some c.requires.can in
@@ -50,7 +57,8 @@ pub returns-in_ok-push-in-Some-clause-open : goal.returns-in_ok-push-in-Some-cla
 returns-in_ok-push-in-Some-clause-open c =
     let same : c.in_ok-noted.noted ≡ c.args.key = search rules in
     let es = c.args.cells.now.entries in
-    let some : fin.get (cells_of es) c.args.key ≡ Some c.in-Some.before = get_cells es c.args.key ∙ sym c.in_ok-insert.ensures.old ∙ c.in-Some.is in
+    let some : fin.get (cells_of es) c.args.key ≡ Some c.in-Some.before = get_cells es c.args.key
+    ∙ sym c.in_ok-insert.ensures.old ∙ c.in-Some.is in
     record {
       ascending = c.in_ok-insert.ensures.ordered;
       can = (noted_more c.args.undos.now.items _ _ _ (cells_of es) _ c.args.key c.args.cell

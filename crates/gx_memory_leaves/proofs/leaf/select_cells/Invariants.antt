@@ -6,4 +6,6 @@ use Rattle.gx_memory_leaves.proofs.leaf.select_cells.Given as goal
 
 -- what is left gives the rest of what the range gives
 abbrev pub invariant-loop-key : goal.invariant-loop-key
-invariant-loop-key l = IsGoing l.span.lo l.span.hi (l.fn.out ++ flat_map (picked l.span.lo l.span.hi) l.initial.key-iterator) l.fn.out l.out l.key-iterator
+invariant-loop-key l = IsGoing l.span.lo l.span.hi
+    (l.fn.out ++ flat_map (picked l.span.lo l.span.hi) l.initial.key-iterator) l.fn.out l.out
+    l.key-iterator

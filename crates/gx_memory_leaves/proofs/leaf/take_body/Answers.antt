@@ -10,7 +10,8 @@ use Rattle.gx_memory_leaves.proofs.leaf.take_body.Goals as goal
 pub returns-in-Some-clause-body : goal.returns-in-Some-clause-body
 returns-in-Some-clause-body c =
     let found = sym c.get_mut.ensures.value ∙ ap option_copied_mut c.in-Some.is in
-    c.replace.ensures.value ∙ sym (ap flat (get_cells c.args.cells.now.entries c.args.key.now ∙ found))
+    c.replace.ensures.value
+    ∙ sym (ap flat (get_cells c.args.cells.now.entries c.args.key.now ∙ found))
 
 pub returns-in-Some-clause-cells : goal.returns-in-Some-clause-cells
 returns-in-Some-clause-cells c =
@@ -26,4 +27,5 @@ returns-in-Some-clause-cells c =
 pub returns-in-None-clause-body : goal.returns-in-None-clause-body
 returns-in-None-clause-body c =
     let found = sym c.get_mut.ensures.value ∙ ap option_copied_mut c.in-None.is in
-    c.none-in-None.ensures ∙ sym (ap flat (get_cells c.args.cells.now.entries c.args.key.now ∙ found))
+    c.none-in-None.ensures ∙ sym
+    (ap flat (get_cells c.args.cells.now.entries c.args.key.now ∙ found))

@@ -4,7 +4,9 @@ use Rattle.gx_memory_leaves.proofs.leaf.take_out.Given as goal
 
 -- what is still to be taken out gives the start
 abbrev pub invariant-loop-key : goal.invariant-loop-key
-invariant-loop-key l = IsAscending l.cells.entries × (without l.made.items (cells_of l.cells.entries) ≡ without l.fn.made.items (cells_of l.fn.cells.entries))
+invariant-loop-key l = IsAscending l.cells.entries
+    × (without l.made.items (cells_of l.cells.entries) ≡ without l.fn.made.items
+    (cells_of l.fn.cells.entries))
 
 abbrev pub decreases-loop-key : goal.decreases-loop-key
 decreases-loop-key l = vec_len l.made

@@ -8,7 +8,8 @@ use Rattle.gx_memory_machine.proofs.names.find.Goals as goal
 
 pub returns-in_err-items : goal.returns-in_err-items
 returns-in_err-items g c =
-    subst (λ (r : Option (Bor (List _))). MatchOption r (get (by_name c.args.map.now.entries) c.args.name.now ≡ None)
+    subst (λ (r : Option (Bor (List _))). MatchOption r
+    (get (by_name c.args.map.now.entries) c.args.name.now ≡ None)
     (λ items. get (by_name c.args.map.now.entries) c.args.name.now ≡ Some items.now))
     (sym c.from_residual.ensures)
     (get_named c.args.map.now.entries c.args.name.now ∙ ap (option_map (λ v. v.items))

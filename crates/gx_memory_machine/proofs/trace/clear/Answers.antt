@@ -5,7 +5,8 @@ use Rattle.gx_memory_machine.proofs.trace.clear.Goals as goal
 
 pub loop-i-preserved : goal.loop-i-preserved
 loop-i-preserved c =
-    ap (λ (l : List Bool). set l c.loop-i.i false) c.loop-i.invariant ∙ set_fill c.loop-i.i c.args.flags.now.items (omega arith)
+    ap (λ (l : List Bool). set l c.loop-i.i false) c.loop-i.invariant
+    ∙ set_fill c.loop-i.i c.args.flags.now.items (omega arith)
 
 pub returns : goal.returns
 returns c =

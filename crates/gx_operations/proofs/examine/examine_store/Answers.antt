@@ -13,9 +13,11 @@ pub returns-clause-settled : goal.returns-clause-settled
 returns-clause-settled g c = λ texts head whole.
     let old = c.args.store in
     let left = c.examine-found.new.leaves in
-    settled_read texts.0 texts.1 (head_of old) (head_of left) (kept_of old) (kept_of left) (g.M.Device.content c.close.result).now.blocks
+    settled_read texts.0 texts.1 (head_of old) (head_of left) (kept_of old) (kept_of left)
+    (g.M.Device.content c.close.result).now.blocks
     c.examine-found.ensures.reads.head c.examine-found.ensures.reads.kept head
-    (λ is. c.close.ensures.settled texts.0 texts.1 is (c.examine-found.ensures.reads.kept_whole.0 whole))
+    (λ is. c.close.ensures.settled texts.0 texts.1 is
+    (c.examine-found.ensures.reads.kept_whole.0 whole))
 
 -- the one that is there
 stored_or : Stored → Option Stored → Stored
@@ -30,8 +32,10 @@ returns-clause-untouched g c = λ told steady un.
     let left = c.examine-found.new.leaves in
     let new = journal_of (pages_of left) in
     let same = ap (λ (o : Option Stored). stored_or
-    (record { ground = ground_of old; sheets = kept_sheets old }) o) (c.examine-found.ensures.untouched told steady un) in
-    subst (λ m. ReadAlike (content (machine_of c.args.store)).now.blocks (content m).now.blocks) (sym c.close.ensures.machine)
+    (record { ground = ground_of old; sheets = kept_sheets old }) o)
+    (c.examine-found.ensures.untouched told steady un) in
+    subst (λ m. ReadAlike (content (machine_of c.args.store)).now.blocks (content m).now.blocks)
+    (sym c.close.ensures.machine)
     (alike_still old new told (g.met.M.Device.sized old.device told)
     (g.met.M.Device.sized new.device told) steady (c.examine-found.ensures.steady told steady un)
     (ap (λ (s : Stored). s.ground) same) (ap (λ (s : Stored). s.sheets) same))

@@ -8,11 +8,15 @@ returns-clause-made g c = λ can.
     let x = c.args.stored in
     let specs : c.deref.result.now ≡ c.args.stored.built.specs = first_of (search rules, cc) in
     let schema : c.as_slice.result.now ≡ c.args.stored.schema_text = first_of (search rules, cc) in
-    let equation : c.as_slice-2.result.now ≡ c.args.stored.equation_text = first_of (search rules, cc) in
+    let equation : c.as_slice-2.result.now ≡ c.args.stored.equation_text =
+    first_of (search rules, cc) in
     subst (IsMaking x.schema_text x.equation_text x.built.specs c.args.device.now c.args.blocks
-    (g.M.Device.content c.args.machine) (g.M.Device.content c.make-made.result.1)) (sym c.making_ending.ensures)
-    (making_told x c.as_slice.result.now c.as_slice-2.result.now c.deref.result.now c.args.device.now
-    c.args.blocks (g.M.Device.content c.args.machine) (g.M.Device.content c.make-made.result.1) c.make-made.result.0
+    (g.M.Device.content c.args.machine) (g.M.Device.content c.make-made.result.1))
+    (sym c.making_ending.ensures)
+    (making_told x c.as_slice.result.now c.as_slice-2.result.now c.deref.result.now
+    c.args.device.now
+    c.args.blocks (g.M.Device.content c.args.machine) (g.M.Device.content c.make-made.result.1)
+    c.make-made.result.0
     schema equation specs
     (c.make-made.ensures.made can) (c.make-made.ensures.new can) c.make-made.ensures.size
     (c.make-made.ensures.unmade can) (c.make-made.ensures.untouched can))
@@ -21,6 +25,7 @@ pub returns-clause-left : goal.returns-clause-left
 returns-clause-left g c = λ can free blocks there.
     let specs : c.deref.result.now ≡ c.args.stored.built.specs = first_of (search rules, cc) in
     let schema : c.as_slice.result.now ≡ c.args.stored.schema_text = first_of (search rules, cc) in
-    let equation : c.as_slice-2.result.now ≡ c.args.stored.equation_text = first_of (search rules, cc) in
+    let equation : c.as_slice-2.result.now ≡ c.args.stored.equation_text =
+    first_of (search rules, cc) in
     left_told c.args.stored c.as_slice.result.now c.as_slice-2.result.now c.deref.result.now blocks
     schema equation specs (c.make-made.ensures.left can free blocks there)

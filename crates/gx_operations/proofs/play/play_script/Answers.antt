@@ -15,7 +15,8 @@ returns-in-Ok-clause-answered g c = λ told.
     let start = empty_state c.args.schema in
     let left = c.play_over-leaves.result.1 in
     held_as c.args.schema c.args.built None start
-    (λ (s : State). AreInternal c.args.schema c.args.built (kept_of left) s × Unit {0}) (λ s. Unit {0})
+    (λ (s : State). AreInternal c.args.schema c.args.built (kept_of left) s × Unit {0})
+    (λ s. Unit {0})
     (content c.args.machine).script (content c.args.machine).now.said
     (content c.into_device.result).now.said c.play_over-leaves.result.0 (λ s held. tt)
     (subst (λ m. IsPlayedAs c.args.schema c.args.built None start
@@ -23,10 +24,13 @@ returns-in-Ok-clause-answered g c = λ told.
     (content c.args.machine).script (content c.args.machine).now.said
     (content m).now.said c.play_over-leaves.result.0) (sym c.into_device.ensures)
     (subst (λ m. IsPlayedAs c.args.schema c.args.built None start
-    (λ (s : State). AreInternal c.args.schema c.args.built (kept_of left) s × Unit {0}) (content m).script
-    (content m).now.said (content left.device).now.said c.play_over-leaves.result.0) c.in-Ok.ensures.device
+    (λ (s : State). AreInternal c.args.schema c.args.built (kept_of left) s × Unit {0})
+    (content m).script
+    (content m).now.said (content left.device).now.said c.play_over-leaves.result.0)
+    c.in-Ok.ensures.device
     (c.play_over-leaves.ensures.answered told start (record {
-      working_is = subst (λ w. AreInternal c.args.schema c.args.built w start) (sym c.in-Ok.ensures.working)
+      working_is = subst (λ w. AreInternal c.args.schema c.args.built w start)
+          (sym c.in-Ok.ensures.working)
           (start_state c.args.schema c.args.built _ _ c.requires.built);
       kept_same = c.in-Ok.ensures.kept ∙ sym c.in-Ok.ensures.working;
       whole_is = tt;
@@ -38,7 +42,8 @@ returns-in-Ok-clause-heard g c = λ told e.
     ap (λ m. (g.M.Device.content m).script) c.into_device.ensures
     ∙ c.play_over-leaves.ensures.heard told (empty_state c.args.schema) (record {
       working_is = subst (λ w. AreInternal c.args.schema c.args.built w (empty_state c.args.schema))
-          (sym c.in-Ok.ensures.working) (start_state c.args.schema c.args.built _ _ c.requires.built);
+          (sym c.in-Ok.ensures.working)
+          (start_state c.args.schema c.args.built _ _ c.requires.built);
       kept_same = c.in-Ok.ensures.kept ∙ sym c.in-Ok.ensures.working;
       whole_is = tt;
       kept_whole_is = tt;
@@ -73,4 +78,5 @@ returns-in-Ok-clause-shelf g c =
 pub returns-clause-answered : goal.returns-clause-answered
 returns-clause-answered g c =
     λ told. unheard c.args.schema c.args.built None (empty_state c.args.schema)
-    (λ s. Unit {0}) _ _ _ 0 0 ending.NoMemory (ap (λ m. (g.M.Device.content m).now.said) (search rules)) tt tt
+    (λ s. Unit {0}) _ _ _ 0 0 ending.NoMemory
+    (ap (λ m. (g.M.Device.content m).now.said) (search rules)) tt tt

@@ -19,29 +19,37 @@ returns-in-Ok-clause-worked g c = λ can.
     let mid = content c.make-made.result.1 in
     let new = content c.play_made.result.1 in
     let schema : c.as_slice.result.now ≡ c.args.stored.schema_text = first_of (search rules, cc) in
-    let equation : c.as_slice-2.result.now ≡ c.args.stored.equation_text = first_of (search rules, cc) in
+    let equation : c.as_slice-2.result.now ≡ c.args.stored.equation_text =
+    first_of (search rules, cc) in
     let size = subst (λ (ks : List LeafSpec). IsSize ks c.args.blocks) (search rules)
-    (subst (λ r. OnOk r (IsSize c.deref.result.now c.args.blocks)) c.in-Ok.is c.make-made.ensures.size) in
-    let free = subst (λ r. OnOk r (device_at old.now c.args.device.now ≡ None)) c.in-Ok.is (c.make-made.ensures.new can) in
+    (subst (λ r. OnOk r (IsSize c.deref.result.now c.args.blocks)) c.in-Ok.is
+    c.make-made.ensures.size) in
+    let free = subst (λ r. OnOk r (device_at old.now c.args.device.now ≡ None)) c.in-Ok.is
+    (c.make-made.ensures.new can) in
     let made = subst (λ (ks : List LeafSpec). OfBlocks c.args.device.now mid
     (IsMadeOn c.args.blocks x.schema_text x.equation_text ks)) (search rules)
-    (subst (λ (e : List ℕ). OfBlocks c.args.device.now mid (IsMadeOn c.args.blocks x.schema_text e c.deref.result.now)) equation
+    (subst (λ (e : List ℕ). OfBlocks c.args.device.now mid
+    (IsMadeOn c.args.blocks x.schema_text e c.deref.result.now)) equation
     (subst (λ (s : List ℕ). OfBlocks c.args.device.now mid
     (IsMadeOn c.args.blocks s c.as_slice-2.result.now c.deref.result.now)) schema
     (subst (λ r. OnOk r (OfBlocks c.args.device.now mid
-    (IsMadeOn c.args.blocks c.as_slice.result.now c.as_slice-2.result.now c.deref.result.now))) c.in-Ok.is
+    (IsMadeOn c.args.blocks c.as_slice.result.now c.as_slice-2.result.now c.deref.result.now)))
+    c.in-Ok.is
     (c.make-made.ensures.made can)))) in
-    let named = subst (λ r. OnOk r (mid.now.shelf.name ≡ Some c.args.device.now)) c.in-Ok.is (c.make-made.ensures.named can) in
+    let named = subst (λ r. OnOk r (mid.now.shelf.name ≡ Some c.args.device.now)) c.in-Ok.is
+    (c.make-made.ensures.named can) in
     working_by x c.args.device.now c.args.blocks c.args.records old mid new size free made named
     c.play_made.ensures.silent c.play_made.result.0
     (c.play_made.ensures.count can.told)
-    (c.play_made.ensures.worked can.told (reopens x c.args.device.now c.args.blocks c.args.records old mid new
+    (c.play_made.ensures.worked can.told
+    (reopens x c.args.device.now c.args.blocks c.args.records old mid new
     size free made named c.play_made.ensures.silent))
 
 pub returns-in-Ok-clause-there : goal.returns-in-Ok-clause-there
 returns-in-Ok-clause-there g c = λ can blocks was.
     let old = g.M.Device.content c.args.machine in
-    let free = subst (λ r. OnOk r (device_at old.now c.args.device.now ≡ None)) c.in-Ok.is (c.make-made.ensures.new can) in
+    let free = subst (λ r. OnOk r (device_at old.now c.args.device.now ≡ None)) c.in-Ok.is
+    (c.make-made.ensures.new can) in
     absurd (let wrong : ◌≡◌ {A = _} (Some blocks) None = sym was ∙ free in cc)
 
 pub returns-clause-worked : goal.returns-clause-worked
@@ -51,20 +59,28 @@ returns-clause-worked g c = λ can.
     let old = content c.args.machine in
     let new = content c.make-made.result.1 in
     let schema : c.as_slice.result.now ≡ c.args.stored.schema_text = first_of (search rules, cc) in
-    let equation : c.as_slice-2.result.now ≡ c.args.stored.equation_text = first_of (search rules, cc) in
-    subst (λ w. IsWorking x c.args.device.now c.args.blocks c.args.records old new (Err w)) (sym c.unopened_ending.ensures)
+    let equation : c.as_slice-2.result.now ≡ c.args.stored.equation_text =
+    first_of (search rules, cc) in
+    subst (λ w. IsWorking x c.args.device.now c.args.blocks c.args.records old new (Err w))
+    (sym c.unopened_ending.ensures)
     (not_made x c.args.device.now c.args.blocks c.args.records old new c.in-Err.why
-    (subst (λ (ks : List LeafSpec). IsUnmade c.args.device.now c.args.blocks ks old c.in-Err.why) (search rules)
-    (subst (λ r. IfErr r (IsUnmade c.args.device.now c.args.blocks c.deref.result.now old)) c.in-Err.is (c.make-made.ensures.unmade can)))
+    (subst (λ (ks : List LeafSpec). IsUnmade c.args.device.now c.args.blocks ks old c.in-Err.why)
+    (search rules)
+    (subst (λ r. IfErr r (IsUnmade c.args.device.now c.args.blocks c.deref.result.now old))
+    c.in-Err.is (c.make-made.ensures.unmade can)))
     (subst (λ r. IfErr r (λ why. is_untouched why ≡ true
-    → device_at new.now c.args.device.now ≡ device_at old.now c.args.device.now)) c.in-Err.is (c.make-made.ensures.untouched can))
-    (λ free blocks there. left_told x c.as_slice.result.now c.as_slice-2.result.now c.deref.result.now blocks
+    → device_at new.now c.args.device.now ≡ device_at old.now c.args.device.now)) c.in-Err.is
+    (c.make-made.ensures.untouched can))
+    (λ free blocks there. left_told x c.as_slice.result.now c.as_slice-2.result.now
+    c.deref.result.now blocks
     schema equation (search rules) (c.make-made.ensures.left can free blocks there)))
 
 pub returns-in-Ok-clause-attaches : goal.returns-in-Ok-clause-attaches
 returns-in-Ok-clause-attaches g c = λ can.
     let content = g.M.Device.content in
     let mid = content c.make-made.result.1 in
-    let named = subst (λ r. OnOk r (mid.now.shelf.name ≡ Some c.args.device.now)) c.in-Ok.is (c.make-made.ensures.named can) in
+    let named = subst (λ r. OnOk r (mid.now.shelf.name ≡ Some c.args.device.now)) c.in-Ok.is
+    (c.make-made.ensures.named can) in
     attached_still c.args.device.now (content c.args.machine) (content c.make-made.result.1)
-    (content c.play_made.result.1) (c.make-made.ensures.attaches can) named c.play_made.ensures.silent
+    (content c.play_made.result.1) (c.make-made.ensures.attaches can) named
+    c.play_made.ensures.silent

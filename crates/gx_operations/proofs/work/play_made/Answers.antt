@@ -33,25 +33,34 @@ returns-in-Ok-clause-worked g c = λ told reopens.
     let start = empty_state work_schema in
     let opens : Reopens schema equation specs (replicate (length x.built.specs) empty) blocks =
     sliced_texts x schema equation specs (λ t e ks. Reopens t e ks
-    (replicate (length x.built.specs) empty) blocks) c.as_slice.ensures c.as_slice-2.ensures (search rules) reopens in
+    (replicate (length x.built.specs) empty) blocks) c.as_slice.ensures c.as_slice-2.ensures
+    (search rules) reopens in
     let holds = c.in-Ok.ensures.holds told (replicate (length x.built.specs) empty) opens in
     let internal : AreInternal x.schema x.built (replicate (length x.built.specs) empty) start =
-    subst (λ (k : Schema). AreInternal x.schema x.built (replicate (length x.built.specs) empty) (empty_state k)) c.requires.schema
-    (start_state x.schema x.built (length x.built.specs) (length x.built.specs) c.requires.stored.can_play.0) in
-    let head = subst (λ k. IsHeadOf schema equation k (head_of store)) (sym c.in-Ok.ensures.specs) (c.in-Ok.ensures.head told) in
+    subst (λ (k : Schema). AreInternal x.schema x.built (replicate (length x.built.specs) empty)
+    (empty_state k)) c.requires.schema
+    (start_state x.schema x.built (length x.built.specs)
+    (length x.built.specs) c.requires.stored.can_play.0) in
+    let head = subst (λ k. IsHeadOf schema equation k (head_of store)) (sym c.in-Ok.ensures.specs)
+    (c.in-Ok.ensures.head told) in
     let limit = Some (limits_of (ground_of (journal_of (pages_of store))) (places_in store)) in
     played_on x (length blocks) c.args.records after limit
-    (λ (k : State). AreInternal work_schema x.built (kept_of left) k × WasWhole left) c.play_work-worked.result.0
+    (λ (k : State). AreInternal work_schema x.built (kept_of left) k × WasWhole left)
+    c.play_work-worked.result.0
     (limit_of blocks (ground_of (journal_of (pages_of store))) (places_in store) x.built.specs
     (c.in-Ok.ensures.ground told) (c.in-Ok.ensures.specs ∙ (search rules)))
-    (λ k held. told_settled x schema equation specs after k c.as_slice.ensures c.as_slice-2.ensures (search rules)
-    (subst (λ (ks : List LeafSpec). IsSettledIn x.schema x.built schema equation ks after k) c.in-Ok.ensures.specs
+    (λ k held. told_settled x schema equation specs after k c.as_slice.ensures c.as_slice-2.ensures
+    (search rules)
+    (subst (λ (ks : List LeafSpec). IsSettledIn x.schema x.built schema equation ks after k)
+    c.in-Ok.ensures.specs
     (settled_from x.schema x.built schema equation (head_of store) (head_of left)
     (kept_of left) after k c.play_work-worked.ensures.head head
     (λ is. c.close.ensures.settled schema equation is held.1)
-    (subst (λ (s : Schema). AreInternal s x.built (kept_of left) k) (sym c.requires.schema) held.0))))
+    (subst (λ (s : Schema). AreInternal s x.built (kept_of left) k) (sym c.requires.schema)
+    held.0))))
     (c.play_work-worked.ensures.worked start (record {
-      working_is = subst (λ (w : List LeafMap). AreInternal x.schema x.built w start) (sym holds.working) internal;
+      working_is = subst (λ (w : List LeafMap). AreInternal x.schema x.built w start)
+          (sym holds.working) internal;
       kept_same = holds.kept ∙ sym holds.working;
       whole_is = holds.whole;
       kept_whole_is = holds.was_whole;
@@ -61,13 +70,17 @@ pub returns-clause-worked : goal.returns-clause-worked
 returns-clause-worked g c = λ told reopens.
     let x = c.args.stored in
     let blocks = (g.M.Device.content c.args.machine).now.blocks in
-    subst (λ w. IsPlayedOn x (length blocks) c.args.records (g.M.Device.content c.in-Err.machine).now.blocks
+    subst (λ w. IsPlayedOn x (length blocks) c.args.records
+    (g.M.Device.content c.in-Err.machine).now.blocks
     (Err w)) (sym c.unopened_ending.ensures)
     (never_unopened x (length blocks) c.args.records x.schema_text x.equation_text x.built.specs
-    (replicate (length x.built.specs) empty) blocks (g.M.Device.content c.in-Err.machine).now.blocks c.in-Err.why reopens
-    (told_unopened x c.as_slice.result.now c.as_slice-2.result.now c.deref.result.now blocks c.in-Err.why
+    (replicate (length x.built.specs) empty) blocks (g.M.Device.content c.in-Err.machine).now.blocks
+    c.in-Err.why reopens
+    (told_unopened x c.as_slice.result.now c.as_slice-2.result.now c.deref.result.now blocks
+    c.in-Err.why
     c.as_slice.ensures c.as_slice-2.ensures (search rules) (c.in-Err.ensures.unopened told))
-    (λ goes. empty_still x blocks (g.M.Device.content c.in-Err.machine).now.blocks (c.in-Err.ensures.kept told goes) reopens))
+    (λ goes. empty_still x blocks (g.M.Device.content c.in-Err.machine).now.blocks
+    (c.in-Err.ensures.kept told goes) reopens))
 
 -- ---- how many blocks there are
 

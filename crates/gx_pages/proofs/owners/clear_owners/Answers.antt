@@ -17,21 +17,24 @@ loop-table-preserved g c =
     let table = c.loop-table.table in
     record {
       keeps = keeps_joined inv.keeps e.keeps;
-      silent = silent_twice (content_of c.args.journal.now) (content_of mid) (content_of new) inv.silent e.silent;
+      silent = silent_twice (content_of c.args.journal.now) (content_of mid)
+          (content_of new) inv.silent e.silent;
       faults = e.faults.same ∙ inv.faults;
       clear = λ told. clear_more (working_of mid) (working_of new) table c.clear_page.result
           (omega (arith, count_pages mid, inv.keeps.size, c.loop-table-test.true, c.min-table-end.ensures, c.pages.ensures))
           (e.page told) c.clear_page.ensures (inv.clear told);
       bytes = λ told other past. ap (λ (ps : List (List ℕ)). slice_get ps other) (e.page told)
           ∙ page_other (working_of mid) table other c.clear_page.result
-          (λ is. absurd (omega (arith, is, past, c.loop-table-test.true, c.min-table-end.ensures))) ∙ inv.bytes told other past;
+          (λ is. absurd (omega (arith, is, past, c.loop-table-test.true, c.min-table-end.ensures)))
+          ∙ inv.bytes told other past;
     }
 
 pub returns-clause-free : goal.returns-clause-free
 returns-clause-free g c told =
     let j = c.loop-table.journal in
     let inv = c.loop-table.invariant in
-    all_free (ground_of c.args.journal.now) (working_of j) c.loop-table.table refl (count_pages j ∙ inv.keeps.size)
+    all_free (ground_of c.args.journal.now) (working_of j) c.loop-table.table refl (count_pages j
+    ∙ inv.keeps.size)
     (λ page below. omega (
       arith,
       below,

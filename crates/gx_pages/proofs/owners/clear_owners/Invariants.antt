@@ -10,7 +10,9 @@ invariant-loop-table g l = record {
   keeps : Keeps l.fn.journal l.journal;
   silent : Silent (content_of l.fn.journal) (content_of l.journal);
   faults : g.D.Device.faults (device_of l.journal) ≡ g.D.Device.faults (device_of l.fn.journal);
-  clear : IsTrue g.D.Device.tells → (t : ℕ) → t < l.table → IsClear t (get_or (working_of l.journal) t []);
-  bytes : IsTrue g.D.Device.tells → (other : ℕ) → 16 ≤ other → slice_get (working_of l.journal) other
+  clear : IsTrue g.D.Device.tells → (t : ℕ) → t < l.table
+      → IsClear t (get_or (working_of l.journal) t []);
+  bytes : IsTrue g.D.Device.tells → (other : ℕ) → 16 ≤ other
+      → slice_get (working_of l.journal) other
       ≡ slice_get (working_of l.fn.journal) other;
 }

@@ -12,6 +12,7 @@ invariant-loop-table g l = record {
   silent : Silent (content_of l.fn.journal) (content_of l.journal);
   faults : g.D.Device.faults (device_of l.journal) ≡ g.D.Device.faults (device_of l.fn.journal);
   working : working_of l.journal ≡ working_of l.fn.journal;
-  none : IsTrue g.D.Device.tells → (page : ℕ) → l.from ≤ page / 2048 → page / 2048 < l.table → IsPast (ground_of l.fn.journal) page
+  none : IsTrue g.D.Device.tells → (page : ℕ) → l.from ≤ page / 2048 → page / 2048 < l.table
+      → IsPast (ground_of l.fn.journal) page
       → owner_at (working_of l.fn.journal) page ≢ 0;
 }

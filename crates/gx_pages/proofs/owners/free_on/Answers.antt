@@ -19,8 +19,10 @@ returns-clause-free g c told =
     let low = past.past in
     let below = past.below in
     (omega (arith, at, low, below, size, same, least, first, end), omega (arith, at, low, below, size, same, end)) in
-    let inside : (page : ℕ) → c.min-first.result ≤ page → page < c.clamp-middle.result → page / 2048 ≡ c.args.table =
+    let inside : (page : ℕ) → c.min-first.result ≤ page → page < c.clamp-middle.result
+    → page / 2048 ≡ c.args.table =
     λ page from to. omega (arith, from, to, size, same, least, first, end, middle) in
     found_on (ground_of j) (working_of j) c.read_page.new.into c.args.table c.min-first.result
     c.clamp-middle.result c.min-end.result c.free_between-2.result
-    (c.in_ok-read_page.ensures.page told) within inside c.in_default.ensures c.free_between-2.ensures
+    (c.in_ok-read_page.ensures.page told) within inside c.in_default.ensures
+    c.free_between-2.ensures

@@ -14,11 +14,14 @@ returns-clause-owned g c told =
     let page = c.args.page in
     let pages = working_of old in
     on_ok_weaker c.write_page.result (λ written. owned_anew (ground_of old) pages
-    (working_of c.write_page.new.self) page c.args.owner c.read_page.new.into c.set_number.new.table refl
-    (omega (arith, count_pages old, c.requires.below)) (omega (arith, count_pages old, old.working.few)) c.ranges.owner.fits
+    (working_of c.write_page.new.self) page c.args.owner c.read_page.new.into c.set_number.new.table
+    refl
+    (omega (arith, count_pages old, c.requires.below))
+    (omega (arith, count_pages old, old.working.few)) c.ranges.owner.fits
     (omega (arith, c.read_page.auto.into))
     (c.in_ok-read_page.ensures.page told) c.set_number.ensures
-    (written ∙ ap (λ (ps : List (List ℕ)). set ps (page / 2048) c.set_number.new.table) c.read_page.ensures.working))
+    (written ∙ ap (λ (ps : List (List ℕ)). set ps (page / 2048) c.set_number.new.table)
+    c.read_page.ensures.working))
     (c.write_page.ensures.page told)
 
 pub returns-clause-keeps : goal.returns-clause-keeps
@@ -33,6 +36,7 @@ returns-clause-keeps g c =
         script = written.silent.script ∙ read.silent.script;
         aside = written.silent.aside ∙ read.silent.aside;
       };
-      faults = subst (λ n. IsCounted n (g.D.Device.faults (device_of c.write_page.new.self)) c.write_page.result)
+      faults = subst (λ n. IsCounted n (g.D.Device.faults (device_of c.write_page.new.self))
+          c.write_page.result)
           c.in_ok-read_page.ensures.faults.same written.faults;
     }

@@ -10,9 +10,13 @@ pub invariant_of-result : goal.invariant_of-result
 invariant_of-result c =
     let sized = all_sized (kind_at c.args.field c.args.form.now) c.args.bounds.now c.requires.fit in
     record {
-      sound = subst (λ (f : Form). IsPartition f c.args.field c.in_ok-copy-2.field-0) (sym c.in_ok-copy.ensures)
-          (subst (λ (b : List Value). IsPartition c.args.form.now c.args.field b) (sym (c.in_ok-copy-2.ensures sized)) c.requires);
+      sound = subst (λ (f : Form). IsPartition f c.args.field c.in_ok-copy-2.field-0)
+          (sym c.in_ok-copy.ensures)
+          (subst (λ (b : List Value). IsPartition c.args.form.now c.args.field b)
+          (sym (c.in_ok-copy-2.ensures sized)) c.requires);
     }
 
 pub returns-clause-bounds : goal.returns-clause-bounds
-returns-clause-bounds c = c.in_ok-copy-2.ensures (all_sized (kind_at c.args.field c.args.form.now) c.args.bounds.now c.requires.fit)
+returns-clause-bounds c =
+    c.in_ok-copy-2.ensures (all_sized (kind_at c.args.field c.args.form.now) c.args.bounds.now
+    c.requires.fit)

@@ -12,6 +12,11 @@ pub returns : goal.returns
 returns c =
     let items : c.deref.result.now ≡ c.args.bounds.now = c.deref.ensures.value ∙ c.bounds.view_is in
     let ascending = subst (IsStrictlySortedBy value_cmp) (sym items) c.requires.ascending in
-    let point = c.partition_point.ensures.partitioned (λ bound. is_le (value_cmp bound c.args.value.now)) (always_returns_same _ _ _ (λ a r f k. search (rules, of_calls))) (parted c.deref.result.now c.args.value.now ascending) in
-    sym (count_is (λ bound. is_le (value_cmp bound c.args.value.now)) c.deref.result.now c.partition_point.result c.partition_point.ensures.bound point)
-    ∙ ap (λ (l : List Value). length (filter (λ bound. is_le (value_cmp bound c.args.value.now)) l)) items
+    let point = c.partition_point.ensures.partitioned
+    (λ bound. is_le (value_cmp bound c.args.value.now))
+    (always_returns_same _ _ _ (λ a r f k. search (rules, of_calls)))
+    (parted c.deref.result.now c.args.value.now ascending) in
+    sym (count_is (λ bound. is_le (value_cmp bound c.args.value.now)) c.deref.result.now
+    c.partition_point.result c.partition_point.ensures.bound point)
+    ∙ ap (λ (l : List Value). length (filter (λ bound. is_le (value_cmp bound c.args.value.now)) l))
+    items

@@ -5,7 +5,8 @@ use Rattle.gx_plain_state.proofs.files.place_of.Given as goal
 
 abbrev pub invariant-loop-rest : goal.invariant-loop-rest
 invariant-loop-rest l = record {
-  counted : prefix_len (λ e. is_past l.key e.0) l.rows + length l.rest ≡ length l.rows + prefix_len (λ e. is_past l.key e.0) l.rest;
+  counted : prefix_len (λ e. is_past l.key e.0) l.rows + length l.rest ≡ length l.rows + prefix_len
+      (λ e. is_past l.key e.0) l.rest;
   short : length l.rest ≤ length l.rows;
 }
 

@@ -5,7 +5,8 @@ use Rattle.gx_plain_state.proofs.links.place_of.Given as goal
 
 abbrev pub invariant-loop-rest : goal.invariant-loop-rest
 invariant-loop-rest l = record {
-  counted : prefix_len (λ e. is_past l.member e.0) l.pairs + length l.rest ≡ length l.pairs + prefix_len (λ e. is_past l.member e.0) l.rest;
+  counted : prefix_len (λ e. is_past l.member e.0) l.pairs + length l.rest ≡ length l.pairs
+      + prefix_len (λ e. is_past l.member e.0) l.rest;
   short : length l.rest ≤ length l.pairs;
 }
 

@@ -9,21 +9,36 @@ use Rattle.gx_plain_state.proofs.links.put_pair.Goals.{else-at-len-via-then-at-l
 
 pub returns-then-is_eq-clause-ok : goal.returns-then-is_eq-clause-ok
 returns-then-is_eq-clause-ok c =
-    put_over c.args.pair.0 c.args.pair.1 c.args.pairs.now.items _ c.index.result.now c.place_of-at.result
-    (c.place_of-at.ensures.value ∙ (λ i. prefix_len (λ e. is_past (c.pair.view_is i).0 e.0) (c.deref.ensures.value i)))
+    put_over c.args.pair.0 c.args.pair.1 c.args.pairs.now.items _ c.index.result.now
+    c.place_of-at.result
+    (c.place_of-at.ensures.value
+    ∙ (λ i. prefix_len (λ e. is_past (c.pair.view_is i).0 e.0) (c.deref.ensures.value i)))
     (omega (arith, c.if-at-len.true, c.len.ensures, c.args.pairs.now.ok.0))
-    (tie_at c.args.pairs.now.items c.place_of-at.result c.args.pair (c.behind-pairs.inside.member, c.behind-pairs.inside.owner) c.index.result.now c.pair.inside.member c.compare.result true (ap (λ r. r.0) c.pair.view_is) c.behind-pairs.view_is c.index.ensures c.compare.ensures (sym c.is_eq.ensures ∙ c.if-is_eq.true))
+    (tie_at c.args.pairs.now.items c.place_of-at.result c.args.pair
+    (c.behind-pairs.inside.member, c.behind-pairs.inside.owner) c.index.result.now
+    c.pair.inside.member c.compare.result true (ap (λ r. r.0) c.pair.view_is)
+    c.behind-pairs.view_is c.index.ensures c.compare.ensures (sym c.is_eq.ensures
+    ∙ c.if-is_eq.true))
     refl
 
 pub returns-clause-ok : goal.returns-clause-ok
 returns-clause-ok c =
     put_before c.args.pair.0 c.args.pair.1 c.args.pairs.now.items _ c.args.pair c.place_of-at.result
-    (c.place_of-at.ensures.value ∙ (λ i. prefix_len (λ e. is_past (c.pair.view_is i).0 e.0) (c.deref.ensures.value i)))
-    (λ lt. elim c.else-at-len.branch as (λ _. is_eq (value_cmp c.args.pair.0 (get_or c.args.pairs.now.items c.place_of-at.result c.args.pair).0) ≡ false) [
+    (c.place_of-at.ensures.value
+    ∙ (λ i. prefix_len (λ e. is_past (c.pair.view_is i).0 e.0) (c.deref.ensures.value i)))
+    (λ lt. elim c.else-at-len.branch as
+    (λ _. is_eq (value_cmp c.args.pair.0
+    (get_or c.args.pairs.now.items c.place_of-at.result c.args.pair).0) ≡ false) [
       | else-at-len-via-then-at-len+else-is_eq w ↦
-          let e = get_or_default c.args.pairs.now.items c.place_of-at.result c.args.pair w.index.result.now lt in
+          let e = get_or_default c.args.pairs.now.items c.place_of-at.result c.args.pair
+          w.index.result.now lt in
           ap (λ r. is_eq (value_cmp c.args.pair.0 r.0)) e
-          ∙ tie_at c.args.pairs.now.items c.place_of-at.result c.args.pair (w.behind-pairs.inside.member, w.behind-pairs.inside.owner) w.index.result.now c.pair.inside.member w.compare.result false (ap (λ r. r.0) c.pair.view_is) w.behind-pairs.view_is w.index.ensures w.compare.ensures (sym w.is_eq.ensures ∙ w.if-is_eq.false)
-      | else-at-len-via-else-at-len w ↦ absurd (omega (arith, lt, w.if-at-len.false, c.len.ensures, c.args.pairs.now.ok.0))
+          ∙ tie_at c.args.pairs.now.items c.place_of-at.result c.args.pair
+          (w.behind-pairs.inside.member, w.behind-pairs.inside.owner) w.index.result.now
+          c.pair.inside.member w.compare.result false (ap (λ r. r.0) c.pair.view_is)
+          w.behind-pairs.view_is w.index.ensures w.compare.ensures (sym w.is_eq.ensures
+          ∙ w.if-is_eq.false)
+      | else-at-len-via-else-at-len w ↦
+          absurd (omega (arith, lt, w.if-at-len.false, c.len.ensures, c.args.pairs.now.ok.0))
     ])
     c.in_ok-insert.ensures.items

@@ -26,14 +26,22 @@ pub returns-clause-applies : goal.returns-clause-applies
 returns-clause-applies c =
     let conds : c.as_slice-conds.result.now ≡ c.args.find.now.conds = search rules in
     let no_of : is_some c.args.find.now.of ≡ false = search rules in
-    let none = ap (first_of 1 c.args.indexed.now) (sym conds) ∙ (sym c.first_of.ensures ∙ c.in_default.is) in
-    let same : c.by_condition.result ≡ plan_by_condition c.args.indexed.now c.args.find.now.conds = c.by_condition.ensures ∙ ap (plan_by_condition c.args.indexed.now) conds in
-    subst (Applies c.args.find.now c.args.indexed.now) (sym same) (condition_good c.args.find.now c.args.indexed.now none (not_some c.args.find.now.of no_of)).applies
+    let none = ap (first_of 1 c.args.indexed.now) (sym conds)
+    ∙ (sym c.first_of.ensures ∙ c.in_default.is) in
+    let same : c.by_condition.result ≡ plan_by_condition c.args.indexed.now c.args.find.now.conds =
+    c.by_condition.ensures ∙ ap (plan_by_condition c.args.indexed.now) conds in
+    subst (Applies c.args.find.now c.args.indexed.now) (sym same)
+    (condition_good c.args.find.now c.args.indexed.now none
+    (not_some c.args.find.now.of no_of)).applies
 
 pub returns-clause-least : goal.returns-clause-least
 returns-clause-least c =
     let conds : c.as_slice-conds.result.now ≡ c.args.find.now.conds = search rules in
     let no_of : is_some c.args.find.now.of ≡ false = search rules in
-    let none = ap (first_of 1 c.args.indexed.now) (sym conds) ∙ (sym c.first_of.ensures ∙ c.in_default.is) in
-    let same : c.by_condition.result ≡ plan_by_condition c.args.indexed.now c.args.find.now.conds = c.by_condition.ensures ∙ ap (plan_by_condition c.args.indexed.now) conds in
-    subst (IsLeast c.args.find.now c.args.indexed.now) (sym same) (condition_good c.args.find.now c.args.indexed.now none (not_some c.args.find.now.of no_of)).least
+    let none = ap (first_of 1 c.args.indexed.now) (sym conds)
+    ∙ (sym c.first_of.ensures ∙ c.in_default.is) in
+    let same : c.by_condition.result ≡ plan_by_condition c.args.indexed.now c.args.find.now.conds =
+    c.by_condition.ensures ∙ ap (plan_by_condition c.args.indexed.now) conds in
+    subst (IsLeast c.args.find.now c.args.indexed.now) (sym same)
+    (condition_good c.args.find.now c.args.indexed.now none
+    (not_some c.args.find.now.of no_of)).least

@@ -6,7 +6,8 @@ abbrev pub invariant-loop-piece : goal.invariant-loop-piece
 invariant-loop-piece g l =
     let content = g.D.Device.content in
     record {
-      heard : IsTrue g.D.Device.tells → (content l.fn.device).script ≡ l.script.items ++ (content l.device).script;
+      heard : IsTrue g.D.Device.tells
+          → (content l.fn.device).script ≡ l.script.items ++ (content l.device).script;
       small : vec_len l.script ≤ 16781312;
       counted : g.D.Device.faults l.device ≡ g.D.Device.faults l.fn.device;
       now : (content l.device).now ≡ (content l.fn.device).now;

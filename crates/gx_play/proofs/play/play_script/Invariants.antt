@@ -11,7 +11,8 @@ invariant-loop-line g l = record {
   keeps : KeepsPlayed g.B.View l.fn.answers l.fn.engine l.engine;
   going : stop_of l.engine ≡ None;
   few : l.number + length l.lines.lines ≤ 16777217;
-  so_far : IsTrue (are_told g.B.View.tells l.fn.answers) → (p : Playing) → IsAt g.B.View p l.fn.engine
+  so_far : IsTrue (are_told g.B.View.tells l.fn.answers) → (p : Playing)
+      → IsAt g.B.View p l.fn.engine
       → IsSoFar (beside g.B.View l.fn.answers) p (script_lines l.fn.script) l.lines l.number
       (with_answers l.fn.engine l.fn.out) (with_answers l.engine l.out);
   stands : (p : Playing) → IsAt g.B.View p l.fn.engine → (q : Playing) × IsAt g.B.View q l.engine;

@@ -12,7 +12,8 @@ invariant-loop-rest g l =
           × (IsTrue g.B.View.tells → (content (leaves_of l.engine)).now.said
           ≡ (content (leaves_of l.fn.engine)).now.said ++ take taken l.piece);
       script : (content (leaves_of l.engine)).script ≡ (content (leaves_of l.fn.engine)).script;
-      shelf : (content (leaves_of l.engine)).now.shelf ≡ (content (leaves_of l.fn.engine)).now.shelf;
+      shelf : (content (leaves_of l.engine)).now.shelf
+          ≡ (content (leaves_of l.fn.engine)).now.shelf;
       aside : (content (leaves_of l.engine)).aside ≡ (content (leaves_of l.fn.engine)).aside;
       counted : faults (leaves_of l.engine) ≡ faults (leaves_of l.fn.engine);
       same : IsSame g.B.View l.fn.engine l.engine;

@@ -7,7 +7,8 @@ loop-rest-preserved g c = record {
   part = (
     c.loop-rest.invariant.part.0 + c.in_ok-count.count,
     rest_more _ _ c.loop-rest.invariant.part.0 c.in_ok-count.count c.loop-rest.invariant.part.1,
-    λ t. said_more _ _ _ _ _ c.loop-rest.invariant.part.0 c.in_ok-count.count c.loop-rest.invariant.part.1
+    λ t. said_more _ _ _ _ _ c.loop-rest.invariant.part.0 c.in_ok-count.count
+        c.loop-rest.invariant.part.1
         (c.loop-rest.invariant.part.2 t) (c.in_ok-count.ensures.said t),
   );
   script = c.say.ensures.rest.script ∙ c.loop-rest.invariant.script;

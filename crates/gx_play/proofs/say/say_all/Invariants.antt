@@ -7,7 +7,8 @@ invariant-loop-rest g l =
     let content = g.D.Device.content in
     record {
       part : (taken : ℕ) × (l.rest ≡ drop taken l.piece)
-          × (IsTrue g.D.Device.tells → (content l.device).now.said ≡ (content l.fn.device).now.said ++ take taken l.piece);
+          × (IsTrue g.D.Device.tells
+          → (content l.device).now.said ≡ (content l.fn.device).now.said ++ take taken l.piece);
       script : (content l.device).script ≡ (content l.fn.device).script;
       aside : (content l.device).aside ≡ (content l.fn.device).aside;
       blocks : (content l.device).now.blocks ≡ (content l.fn.device).now.blocks;

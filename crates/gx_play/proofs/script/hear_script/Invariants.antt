@@ -7,7 +7,8 @@ abbrev pub invariant-loop-piece : goal.invariant-loop-piece
 invariant-loop-piece g l =
     let content = g.B.View.content in
     record {
-      heard : IsTrue g.B.View.tells → (content l.fn.leaves).script ≡ l.script.items ++ (content l.leaves).script;
+      heard : IsTrue g.B.View.tells
+          → (content l.fn.leaves).script ≡ l.script.items ++ (content l.leaves).script;
       small : vec_len l.script ≤ 16781312;
       counted : g.B.View.faults l.leaves ≡ g.B.View.faults l.fn.leaves;
       now : (content l.leaves).now ≡ (content l.fn.leaves).now;

@@ -5,4 +5,6 @@ use Rattle.gx_equation.specs.Trees.{kids_from}
 use Rattle.gx_printing.proofs.printing.+printing.Given as goal
 
 abbrev pub invariant-push_kids-loop-kid : goal.invariant-push_kids-loop-kid
-invariant-push_kids-loop-kid l = l.out.items ++ more_text (kids_from (trees_of (drop l.kid-index l.others))) ≡ l.initial.out.items ++ more_text (kids_from (trees_of l.others))
+invariant-push_kids-loop-kid l =
+    l.out.items ++ more_text (kids_from (trees_of (drop l.kid-index l.others)))
+    ≡ l.initial.out.items ++ more_text (kids_from (trees_of l.others))

@@ -13,7 +13,8 @@ returns-clause-built c = (
     owned =
         all_owned c.args.checked.schema (definitions_of c.args.checked.equation.definitions)
         c.args.checked.typing c.in_ok-built.built.specs c.in_ok-built.built.owners
-        c.requires.typed c.requires.leaves_are c.in_ok-built.ensures.leaves c.in_ok-built.ensures.owned.each;
+        c.requires.typed c.requires.leaves_are c.in_ok-built.ensures.leaves
+        c.in_ok-built.ensures.owned.each;
   },
 )
 

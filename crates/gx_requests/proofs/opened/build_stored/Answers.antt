@@ -17,7 +17,8 @@ returns-clause-built c = record {
     owned =
         all_owned c.args.checked.schema (definitions_of c.args.checked.equation.definitions)
         c.args.checked.typing c.in_ok-built.built.specs c.in_ok-built.built.owners
-        c.requires.typed c.requires.leaves_are c.in_ok-built.ensures.leaves c.in_ok-built.ensures.owned.each;
+        c.requires.typed c.requires.leaves_are c.in_ok-built.ensures.leaves
+        c.in_ok-built.ensures.owned.each;
   };
   schema_text_is = c.in_ok-schema_text.ensures.exact;
   equation_text_is = c.in_ok-equation_text.ensures.text;

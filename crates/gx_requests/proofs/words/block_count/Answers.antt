@@ -18,7 +18,8 @@ returns-in-Some-clause-some c =
 pub returns-in-Some-clause-none : goal.returns-in-Some-clause-none
 returns-in-Some-clause-none c =
     λ none. other_count c.args.word.now c.in-Some.number (search rules)
-    (subst (λ (z : ℤ). (n : ℕ) → n < 2 ^ 32 → z ≢ pos n) (fits c.in-Some.number (search rules)) (c.as_count.ensures.none none))
+    (subst (λ (z : ℤ). (n : ℕ) → n < 2 ^ 32 → z ≢ pos n) (fits c.in-Some.number (search rules))
+    (c.as_count.ensures.none none))
 
 pub returns-in-None-clause-none : goal.returns-in-None-clause-none
 returns-in-None-clause-none c = λ none. no_count c.args.word.now (search rules)

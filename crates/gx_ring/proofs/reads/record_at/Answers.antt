@@ -17,7 +17,13 @@ returns-clause-found g c =
     let old = c.args.leaves.now in
     let form = c.form.ensures in
     record_there rule t c.requires.one c.args.key.now c.requires.fits c.value_span-span.result
-    (λ x fits. c.value_span-span.ensures.those (x ∷ []) (subst (λ (f : Form). AreFit f.keys (x ∷ [])) (sym form) (fit_fields (tree_form rule t).keys (first_kind (tree_form rule t).keys ∷ []) (x ∷ []) c.requires.one (fits, tt))))
-    (b.whole old) (b.working old) (b.work old) (b.work c.select.new.leaves) c.select.new.out c.first_rec.result
-    (subst (λ rs. IsFound rule t (b.whole old) (b.working old) c.value_span-span.result (b.work old) (b.work c.select.new.leaves) rs c.select.new.out) c.new-found.ensures c.in_ok-select.ensures.found)
+    (λ x fits. c.value_span-span.ensures.those (x ∷ [])
+    (subst (λ (f : Form). AreFit f.keys (x ∷ [])) (sym form)
+    (fit_fields (tree_form rule t).keys (first_kind (tree_form rule t).keys ∷ [])
+    (x ∷ []) c.requires.one (fits, tt))))
+    (b.whole old) (b.working old) (b.work old) (b.work c.select.new.leaves) c.select.new.out
+    c.first_rec.result
+    (subst (λ rs. IsFound rule t (b.whole old) (b.working old) c.value_span-span.result (b.work old)
+    (b.work c.select.new.leaves) rs c.select.new.out) c.new-found.ensures
+    c.in_ok-select.ensures.found)
     c.first_rec.ensures

@@ -9,6 +9,10 @@ pub add_rows-requires : goal.add_rows-requires
 add_rows-requires c =
     let items = c.deref-owned-items.result.now in
     let is : items ≡ c.args.owners.now = search rules in
-    let each = c.requires c.owned-item.result (subst (In c.owned-item.result) is (in_read items c.loop-owned.owned-index c.owned-item.result c.owned-item.is c.loop-owned-test.true)) in
+    let each = c.requires c.owned-item.result
+    (subst (In c.owned-item.result) is
+    (in_read items c.loop-owned.owned-index c.owned-item.result c.owned-item.is
+    c.loop-owned-test.true)) in
     let these = c.deref.ensures.value ∙ ap (λ (g : Owned). g.members) c.owned.view_is in
-    λ m h. (let both = each m (subst (In m) these h) in (subst IsKeyValue (ap (λ (g : Owned). g.owner) (sym c.owned.view_is)) both.0, both.1))
+    λ m h. (let both = each m (subst (In m) these h) in
+    (subst IsKeyValue (ap (λ (g : Owned). g.owner) (sym c.owned.view_is)) both.0, both.1))

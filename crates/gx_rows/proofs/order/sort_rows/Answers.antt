@@ -11,11 +11,17 @@ use Rattle.gx_rows.proofs.order.sort_rows.Goals as goal
 
 pub returns-clause-in_order : goal.returns-clause-in_order
 returns-clause-in_order c =
-    c.in_ok-sort_by.ensures.sorted (λ (a b : Row). is_lt (row_cmp c.args.order a b)) (ranks_by (row_cmp_total c.args.order) (λ (r : Row). r))
-    (always_returns_same _ (λ a r. is_lt r ≡ is_lt (row_cmp c.args.order a.0.now a.1.0.now)) _ (λ a r q k. search rules))
+    c.in_ok-sort_by.ensures.sorted (λ (a b : Row). is_lt (row_cmp c.args.order a b))
+    (ranks_by (row_cmp_total c.args.order) (λ (r : Row). r))
+    (always_returns_same _ (λ a r. is_lt r ≡ is_lt (row_cmp c.args.order a.0.now a.1.0.now)) _
+    (λ a r q k. search rules))
 
 pub returns-clause-listed : goal.returns-clause-listed
 returns-clause-listed c f test is =
-    let up = c.in_ok-sort_by.ensures.sorted (λ (a b : Row). is_lt (row_cmp c.args.order a b)) (ranks_by (row_cmp_total c.args.order) (λ (r : Row). r))
-    (always_returns_same _ (λ a r. is_lt r ≡ is_lt (row_cmp c.args.order a.0.now a.1.0.now)) _ (λ a r q k. search rules)) in
-    is_listed f test c.args.order c.sort_by.new.self.items (IsPermutation-trans (filter test (fin.entries f)) _ c.sort_by.new.self.items is c.sort_by.ensures.permutation) up
+    let up = c.in_ok-sort_by.ensures.sorted (λ (a b : Row). is_lt (row_cmp c.args.order a b))
+    (ranks_by (row_cmp_total c.args.order) (λ (r : Row). r))
+    (always_returns_same _ (λ a r. is_lt r ≡ is_lt (row_cmp c.args.order a.0.now a.1.0.now)) _
+    (λ a r q k. search rules)) in
+    is_listed f test c.args.order c.sort_by.new.self.items
+    (IsPermutation-trans (filter test (fin.entries f)) _ c.sort_by.new.self.items is
+    c.sort_by.ensures.permutation) up

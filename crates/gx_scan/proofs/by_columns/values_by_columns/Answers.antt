@@ -96,7 +96,8 @@ returns-then-at-eq0 g c =
                 inv.reads.working
                 (selected.entries (inv.whole whole))),
           ));
-      reads = reads_passed b _ (passes_joined b (record { reads = inv.reads; whole = inv.whole; counted = inv.counted })
+      reads = reads_passed b _
+          (passes_joined b (record { reads = inv.reads; whole = inv.whole; counted = inv.counted })
           (read_passes b selected.reads));
     }
 
@@ -321,5 +322,6 @@ returns g c =
           key span c.requires.asked.fits c.requires.asked.bounds.lo c.requires.asked.bounds.hi most
           i _ _ few
           (omega (arith, many, ap length same)) (inv.steps f whole is);
-      reads = reads_passed b _ (record { reads = inv.reads; whole = inv.whole; counted = inv.counted });
+      reads = reads_passed b _
+          (record { reads = inv.reads; whole = inv.whole; counted = inv.counted });
     }

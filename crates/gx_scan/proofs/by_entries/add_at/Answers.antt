@@ -6,7 +6,7 @@ use Rattle.gx_values.specs.Keys.{bytes_of, is_inside}
 use Rattle.gx_model.specs.States.{Row}
 use Rattle.gx_model.specs.Found.{meets_conds}
 use Rattle.gx_stack.specs.Seen.{tree_of}
-use Rattle.gx_scan.specs.Files.{records_of}
+use Rattle.gx_scan.specs.Files.{file_records}
 use Rattle.gx_scan.specs.Entries.{entry_of_row, rows_at, IsStoredRow}
 use Rattle.gx_scan.proofs.EntryLemmas.{span_entries}
 use Rattle.gx_scan.proofs.ListingLemmas.{filter_twice}
@@ -29,15 +29,17 @@ returns-then-branch-clause-rows g c = λ f whole is.
     let lo = c.args.span.now.lo in
     let hi = c.args.span.now.hi in
     let inside = λ (r : Row). is_inside lo hi (bytes_of r.0) in
-    let union = (c.internal_is_union.ensures (records_of f) maps).0 is.held in
-    let stored = place_entries file t _ maps f c.requires.storable c.requires.tree is.fit union p c.requires.place in
+    let union = (c.internal_is_union.ensures (file_records f) maps).0 is.held in
+    let stored = place_entries file t _ maps f c.requires.storable c.requires.tree is.fit union p
+    c.requires.place in
     let same = span_entries _ p.lengths p.codes (rows_at t p.leaf f) lo hi _ _ _ stored
     c.clear.ensures (c.in_ok-select.ensures.ok whole) refl in
     let fit = all_filter (IsStoredRow file p.codes) inside (rows_at t p.leaf f)
     (rows_stored file t _ maps f c.requires.storable c.requires.tree is.fit p
     c.requires.place) in
     (c.in_ok-add_rows_at.ensures.chosen (filter inside (rows_at t p.leaf f)) (fit, same)).1
-    ∙ ap (λ (l : List Row). c.args.rows.now.items ++ l) (filter_twice (meets_conds c.args.conds.now) inside (rows_at t p.leaf f))
+    ∙ ap (λ (l : List Row). c.args.rows.now.items ++ l)
+    (filter_twice (meets_conds c.args.conds.now) inside (rows_at t p.leaf f))
 
 pub returns-else-branch-clause-reads : goal.returns-else-branch-clause-reads
 returns-else-branch-clause-reads g c = record {
@@ -57,8 +59,9 @@ returns-else-branch-clause-reads g c = record {
         let inside = λ (r : Row). is_inside lo hi (bytes_of r.0) in
         let f = sound.1.0 in
         let is = sound.1.1 in
-        let union = (c.internal_is_union.ensures (records_of f) maps).0 is.held in
-        let stored = place_entries file t _ maps f c.requires.storable c.requires.tree is.fit union p c.requires.place in
+        let union = (c.internal_is_union.ensures (file_records f) maps).0 is.held in
+        let stored = place_entries file t _ maps f c.requires.storable c.requires.tree is.fit union
+        p c.requires.place in
         let same = span_entries _ p.lengths p.codes (rows_at t p.leaf f) lo hi _ _ _ stored
         c.clear.ensures (c.in_ok-select.ensures.ok sound.0) refl in
         let fit = all_filter (IsStoredRow file p.codes) inside (rows_at t p.leaf f)
@@ -81,11 +84,13 @@ returns-then-branch-clause-steps g c = λ f whole is.
     let lo = c.args.span.now.lo in
     let hi = c.args.span.now.hi in
     let rows = filter (λ (r : Row). is_inside lo hi (bytes_of r.0)) (rows_at t p.leaf f) in
-    let union = (c.internal_is_union.ensures (records_of f) maps).0 is.held in
-    let stored = place_entries file t _ maps f c.requires.storable c.requires.tree is.fit union p c.requires.place in
+    let union = (c.internal_is_union.ensures (file_records f) maps).0 is.held in
+    let stored = place_entries file t _ maps f c.requires.storable c.requires.tree is.fit union p
+    c.requires.place in
     let same = span_entries _ p.lengths p.codes (rows_at t p.leaf f) lo hi _ _ _ stored
     c.clear.ensures (c.in_ok-select.ensures.ok whole) refl in
-    counted_most _ _ (length c.select.new.out - length c.clear.new.self) (length rows) c.in_ok-select.ensures.steps
+    counted_most _ _ (length c.select.new.out - length c.clear.new.self)
+    (length rows) c.in_ok-select.ensures.steps
     (omega (
       arith,
       ap length same,

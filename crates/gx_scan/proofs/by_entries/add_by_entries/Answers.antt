@@ -57,9 +57,12 @@ loop-place-preserved g c =
       rows = λ f whole is.
           let so_far = inv.rows f whole is in
           let more = filter test (rows_at t p.leaf f) in
-          let now = e.rows f (inv.whole whole) (subst (λ (maps : List LeafMap). IsInternal c.args.file.now t maps f) (sym inv.reads.working) is) in (
+          let now = e.rows f (inv.whole whole)
+          (subst (λ (maps : List LeafMap). IsInternal c.args.file.now t maps f)
+          (sym inv.reads.working) is) in (
             so_far.0 ++ more,
-            now ∙ ap (λ (l : List Row). l ++ more) so_far.1 ∙ append_assoc c.args.rows.now.items so_far.0 more,
+            now ∙ ap (λ (l : List Row). l ++ more) so_far.1
+                ∙ append_assoc c.args.rows.now.items so_far.0 more,
             place_chosen t test f ps i p so_far.0 (so_far.0 ++ more)
                 (subst IsOnce (sym are.leaves) (data_once t c.requires.tree.valid))
                 c.loop-place-test.true c.place-item.is so_far.2 refl,
@@ -68,7 +71,9 @@ loop-place-preserved g c =
           let inside = is_key_inside c.args.span.now in
           let so_far = inv.steps f whole is in
           let more = filter inside (rows_at t p.leaf f) in
-          let now = e.steps f (inv.whole whole) (subst (λ (maps : List LeafMap). IsInternal c.args.file.now t maps f) (sym inv.reads.working) is) in (
+          let now = e.steps f (inv.whole whole)
+          (subst (λ (maps : List LeafMap). IsInternal c.args.file.now t maps f)
+          (sym inv.reads.working) is) in (
             so_far.0 ++ more,
             place_chosen t inside f ps i p so_far.0 (so_far.0 ++ more)
                 (subst IsOnce (sym are.leaves) (data_once t c.requires.tree.valid))

@@ -39,11 +39,17 @@ loop-key-preserved g c =
     let inv = c.loop-key.invariant in
     let e = c.in_ok-add_by_key.ensures in record {
       rows = λ f whole is.
-          let now = e.rows f (inv.whole whole) (subst (λ (maps : List LeafMap). IsInternal c.args.file.now t maps f) (sym inv.reads.working) is) in
-          rows_next f (meets_conds c.args.conds.now) keys i key _ _ _ c.key-item.is c.loop-key-test.true now (inv.rows f whole is);
+          let now = e.rows f (inv.whole whole)
+          (subst (λ (maps : List LeafMap). IsInternal c.args.file.now t maps f)
+          (sym inv.reads.working) is) in
+          rows_next f (meets_conds c.args.conds.now) keys i key _ _ _ c.key-item.is
+          c.loop-key-test.true now (inv.rows f whole is);
       steps = λ f most whole is few.
-          let now = e.steps f most (inv.whole whole) (subst (λ (maps : List LeafMap). IsInternal c.args.file.now t maps f) (sym inv.reads.working) is) few in
-          taken_more keys i (length (leaves_of t) + most) _ _ _ c.loop-key-test.true (inv.steps f most whole is few) now;
+          let now = e.steps f most (inv.whole whole)
+          (subst (λ (maps : List LeafMap). IsInternal c.args.file.now t maps f)
+          (sym inv.reads.working) is) few in
+          taken_more keys i (length (leaves_of t) + most) _ _ _ c.loop-key-test.true
+          (inv.steps f most whole is few) now;
       front = (
         inv.front.0 ++ e.front.0,
         e.front.1 ∙ ap (λ (l : List Row). l ++ e.front.0) inv.front.1

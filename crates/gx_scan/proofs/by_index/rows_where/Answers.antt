@@ -7,7 +7,7 @@ use Rattle.gx_mapping.specs.Rule.{In}
 use Rattle.gx_stack.specs.Seen.{tree_of}
 use Rattle.gx_stack.specs.Internal.{IsSet}
 use Rattle.gx_model.specs.Found.{meets_conds}
-use Rattle.gx_scan.specs.Files.{IsInternal, records_of}
+use Rattle.gx_scan.specs.Files.{IsInternal, file_records}
 use Rattle.gx_scan.specs.Entries.{ArePlaces}
 use Rattle.gx_scan.specs.Where.{rows_at_key}
 use Rattle.gx_mapping.specs.Rule.{kind_in}
@@ -26,22 +26,31 @@ use Rattle.gx_scan.proofs.by_index.rows_where.Goals as goal
 pub keys_where-requires-clause-span : goal.keys_where-requires-clause-span
 keys_where-requires-clause-span g c = λ kind e.
     let file = c.args.file.now in
-    let named = ap (λ (name : List ℕ). kind_in (tree_form any_rule (tree_of c.args.node.now)).fields name) (sym c.field_name-name.ensures) ∙ e in
-    span_named c.args.file.now (tree_of c.args.node.now) c.args.field c.args.span.now kind c.requires.tree.form
-    (named_at c.args.file.now c.args.field c.requires.named c.requires.past_key c.requires.in_file) c.requires.span named
+    let named = ap (λ (name : List ℕ). kind_in (tree_form any_rule (tree_of c.args.node.now)).fields
+    name) (sym c.field_name-name.ensures) ∙ e in
+    span_named c.args.file.now (tree_of c.args.node.now) c.args.field c.args.span.now kind
+    c.requires.tree.form
+    (named_at c.args.file.now c.args.field c.requires.named c.requires.past_key c.requires.in_file)
+    c.requires.span named
 
 pub keys_where-requires-clause-indexed : goal.keys_where-requires-clause-indexed
-keys_where-requires-clause-indexed g c = subst (λ (name : List ℕ). is_indexed any_rule (tree_of c.args.node.now) name ≡ true) (sym c.field_name-name.ensures) c.requires.indexed
+keys_where-requires-clause-indexed g c =
+    subst (λ (name : List ℕ). is_indexed any_rule (tree_of c.args.node.now) name ≡ true)
+    (sym c.field_name-name.ensures) c.requires.indexed
 
 pub add_by_keys-requires-clause-places : goal.add_by_keys-requires-clause-places
-add_by_keys-requires-clause-places g c = places_lent (λ ps. ps.now) (λ ps. ps.items) (ArePlaces 0 (tree_of c.args.node.now)) c.as_deref.result c.in_ok-places.places c.as_deref.ensures.value c.in_ok-places.ensures
+add_by_keys-requires-clause-places g c =
+    places_lent (λ ps. ps.now) (λ ps. ps.items) (ArePlaces 0 (tree_of c.args.node.now))
+    c.as_deref.result c.in_ok-places.places c.as_deref.ensures.value c.in_ok-places.ensures
 
 pub add_by_keys-requires-clause-fit : goal.add_by_keys-requires-clause-fit
 add_by_keys-requires-clause-fit g c = λ key h.
     let found = c.in_ok-keys_where.ensures.found in
-    let all = found.appended ∙ ap (λ (before : List (List Value)). before ++ found.keys) c.new-keys.ensures in
+    let all = found.appended
+    ∙ ap (λ (before : List (List Value)). before ++ found.keys) c.new-keys.ensures in
     let slice : c.as_slice.result.now ≡ c.keys_where.new.out = search rules in
-    subst (λ form. AreFit form.keys key) c.requires.tree.form (found.fit key (subst (In key) (slice ∙ all) h))
+    subst (λ form. AreFit form.keys key) c.requires.tree.form
+    (found.fit key (subst (In key) (slice ∙ all) h))
 
 pub returns-in_err-keys_where : goal.returns-in_err-keys_where
 returns-in_err-keys_where g c = record {
@@ -53,9 +62,9 @@ returns-in_err-keys_where g c = record {
       c.from_residual-in_err-keys_where.ensures.1
       (λ sound.
       let f = sound.1.0 in
-      let set = subst (λ form. IsSet form (records_of f)) (sym c.requires.tree.form)
+      let set = subst (λ form. IsSet form (file_records f)) (sym c.requires.tree.form)
       (set_of c.args.file.now f c.requires.storable.keyed sound.1.1.fit) in
-      (sound.0, (records_of f, set, sound.1.1.held)))
+      (sound.0, (file_records f, set, sound.1.1.held)))
       c.in_err-keys_where.ensures.reads;
 }
 
@@ -65,7 +74,7 @@ returns g c = record {
       let t = tree_of c.args.node.now in
       let file = c.args.file.now in
       let keys = c.in_ok-keys_where.ensures in
-      let set = subst (λ form. IsSet form (records_of f)) (sym c.requires.tree.form)
+      let set = subst (λ form. IsSet form (file_records f)) (sym c.requires.tree.form)
       (set_of file f c.requires.storable.keyed is.fit) in
       let slice : c.as_slice.result.now ≡ c.keys_where.new.out = search rules in
       let all = slice ∙ keys.found.appended
@@ -76,9 +85,9 @@ returns g c = record {
       found_where file t c.args.field c.args.span.now c.args.conds.now f _ _ keys.found.keys _ _
       c.requires.tree.form (named_at file c.args.field c.requires.named c.requires.past_key
       c.requires.in_file) is.fit (subst
-      (λ (name : List ℕ). AreKeysOf any_rule t name c.args.span.now (records_of f)
+      (λ (name : List ℕ). AreKeysOf any_rule t name c.args.span.now (file_records f)
       (g.B.View.work c.args.leaves.now) (g.B.View.work c.keys_where.new.leaves) keys.found.keys)
-      c.field_name-name.ensures (keys.found.those whole (records_of f) set is.held))
+      c.field_name-name.ensures (keys.found.those whole (file_records f) set is.held))
       (now ∙ ap (λ (ks : List (List Value)). c.args.rows.now.items
       ++ filter (meets_conds c.args.conds.now) (flat_map (rows_at_key f) ks)) all);
   steps = λ f most whole is few.
@@ -87,14 +96,14 @@ returns g c = record {
       let field = c.args.field in
       let span = c.args.span.now in
       let keys = c.in_ok-keys_where.ensures in
-      let set = subst (λ form. IsSet form (records_of f)) (sym c.requires.tree.form)
+      let set = subst (λ form. IsSet form (file_records f)) (sym c.requires.tree.form)
       (set_of file f c.requires.storable.keyed is.fit) in
       let slice : c.as_slice.result.now ≡ c.keys_where.new.out = search rules in
       let all = slice ∙ keys.found.appended
       ∙ ap (λ (before : List (List Value)). before ++ keys.found.keys) c.new-keys.ensures in
-      let are = subst (λ (name : List ℕ). AreKeysOf any_rule t name span (records_of f)
+      let are = subst (λ (name : List ℕ). AreKeysOf any_rule t name span (file_records f)
       (g.B.View.work c.args.leaves.now) (g.B.View.work c.keys_where.new.leaves) keys.found.keys)
-      c.field_name-name.ensures (keys.found.those whole (records_of f) set is.held) in
+      c.field_name-name.ensures (keys.found.those whole (file_records f) set is.held) in
       let named = named_at file field c.requires.named c.requires.past_key c.requires.in_file in
       let now = c.in_ok-add_by_keys.ensures.steps f most (keys.reads.ends.whole whole)
       (subst (λ (maps : List LeafMap). IsInternal file t maps f) (sym keys.reads.reads.working) is)

@@ -13,7 +13,7 @@ use Rattle.gx_schema.specs.Lookups.{data_fields}
 use Rattle.gx_ports.specs.LeafMaps.{entry_of}
 use Rattle.gx_stack.specs.Seen.{tree_of}
 use Rattle.gx_model.specs.States.{Row}
-use Rattle.gx_scan.specs.Files.{records_of}
+use Rattle.gx_scan.specs.Files.{file_records}
 use Rattle.gx_scan.specs.Entries.{entry_of_row, rows_at, IsStoredRow}
 use Rattle.gx_scan.proofs.EntryLemmas.{span_entries}
 use Rattle.gx_scan.proofs.KeyLemmas.{row_values}
@@ -25,7 +25,8 @@ use Rattle.gx_scan.proofs.by_key.values_at.Goals as goal
 pub select-requires : goal.select-requires
 select-requires g c =
     c.requires.asked.tree.below c.args.place.now.leaf
-    (place_there (tree_of c.args.node.now) c.args.place.now (at_one (tree_of c.args.node.now) c.args.place.now c.requires.place))
+    (place_there (tree_of c.args.node.now) c.args.place.now
+    (at_one (tree_of c.args.node.now) c.args.place.now c.requires.place))
 
 pub returns-in_default : goal.returns-in_default
 returns-in_default g c = record {
@@ -50,10 +51,11 @@ returns-in_default g c = record {
           let inside = λ (r : Row). is_inside span.lo span.hi (bytes_of r.0) in
           let f = sound.1.0 in
           let is = sound.1.1 in
-          let union = (c.internal_is_union.ensures (records_of f) maps).0 is.held in
+          let union = (c.internal_is_union.ensures (file_records f) maps).0 is.held in
           let stored = place_entries file t _ maps f c.requires.asked.storable c.requires.asked.tree
           is.fit union p at in
-          let same = span_entries _ p.lengths p.codes (rows_at t p.leaf f) span.lo span.hi _ _ _ stored
+          let same = span_entries _ p.lengths p.codes (rows_at t p.leaf f) span.lo span.hi _ _ _
+          stored
           c.new-entries.ensures (c.in_ok-select.ensures.ok sound.0) refl in
           let fit = all_filter (IsStoredRow file p.codes) inside (rows_at t p.leaf f)
           (rows_stored file t _ maps f c.requires.asked.storable c.requires.asked.tree is.fit p at)
@@ -62,7 +64,8 @@ returns-in_default g c = record {
           c.requires.place key span c.requires.asked.fits c.requires.asked.bounds.lo
           c.requires.asked.bounds.hi in
           let one = option_map (λ (vs : List Value). (key, vs)) (fin.get f key) in
-          let found = c.in_ok-values.ensures.read one (subst (AllByRecursion (IsStoredRow file p.codes)) rows fit)
+          let found = c.in_ok-values.ensures.read one
+          (subst (AllByRecursion (IsStoredRow file p.codes)) rows fit)
           (same ∙ ap (map (λ (r : Row). entry_of (entry_of_row p.lengths p.codes r))) rows) in
           let none = c.in_default.is in
           cc;
@@ -83,7 +86,7 @@ returns g c = record {
       let key = c.args.key.now in
       let span = c.args.span.now in
       let inside = λ (r : Row). is_inside span.lo span.hi (bytes_of r.0) in
-      let union = (c.internal_is_union.ensures (records_of f) maps).0 is.held in
+      let union = (c.internal_is_union.ensures (file_records f) maps).0 is.held in
       let stored = place_entries file t _ maps f c.requires.asked.storable c.requires.asked.tree
       is.fit union p at in
       let same = span_entries _ p.lengths p.codes (rows_at t p.leaf f) span.lo span.hi _ _ _ stored
@@ -94,10 +97,12 @@ returns g c = record {
       c.requires.place
       key span c.requires.asked.fits c.requires.asked.bounds.lo c.requires.asked.bounds.hi in
       let one = option_map (λ (vs : List Value). (key, vs)) (fin.get f key) in
-      let found = c.in_ok-values.ensures.read one (subst (AllByRecursion (IsStoredRow file p.codes)) rows fit)
+      let found = c.in_ok-values.ensures.read one
+      (subst (AllByRecursion (IsStoredRow file p.codes)) rows fit)
       (same ∙ ap (map (λ (r : Row). entry_of (entry_of_row p.lengths p.codes r))) rows) in
       same_Some c.in-Some.values _ (sym c.in-Some.is ∙ found) ∙ row_values key (fin.get f key);
-  fits = subst (λ o. IfSome o (λ values. IfSome values (AreFit (data_fields c.args.file.now)))) c.in-Some.is
+  fits = subst (λ o. IfSome o (λ values. IfSome values (AreFit (data_fields c.args.file.now))))
+      c.in-Some.is
       c.in_ok-values.ensures.fits;
   steps = λ f most whole is few.
       let file = c.args.file.now in
@@ -106,13 +111,15 @@ returns g c = record {
       let at = at_one t p c.requires.place in
       let maps = g.B.View.working c.args.leaves.now in
       let span = c.args.span.now in
-      let rows = filter (λ (r : Row). is_inside span.lo span.hi (bytes_of r.0)) (rows_at t p.leaf f) in
-      let union = (c.internal_is_union.ensures (records_of f) maps).0 is.held in
+      let rows = filter (λ (r : Row). is_inside span.lo span.hi (bytes_of r.0)) (rows_at t p.leaf f)
+      in
+      let union = (c.internal_is_union.ensures (file_records f) maps).0 is.held in
       let stored = place_entries file t _ maps f c.requires.asked.storable c.requires.asked.tree
       is.fit union p at in
       let same = span_entries _ p.lengths p.codes (rows_at t p.leaf f) span.lo span.hi _ _ _ stored
       c.new-entries.ensures (c.in_ok-select.ensures.ok whole) refl in
-      let step = counted_most _ _ (length c.select.new.out - length c.new-entries.result) (length rows) c.in_ok-select.ensures.steps
+      let step = counted_most _ _ (length c.select.new.out - length c.new-entries.result)
+      (length rows) c.in_ok-select.ensures.steps
       (omega (
         arith,
         ap length same,

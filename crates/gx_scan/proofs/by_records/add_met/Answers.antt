@@ -12,5 +12,6 @@ into_row-row-requires-clause-fits c =
     let rest = into_iter_items c.next.new.self in
     let given : into_iter_items c.into_iter-rec-iterator.result ≡ c.args.found = search rules in
     let steps : into_iter_items at.rec-iterator ≡ r ∷ rest = c.in-Some.ensures.steps.0 in
-    let all : at.yielded ++ (r ∷ rest) ≡ c.args.found = ap (λ (l : List Rec). at.yielded ++ l) (sym steps) ∙ at.invariant.left ∙ given in
+    let all : at.yielded ++ (r ∷ rest) ≡ c.args.found =
+    ap (λ (l : List Rec). at.yielded ++ l) (sym steps) ∙ at.invariant.left ∙ given in
     c.requires.fit r (subst (In r) all (in_right r at.yielded (r ∷ rest) (inl refl)))

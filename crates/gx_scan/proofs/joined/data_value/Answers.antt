@@ -27,7 +27,8 @@ returns-then-at-index c = λ vs fit same.
     let mask = c.args.mask.now in
     let at = joined_at c.args.fields.now mask vs i c.index-fields-at.result (get_or mask i false)
     fit c.loop-at-test.true c.requires.long c.index-fields-at.is refl in
-    let found = c.in_ok-value.ensures at.value (body_of (chosen (drop (i + 1) mask) (drop (i + 1)
+    let found = c.in_ok-value.ensures.found at.value
+    (body_of (chosen (drop (i + 1) mask) (drop (i + 1)
     vs)))
     at.fits (c.loop-at.invariant vs fit same ∙ at.first
     ∙ kept (get_or mask i false) _ _ c.if-not-mask-at.false) in
@@ -39,6 +40,6 @@ loop-at-preserved c = λ vs fit same.
     let mask = c.args.mask.now in
     let at = joined_at c.args.fields.now mask vs i c.index-fields-at.result (get_or mask i false)
     fit c.loop-at-test.true c.requires.long c.index-fields-at.is refl in
-    (c.in_ok-value.ensures at.value (body_of (chosen (drop (i + 1) mask) (drop (i + 1) vs)))
+    (c.in_ok-value.ensures.found at.value (body_of (chosen (drop (i + 1) mask) (drop (i + 1) vs)))
     at.fits (c.loop-at.invariant vs fit same ∙ at.first
     ∙ kept (get_or mask i false) _ _ c.if-not-mask-at.false)).1

@@ -64,7 +64,9 @@ loop-child-preserved t c =
       | then-holds_rest+in_ok-add_places-in-Layer+else-not-branch w ↦ (
           let one = w.in_ok-add_places-in-Layer.ensures w.if-not-branch.false in (
             so_far.0 ++ one.0,
-            ap (λ (v : Vec Place Global). v.items) w.places-is ∙ one.1 ∙ ap (λ (ps : List Place). ps ++ one.0) so_far.1 ∙ append_assoc c.args.places.now.items so_far.0 one.0,
+            ap (λ (v : Vec Place Global). v.items) w.places-is ∙ one.1
+                ∙ ap (λ (ps : List Place). ps ++ one.0) so_far.1
+                ∙ append_assoc c.args.places.now.items so_far.0 one.0,
             kid_placed l.mapping c.in-Some.below.layers c.in-Some.below.codes l.kids.items child
                 w.index-kid.result.now so_far.0 one.0 there
                 (sym c.holds_rest.ensures ∙ w.if-holds_rest.true) w.index-kid.ensures so_far.2
@@ -111,10 +113,12 @@ returns-after-loop-child t c = λ whole.
     (λ o. IfSome o
     (λ b. PassesOn (any_rule l.mapping) c.args.above.now.layers c.args.above.now.codes b.layers
     b.codes)) c.in-Some.is c.in_ok-below-in-Layer.ensures in
-    let end : length l.kids.items ≤ i = omega (arith, c.loop-child-test.false, c.kids-child-end.ensures, kids_many c.args.node.now l c.in-Layer.is c.requires.valid) in (
+    let end : length l.kids.items ≤ i =
+    omega (arith, c.loop-child-test.false, c.kids-child-end.ensures, kids_many c.args.node.now l c.in-Layer.is c.requires.valid) in (
       so_far.0,
       so_far.1,
       layer_placed c.args.node.now l c.args.above.now.layers
-          c.args.above.now.codes b.layers b.codes i so_far.0 c.in-Layer.is c.requires.valid passes end
+          c.args.above.now.codes b.layers b.codes i so_far.0 c.in-Layer.is c.requires.valid passes
+          end
           so_far.2,
     )

@@ -17,7 +17,8 @@ place_below-requires t c =
     let l = c.in-Layer.layer in
     let is = c.in-Layer.is in
     let k = c.index.result.now in
-    let within : 0 < (any_rule l.mapping).kids = omega (arith, c.kids.ensures, c.if-kids-ne1.false) in
+    let within : 0 < (any_rule l.mapping).kids = omega (arith, c.kids.ensures, c.if-kids-ne1.false)
+    in
     let there = child_there any_rule node l is 0 c.requires.valid within in
     let read = c.index.ensures in
     let v = child_valid any_rule node l is 0 k c.requires.valid there read in
@@ -43,7 +44,8 @@ returns-else-changed-eq0 t c =
       | else-changed-eq0-via-else-changed-eq0 w ↦
           (λ none. absurd (omega (arith, none, w.if-changed-eq0.false)))
     ] in
-    leaf_placed c.args.node.now c.in-Leaf.node changed.layers changed.codes p c.in-Leaf.is c.requires.valid
+    leaf_placed c.args.node.now c.in-Leaf.node changed.layers changed.codes p c.in-Leaf.is
+    c.requires.valid
     outside c.requires.plain refl c.saturating_sub.ensures refl
 
 pub returns-in-Some : goal.returns-in-Some
@@ -59,7 +61,9 @@ returns-in-Some t c =
     (λ b. PassesOn (any_rule l.mapping) changed.layers changed.codes b.layers
     b.codes)) c.in-Some.is c.in_ok-below-in-Layer.ensures in
     if_placed (λ (p : Place). ArePlacesBelow below.layers below.codes (tree_of k) (p ∷ []))
-    (λ (p : Place). ArePlacesBelow changed.layers changed.codes (tree_of node) (p ∷ [])) c.place_below.result
-    (λ p placed. one_below node l changed.layers changed.codes below.layers below.codes k p c.in-Layer.is c.requires.valid passes one
+    (λ (p : Place). ArePlacesBelow changed.layers changed.codes (tree_of node) (p ∷ []))
+    c.place_below.result
+    (λ p placed. one_below node l changed.layers changed.codes below.layers below.codes k p
+    c.in-Layer.is c.requires.valid passes one
     (sym c.holds_rest.ensures ∙ c.if-not-holds_rest.false) c.index.ensures placed)
     c.place_below.ensures

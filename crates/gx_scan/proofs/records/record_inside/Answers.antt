@@ -2,7 +2,7 @@ use Rattle.std.proofs.Common.{rules, ◌∙◌, ◌++◌, List, sym, ap, subst, 
 use Rattle.gx_values.specs.declared.records.Rec.{Rec}
 use Rattle.gx_stack.specs.Internal.{IsSet}
 use Rattle.gx_stack.specs.Selected.{IsKeySpan}
-use Rattle.gx_scan.specs.Files.{records_of}
+use Rattle.gx_scan.specs.Files.{file_records}
 use Rattle.gx_scan.specs.Records.{record_at}
 use Rattle.gx_stack.specs.Seen.{tree_of}
 use Rattle.gx_stack.proofs.PassLemmas.{reads_given}
@@ -25,9 +25,9 @@ returns-in_err-select g c = record {
   reads = reads_given g.B.View c.from_residual.result c.from_residual.ensures.1
       (λ sound.
       let f = sound.1.0 in
-      let set = subst (λ form. IsSet form (records_of f)) (sym c.requires.asked.tree.form) (set_of
+      let set = subst (λ form. IsSet form (file_records f)) (sym c.requires.asked.tree.form) (set_of
       c.args.file.now f c.requires.asked.storable.keyed sound.1.1.fit) in
-      (sound.0, (records_of f, set, sound.1.1.held)))
+      (sound.0, (file_records f, set, sound.1.1.held)))
       c.in_err-select.ensures.reads;
 }
 
@@ -35,19 +35,20 @@ pub returns : goal.returns
 returns g c = record {
   found = λ f whole is.
       let found = c.in_ok-select.ensures.found in
-      let set = subst (λ form. IsSet form (records_of f)) (sym c.requires.asked.tree.form) (set_of
+      let set = subst (λ form. IsSet form (file_records f)) (sym c.requires.asked.tree.form) (set_of
       c.args.file.now f c.requires.asked.storable.keyed is.fit) in
       let one = one_found c.args.file.now f c.args.key.now c.args.span.now found.found
       c.requires.asked.storable.keyed c.requires.asked.storable.key c.requires.asked.fits is.fit
       c.requires.asked.bounds.lo
-      c.requires.asked.bounds.hi (found.selected whole (records_of f) set is.held) in
-      c.last_record.ensures.last (record_at f c.args.key.now) (found.appended ∙ ap (λ (before : List Rec). before ++ found.found) c.new-found.ensures ∙ one);
+      c.requires.asked.bounds.hi (found.selected whole (file_records f) set is.held) in
+      c.last_record.ensures.last (record_at f c.args.key.now) (found.appended
+      ∙ ap (λ (before : List Rec). before ++ found.found) c.new-found.ensures ∙ one);
   fits = search rules;
   steps = λ f most whole is few.
       let found = c.in_ok-select.ensures.found in
-      let set = subst (λ form. IsSet form (records_of f)) (sym c.requires.asked.tree.form) (set_of
+      let set = subst (λ form. IsSet form (file_records f)) (sym c.requires.asked.tree.form) (set_of
       c.args.file.now f c.requires.asked.storable.keyed is.fit) in
-      let those = found.selected whole (records_of f) set is.held in
+      let those = found.selected whole (file_records f) set is.held in
       let one = one_found c.args.file.now f c.args.key.now c.args.span.now found.found
       c.requires.asked.storable.keyed c.requires.asked.storable.key c.requires.asked.fits is.fit
       c.requires.asked.bounds.lo

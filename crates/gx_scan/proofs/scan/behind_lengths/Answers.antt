@@ -9,5 +9,6 @@ returns-in_err-values c = λ r same.
 
 pub returns : goal.returns
 returns c = λ r same.
-    let back : c.in_ok-values.values.now ≡ drop (2 * c.args.lengths) c.args.body.now = c.in_ok-values.ensures.cases.2 in
+    let back : c.in_ok-values.values.now ≡ drop (2 * c.args.lengths) c.args.body.now =
+    c.in_ok-values.ensures.cases.2 in
     back ∙ ap (drop (2 * c.args.lengths)) same ∙ (values_behind c.args.lengths r).is

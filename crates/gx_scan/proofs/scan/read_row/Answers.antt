@@ -9,13 +9,20 @@ use Rattle.gx_scan.proofs.scan.read_row.Goals as goal
 
 pub invariant_of-result : goal.invariant_of-result
 invariant_of-result c =
-    let key = subst (IsRead bytes_of c.index.result.now.kind c.args.key.now) c.in-Some.is c.in_ok-key.ensures in
-    let values = subst (AreRead field_bytes c.data_fields.result.now c.args.body.now) c.in-Some-2.is c.in_ok-values.ensures in
+    let key = subst (IsRead bytes_of c.index.result.now.kind c.args.key.now) c.in-Some.is
+    c.in_ok-key.ensures in
+    let values = subst (AreRead field_bytes c.data_fields.result.now c.args.body.now) c.in-Some-2.is
+    c.in_ok-values.ensures in
     (fit_sized _ c.in-Some.key key.0, are_sized _ c.in-Some-2.values values.0)
 
 pub returns-clause-read : goal.returns-clause-read
 returns-clause-read c r fit key_is body_is =
-    let key = subst (IsRead bytes_of c.index.result.now.kind c.args.key.now) c.in-Some.is c.in_ok-key.ensures in
-    let values = subst (AreRead field_bytes c.data_fields.result.now c.args.body.now) c.in-Some-2.is c.in_ok-values.ensures in
-    row_read c.args.file.now c.index.result.now.kind c.args.key.now c.args.body.now c.data_fields.result.now c.in-Some.key c.in-Some-2.values r c.requires
-    (kind_is c.args.file.now c.index.result.now c.requires (c.index.ensures ∙ ap (λ (f : FileDef). get_or f.fields 0 c.index.result.now) c.file.view_is)) c.data_fields.ensures key_is body_is key values fit
+    let key = subst (IsRead bytes_of c.index.result.now.kind c.args.key.now) c.in-Some.is
+    c.in_ok-key.ensures in
+    let values = subst (AreRead field_bytes c.data_fields.result.now c.args.body.now) c.in-Some-2.is
+    c.in_ok-values.ensures in
+    row_read c.args.file.now c.index.result.now.kind c.args.key.now c.args.body.now
+    c.data_fields.result.now c.in-Some.key c.in-Some-2.values r c.requires
+    (kind_is c.args.file.now c.index.result.now c.requires (c.index.ensures
+    ∙ ap (λ (f : FileDef). get_or f.fields 0 c.index.result.now) c.file.view_is))
+    c.data_fields.ensures key_is body_is key values fit

@@ -34,5 +34,6 @@ returns t c =
     let l = c.in-Layer.layer in
     let k = c.index-kid.result.now in
     let passes = subst (Passes (any_rule l.mapping)) c.in-Whole.is c.passing.ensures in
-    one_down n l c.in-Layer.is c.requires.valid passes c.args.span.now c.in-Some.child c.in-Some.ensures.alone k c.index-kid.ensures
+    one_down n l c.in-Layer.is c.requires.valid passes c.args.span.now c.in-Some.child
+    c.in-Some.ensures.alone k c.index-kid.ensures
     (tree_of c.searched_node.result.now) c.searched_node.ensures

@@ -10,14 +10,14 @@ pub returns-in_err-bytes-in-Some : goal.returns-in_err-bytes-in-Some
 returns-in_err-bytes-in-Some c = λ v more fits has same.
     let code = c.in-Some.field-0 in
     let coded = subst (λ o. HasCode o v) c.in-Some.is has in
-    absurd (c.in_err-bytes-in-Some.ensures (code_of code v) more (code_short code v coded)
+    absurd (c.in_err-bytes-in-Some.ensures.found (code_of code v) more (code_short code v coded)
     (subst (λ o. c.args.rest.now ≡ field_bytes (stored_value o v) ++ more) c.in-Some.is same))
 
 pub returns-in_ok-bytes-in-Some : goal.returns-in_ok-bytes-in-Some
 returns-in_ok-bytes-in-Some c = λ v more fits has same.
     let code = c.in-Some.field-0 in
     let coded = subst (λ o. HasCode o v) c.in-Some.is has in
-    let front = c.in_ok-bytes-in-Some.ensures (code_of code v) more (code_short code v coded)
+    let front = c.in_ok-bytes-in-Some.ensures.found (code_of code v) more (code_short code v coded)
     (subst (λ o. c.args.rest.now ≡ field_bytes (stored_value o v) ++ more) c.in-Some.is same) in (
       ap (λ (l : List ℕ). value.Bytes l) front.0 ∙ ap (λ o. stored_value o v) (sym c.in-Some.is),
       front.1,

@@ -2,7 +2,7 @@ use Rattle.std.proofs.Common.{◌≡◌, List, ℕ, Result, Ok, Err, refl, sym, 
 use Rattle.std.specs.Prelude.{IfOk, IfErr}
 use Rattle.gx_tokens.specs.declared.why.Unread.{Unread}
 use Rattle.gx_tokens.specs.declared.why.Unread.TheVariants as unread
-use Rattle.gx_tokens.specs.Reading.{IsUnlessNoMemory, with_line}
+use Rattle.gx_tokens.specs.Reading.{IsUnlessNoMemory, with_fault_line}
 use Rattle.gx_schema.specs.declared.schema.Schema.{Schema}
 use Rattle.gx_schema.specs.Grammar.{IsSchemaText}
 use Rattle.gx_schema.specs.Reading.{all_items, schema_of}
@@ -20,7 +20,8 @@ use Rattle.gx_schema.proofs.read.read_schema.Goals as goal
 abbrev answered : Schema → Result Schema Unread
 answered s = Ok s
 
-is_found : (bytes : List ℕ) (r : Result Schema Unread) → IsUnlessNoMemory r (schema_of bytes) → IfOk r (λ s. IsSchemaText bytes s)
+is_found : (bytes : List ℕ) (r : Result Schema Unread) → IsUnlessNoMemory r (schema_of bytes)
+    → IfOk r (λ s. IsSchemaText bytes s)
 is_found bytes (Err e) h = tt
 is_found bytes (Ok s) (inl same) = read_found bytes s (sym same)
 is_found bytes (Ok s) (inr none) = let no : answered s ≡ Err unread.NoMemory = none in absurd cc
@@ -32,21 +33,27 @@ pub returns-clause-one : goal.returns-clause-one
 returns-clause-one c s t p q = one_schema c.args.bytes.now s t p q
 
 pub returns-clause-only : goal.returns-clause-only
-returns-clause-only c s h = let e : schema_of c.args.bytes.now ≡ Ok s = schema_again c.args.bytes.now s h in rw e at c.read.ensures
+returns-clause-only c s h = let e : schema_of c.args.bytes.now ≡ Ok s =
+    schema_again c.args.bytes.now s h in rw e at c.read.ensures
 
-is_valid : (bytes : List ℕ) (r : Result Schema Unread) → IfOk r (λ s. IsSchemaText bytes s) → IfOk r (λ s. IsSchema s)
+is_valid : (bytes : List ℕ) (r : Result Schema Unread) → IfOk r (λ s. IsSchemaText bytes s)
+    → IfOk r (λ s. IsSchema s)
 is_valid bytes (Ok s) h = schema_valid bytes s h
 is_valid bytes (Err e) h = tt
 
 pub returns-clause-valid : goal.returns-clause-valid
-returns-clause-valid c = is_valid c.args.bytes.now c.read.result (is_found c.args.bytes.now c.read.result c.read.ensures)
+returns-clause-valid c =
+    is_valid c.args.bytes.now c.read.result (is_found c.args.bytes.now c.read.result c.read.ensures)
 
 is_well_formed : (r : Result Schema Unread) → IfOk r (λ s. IsSchema s) → IfOk r IsWellFormed
 is_well_formed (Ok s) h = well_formed s h
 is_well_formed (Err e) h = tt
 
 pub returns-clause-well_formed : goal.returns-clause-well_formed
-returns-clause-well_formed c = is_well_formed c.read.result (is_valid c.args.bytes.now c.read.result (is_found c.args.bytes.now c.read.result c.read.ensures))
+returns-clause-well_formed c =
+    is_well_formed c.read.result
+    (is_valid c.args.bytes.now c.read.result
+    (is_found c.args.bytes.now c.read.result c.read.ensures))
 
 abbrev refused : Unread → Result Schema Unread
 refused error = Err error
@@ -54,11 +61,14 @@ refused error = Err error
 refused_is : (x y : Unread) → refused x ≡ refused y → x ≡ y
 refused_is x y e = cc
 
-bad_is : (bytes : List ℕ) (o : Result Schema Fault) (e : Unread) → all_items bytes ≡ o → refused e ≡ with_line bytes o → IsBad bytes e
+bad_is : (bytes : List ℕ) (o : Result Schema Fault) (e : Unread) → all_items bytes ≡ o
+    → refused e ≡ with_fault_line bytes o → IsBad bytes e
 bad_is bytes (Ok s) e is same = absurd cc
-bad_is bytes (Err f) e is same = subst (IsBad bytes) (sym (refused_is e (bad_of bytes f) same)) (first_fault_is bytes f is)
+bad_is bytes (Err f) e is same =
+    subst (IsBad bytes) (sym (refused_is e (bad_of bytes f) same)) (first_fault_is bytes f is)
 
-is_bad : (bytes : List ℕ) (r : Result Schema Unread) → IsUnlessNoMemory r (schema_of bytes) → IfErr r (λ e. IsBad bytes e)
+is_bad : (bytes : List ℕ) (r : Result Schema Unread) → IsUnlessNoMemory r (schema_of bytes)
+    → IfErr r (λ e. IsBad bytes e)
 is_bad bytes (Ok s) h = tt
 is_bad bytes (Err e) (inl same) = bad_is bytes (all_items bytes) e refl same
 is_bad bytes (Err e) (inr none) = subst (IsBad bytes) (sym (refused_is e unread.NoMemory none)) tt

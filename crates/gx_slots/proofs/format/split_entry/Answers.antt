@@ -11,7 +11,8 @@ returns-then-key_len-gt-MAX_KEY_LEN c = λ entry rest fit begins.
     let read = c.in_ok-key_len.ensures in
     let own = lengths_written entry rest c.args.bytes.now c.in_ok-key_len.rest.now
     c.in_ok-key_len.key_len c.in_ok-key_len.body_len read.2 read.0 read.1 fit begins in
-    let behind : length c.in_ok-key_len.rest.now ≡ length entry.key + (length entry.body + length rest) =
+    let behind : length c.in_ok-key_len.rest.now ≡ length entry.key
+    + (length entry.body + length rest) =
     ap length own.2 ∙ length-append entry.key (entry.body ++ rest)
     ∙ ap (λ n. length entry.key + n) (length-append entry.body rest) in
     let either = c.then-key_len-gt-MAX_KEY_LEN.either in

@@ -8,7 +8,8 @@ pub returns-then-not-has_kind : goal.returns-then-not-has_kind
 returns-then-not-has_kind c = (
   λ bad. absurd (false≢true bad),
   λ is. absurd
-      (false≢true (sym c.if-not-has_kind.true ∙ c.has_kind.ensures.1 (page_kind c.args.page.now is.page))),
+      (false≢true (sym c.if-not-has_kind.true
+      ∙ c.has_kind.ensures.1 (page_kind c.args.page.now is.page))),
 )
 
 pub returns-then-count-eq0 : goal.returns-then-count-eq0

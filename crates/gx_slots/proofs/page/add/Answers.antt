@@ -27,7 +27,8 @@ returns c =
     let is = page_of page c.requires.page in
     let room : entry_len entry ≤ 4096 - c.offsets-at.result.1 =
     omega (arith, c.entry_len-len.ensures) in
-    let new = page_added entries next page is c.args.i entry c.offsets-at.result.0 c.offsets-at.result.1 c.copy_within.new.self
+    let new = page_added entries next page is c.args.i entry c.offsets-at.result.0
+    c.offsets-at.result.1 c.copy_within.new.self
     c.write_entry.new.bytes c.set_record_count.new.page
     c.requires.place c.requires.other c.requires.fit c.offsets-at.ensures.start
     c.offsets-at.ensures.end room
@@ -37,7 +38,8 @@ returns c =
     c.entry_len-len.ensures) c.write_entry.ensures (c.set_record_count.ensures
     ∙ ap (λ n. overwritten c.write_entry.new.bytes 2 (to_be_bytes w16 (n + 1)))
     c.count-count.ensures)
-    (c.set_record_count.auto.page ∙ c.write_entry.auto.bytes ∙ c.copy_within.ensures.len ∙ is.page.size) in
+    (c.set_record_count.auto.page ∙ c.write_entry.auto.bytes ∙ c.copy_within.ensures.len
+    ∙ is.page.size) in
     record {
       page = record { entries = insert entries c.args.i entry; next = next; is = new };
       room = (λ _. omega (arith, room, c.offsets-at.ensures.end, sum_by-insert entry_len entries c.args.i entry), λ _. refl);

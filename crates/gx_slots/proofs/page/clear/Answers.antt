@@ -11,7 +11,8 @@ returns c =
     let none : ℕ = 4294967295 in
     let is : IsPageOf [] none new =
     record {
-      page = page_empty entry_format 0x44 none c.args.page.now new c.requires (omega arith) c.write_header.ensures
+      page = page_empty entry_format 0x44 none c.args.page.now new c.requires
+          (omega arith) c.write_header.ensures
           c.write_header.auto.page;
       distinct = λ i j d lt below. absurd (omega arith);
     } in

@@ -13,7 +13,8 @@ returns c =
     let old = page_of page c.requires in
     let is : IsPageOf entries c.args.next new =
     record {
-      page = page_numbered entry_format 0x44 entries (next_of page) page old.page c.args.next new (search rules) c.set_page_number.ensures
+      page = page_numbered entry_format 0x44 entries (next_of page) page old.page c.args.next new
+          (search rules) c.set_page_number.ensures
           (c.set_page_number.auto.page ∙ old.page.size);
       distinct = old.distinct;
     } in

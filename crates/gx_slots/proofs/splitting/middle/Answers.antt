@@ -13,14 +13,16 @@ loop-key-init c =
 pub entry_len-taken-requires : goal.entry_len-taken-requires
 entry_len-taken-requires c =
     let page = c.args.page.now in
-    let fit = at_all IsFit (entries_of page) c.loop-key.place c.loop-key.key-iterator (lent (c.in-Some.key, c.in-Some.body)) c.next.new.self
+    let fit = at_all IsFit (entries_of page) c.loop-key.place c.loop-key.key-iterator
+    (lent (c.in-Some.key, c.in-Some.body)) c.next.new.self
     (page_of page c.requires.page).page.holds.fit c.loop-key.invariant.at c.in-Some.ensures.steps in
     record { key = fit.key; whole = fit.whole }
 
 pub overflow_add-taken : goal.overflow_add-taken
 overflow_add-taken c =
     let page = c.args.page.now in
-    let fit = at_all IsFit (entries_of page) c.loop-key.place c.loop-key.key-iterator (lent (c.in-Some.key, c.in-Some.body)) c.next.new.self
+    let fit = at_all IsFit (entries_of page) c.loop-key.place c.loop-key.key-iterator
+    (lent (c.in-Some.key, c.in-Some.body)) c.next.new.self
     (page_of page c.requires.page).page.holds.fit c.loop-key.invariant.at c.in-Some.ensures.steps in
     omega (arith, fit.whole, c.entry_len-taken.ensures, c.loop-key.invariant.below)
 

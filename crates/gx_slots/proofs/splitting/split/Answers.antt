@@ -57,7 +57,8 @@ returns c =
     (c.offsets-at.result.1 - c.offsets-at.result.0) holds len.1 c.split_at-2.ensures.front in
     let on_left = left_page entries next page is i left c.requires.place c.set_record_count.ensures
     (c.set_record_count.auto.page ∙ is.page.size) in
-    let on_right = right_page entries i next NONE page c.args.right.now c.write_header.new.page right c.split_at-2.result.0.now is
+    let on_right = right_page entries i next NONE page c.args.right.now c.write_header.new.page
+    right c.split_at-2.result.0.now is
     (omega arith) c.requires.size
     (c.write_header.ensures
     ∙ ap (λ n. overwritten c.args.right.now 0 (header 0x44 (n - i) NONE)) c.count-count.ensures)

@@ -8,7 +8,8 @@ pub returns-in_default : goal.returns-in_default
 returns-in_default c = (
   λ bad. absurd (false≢true bad),
   λ held. absurd
-      (no_more c.args.bytes.now c.loop-place.place c.loop-place.rest.now c.loop-place.seen c.args.count c.loop-place.invariant
+      (no_more c.args.bytes.now c.loop-place.place c.loop-place.rest.now c.loop-place.seen
+      c.args.count c.loop-place.invariant
       c.loop-place-test.true c.in_default.ensures held),
 )
 
@@ -22,8 +23,10 @@ returns-then-not-is_new c =
     let found = c.in-Some.ensures in (
       λ bad. absurd (false≢true bad),
       λ held. absurd
-          (twice c.args.bytes.now c.loop-place.place c.loop-place.rest.now c.loop-place.seen c.args.count
-          (lent (c.in-Some.key, c.in-Some.field-0-0-1)) c.in-Some.behind.now c.loop-place.invariant c.loop-place-test.true found.0 found.1
+          (twice c.args.bytes.now c.loop-place.place c.loop-place.rest.now c.loop-place.seen
+          c.args.count
+          (lent (c.in-Some.key, c.in-Some.field-0-0-1)) c.in-Some.behind.now c.loop-place.invariant
+          c.loop-place-test.true found.0 found.1
           (λ all. false≢true (c.if-not-is_new.ensures.other.1 all)) held),
     )
 

@@ -10,5 +10,6 @@ invariant-loop-rec l = record {
   many : into_iter_len l.rec-iterator ≡ length (into_iter_items l.rec-iterator);
   some : (r : Rec) → In r (into_iter_items l.rec-iterator) → 0 < length r.key;
   front : Extends l.fn.out l.out-inside.0.items;
-  so_far : l.out-inside.0.items ++ map (λ r. drop 1 r.key) (into_iter_items l.rec-iterator) ≡ l.fn.out ++ map (λ r. drop 1 r.key) l.fn.found;
+  so_far : l.out-inside.0.items ++ map (λ r. drop 1 r.key) (into_iter_items l.rec-iterator)
+      ≡ l.fn.out ++ map (λ r. drop 1 r.key) l.fn.found;
 }

@@ -29,10 +29,13 @@ returns-in-Ok-clause-left g c = λ told none.
     c.args.schema.now c.args.equation.now (ap (λ (h : List (List ℕ)). drop 1 h) head)
 
 pub returns-in-Ok-clause-silent : goal.returns-in-Ok-clause-silent
-returns-in-Ok-clause-silent g c = silent_twice _ (content_of c.in-Ok.journal) _ c.in-Ok.ensures.touched.silent c.make_over.ensures.silent
+returns-in-Ok-clause-silent g c =
+    silent_twice _ (content_of c.in-Ok.journal) _ c.in-Ok.ensures.touched.silent
+    c.make_over.ensures.silent
 
 pub returns-in-Ok-clause-faults : goal.returns-in-Ok-clause-faults
-returns-in-Ok-clause-faults g c = counted_after _ _ _ _ (c.in-Ok.ensures.faults.same refl) c.make_over.ensures.faults
+returns-in-Ok-clause-faults g c =
+    counted_after _ _ _ _ (c.in-Ok.ensures.faults.same refl) c.make_over.ensures.faults
 
 pub returns-in-Err-clause-left : goal.returns-in-Err-clause-left
 returns-in-Err-clause-left g c = λ told none has.
@@ -57,4 +60,5 @@ pub returns-in-Ok-clause-blocks : goal.returns-in-Ok-clause-blocks
 returns-in-Ok-clause-blocks g c = λ told. c.make_over.ensures.blocks told ∙ c.in-Ok.ensures.blocks
 
 pub returns-in-Err-clause-blocks : goal.returns-in-Err-clause-blocks
-returns-in-Err-clause-blocks g c = λ told. sym (g.met.M.Device.sized c.in-Err.machine told) ∙ c.in-Err.ensures.blocks
+returns-in-Err-clause-blocks g c = λ told. sym (g.met.M.Device.sized c.in-Err.machine told)
+    ∙ c.in-Err.ensures.blocks

@@ -15,29 +15,35 @@ use Rattle.gx_store.proofs.making.make_in.Goals as goal
 
 pub returns-in-Ok-clause-made : goal.returns-in-Ok-clause-made
 returns-in-Ok-clause-made g c = λ told steady free.
-    let all : IsAllFree (ground_of (journal_of c.args.pages)) (working_sheets (journal_of c.args.pages)) =
+    let all : IsAllFree (ground_of (journal_of c.args.pages))
+    (working_sheets (journal_of c.args.pages)) =
     record { own = free.own; free = free.free } in
     let base = ground_of (journal_of c.args.pages) in
     let maps = replicate (length c.args.specs.now) empty in
     subst (λ x. AreMaps base c.args.specs.now maps (working_sheets x))
     (sym (c.into_journal.ensures ∙ ap (λ p. journal_of p) c.into_pages.ensures))
-    (made_maps c.in-Ok.leaves base c.args.specs.now maps c.in-Ok.ensures.keeps.ground c.in-Ok.ensures.places
+    (made_maps c.in-Ok.leaves base c.args.specs.now maps c.in-Ok.ensures.keeps.ground
+    c.in-Ok.ensures.places
     (c.in-Ok.ensures.working told all) (c.in-Ok.ensures.whole told all steady))
 
 pub returns-in-Err-clause-faults : goal.returns-in-Err-clause-faults
 returns-in-Err-clause-faults g c =
     let before = g.M.Device.faults (device_of (journal_of c.args.pages)) in
     let out = c.into_device.ensures ∙ ap (λ j. device_of j) c.into_journal-in-Err.ensures in
-    subst (λ w. Counted (not (is_fault w)) before (g.M.Device.faults c.into_device.result)) (sym c.not_made.ensures)
-    (subst (λ d. Counted (not (is_fault (not_laid c.in-Err.why))) before (g.M.Device.faults d)) (sym out)
+    subst (λ w. Counted (not (is_fault w)) before (g.M.Device.faults c.into_device.result))
+    (sym c.not_made.ensures)
+    (subst (λ d. Counted (not (is_fault (not_laid c.in-Err.why))) before (g.M.Device.faults d))
+    (sym out)
     (counted_leaves c.in-Err.why before _ c.in-Err.ensures.cause))
 
 pub returns-in-Ok-clause-blocks : goal.returns-in-Ok-clause-blocks
 returns-in-Ok-clause-blocks g c =
-    ap (λ j. g.M.Device.size (device_of j)) (c.into_journal.ensures ∙ ap (λ p. journal_of p) c.into_pages.ensures)
+    ap (λ j. g.M.Device.size (device_of j)) (c.into_journal.ensures
+    ∙ ap (λ p. journal_of p) c.into_pages.ensures)
     ∙ ap (λ (b : Ground). b.blocks) c.in-Ok.ensures.keeps.ground
 
 pub returns-in-Err-clause-blocks : goal.returns-in-Err-clause-blocks
 returns-in-Err-clause-blocks g c =
-    ap (λ d. g.M.Device.size d) (c.into_device.ensures ∙ ap (λ j. device_of j) c.into_journal-in-Err.ensures)
+    ap (λ d. g.M.Device.size d) (c.into_device.ensures
+    ∙ ap (λ j. device_of j) c.into_journal-in-Err.ensures)
     ∙ ap (λ (b : Ground). b.blocks) c.in-Err.ensures.keeps.ground

@@ -13,31 +13,38 @@ use Rattle.gx_store.proofs.opening.open.Goals as goal
 
 pub returns-in-Err-clause-unopened : goal.returns-in-Err-clause-unopened
 returns-in-Err-clause-unopened g c = λ can.
-    subst (λ w. IsUnopened c.args.name.now c.args.schema.now c.args.equation.now c.args.specs.now (g.M.Device.content c.args.machine) w)
+    subst (λ w. IsUnopened c.args.name.now c.args.schema.now c.args.equation.now c.args.specs.now
+    (g.M.Device.content c.args.machine) w)
     (sym c.into.ensures)
-    (refused_by c.in-Err.stop c.args.name.now c.args.schema.now c.args.equation.now c.args.specs.now (g.M.Device.content c.args.machine)
+    (refused_by c.in-Err.stop c.args.name.now c.args.schema.now c.args.equation.now c.args.specs.now
+    (g.M.Device.content c.args.machine)
     (λ e. c.attach.ensures.absent can.told (c.in-Err.is ∙ ap (λ s. Err s) e))
     (λ e. let some = c.attach.ensures.exists (c.in-Err.is ∙ ap (λ s. Err s) e) in cc))
 
 pub returns-in-Err-clause-untouched : goal.returns-in-Err-clause-untouched
-returns-in-Err-clause-untouched g c = λ can e. ap (λ (m : Moment). device_at m c.args.name.now) c.in-Err.ensures.refused.now
+returns-in-Err-clause-untouched g c =
+    λ can e. ap (λ (m : Moment). device_at m c.args.name.now) c.in-Err.ensures.refused.now
 
 pub returns-in-Err-clause-no_database : goal.returns-in-Err-clause-no_database
 returns-in-Err-clause-no_database g c = λ can goes blocks was none.
     ap (λ (m : Moment). device_at m c.args.name.now) c.in-Err.ensures.refused.now ∙ was
 
 pub returns-in-Err-clause-absent : goal.returns-in-Err-clause-absent
-returns-in-Err-clause-absent g c = λ can none. ap (λ (m : Moment). device_at m c.args.name.now) c.in-Err.ensures.refused.now ∙ none
+returns-in-Err-clause-absent g c =
+    λ can none. ap (λ (m : Moment). device_at m c.args.name.now) c.in-Err.ensures.refused.now ∙ none
 
 pub returns-in-Err-clause-attaches : goal.returns-in-Err-clause-attaches
-returns-in-Err-clause-attaches g c = λ can. refused_rest c.args.name.now _ _ c.in-Err.ensures.refused
+returns-in-Err-clause-attaches g c =
+    λ can. refused_rest c.args.name.now _ _ c.in-Err.ensures.refused
 
 pub returns-clause-holds : goal.returns-clause-holds
 returns-clause-holds g c = λ can blocks maps was is.
     let o = c.in_default.ensures.opened can.told can.free refl in
     c.open_attached.ensures.holds can.told maps
-    (subst (λ (bs : List (List ℕ)). Reopens c.args.schema.now c.args.equation.now c.args.specs.now maps bs)
-    (attached_blocks c.args.name.now blocks (g.M.Device.content c.args.machine) (g.M.Device.content c.attach.new.self) was o) is)
+    (subst (λ (bs : List (List ℕ)). Reopens c.args.schema.now c.args.equation.now c.args.specs.now
+    maps bs)
+    (attached_blocks c.args.name.now blocks (g.M.Device.content c.args.machine)
+    (g.M.Device.content c.attach.new.self) was o) is)
 
 pub returns-clause-opened : goal.returns-clause-opened
 returns-clause-opened g c = λ can.
@@ -46,7 +53,8 @@ returns-clause-opened g c = λ can.
     (λ a. (
       o.blocks,
       o.was,
-      subst (λ (bs : List (List ℕ)). AreOpened c.args.schema.now c.args.equation.now c.args.specs.now bs) o.attached.blocks_are a,
+      subst (λ (bs : List (List ℕ)). AreOpened c.args.schema.now c.args.equation.now
+          c.args.specs.now bs) o.attached.blocks_are a,
     ))
     (c.open_attached.ensures.opened can.told)
 
@@ -54,18 +62,22 @@ pub returns-clause-unopened : goal.returns-clause-unopened
 returns-clause-unopened g c = λ can.
     let o = c.in_default.ensures.opened can.told can.free refl in
     IfErr-weaker c.open_attached.result _ _
-    (λ e a. unopened_on c.args.schema.now c.args.equation.now c.args.specs.now o.blocks c.args.name.now
+    (λ e a. unopened_on c.args.schema.now c.args.equation.now c.args.specs.now o.blocks
+    c.args.name.now
     (g.M.Device.content c.args.machine) e.1 o.was
-    (subst (λ (bs : List (List ℕ)). AreUnopened c.args.schema.now c.args.equation.now c.args.specs.now bs e.1) o.attached.blocks_are a))
+    (subst (λ (bs : List (List ℕ)). AreUnopened c.args.schema.now c.args.equation.now
+    c.args.specs.now bs e.1) o.attached.blocks_are a))
     (c.open_attached.ensures.unopened can.told)
 
 pub returns-clause-untouched : goal.returns-clause-untouched
 returns-clause-untouched g c = λ can.
     let o = c.in_default.ensures.opened can.told can.free refl in
     if_err_with c.open_attached.result _ _
-    (λ e is same none. left_alone c.args.name.now (g.M.Device.content c.args.machine) (g.M.Device.content c.attach.new.self)
+    (λ e is same none. left_alone c.args.name.now (g.M.Device.content c.args.machine)
+    (g.M.Device.content c.attach.new.self)
     (g.M.Device.content e.0) can.free o
-    (subst (λ r. Silent (g.M.Device.content c.attach.new.self) (g.M.Device.content (machine_left r))) is c.open_attached.ensures.silent)
+    (subst (λ r. Silent (g.M.Device.content c.attach.new.self)
+    (g.M.Device.content (machine_left r))) is c.open_attached.ensures.silent)
     (same none))
     (c.open_attached.ensures.untouched can.told)
 
@@ -74,9 +86,12 @@ returns-clause-no_database g c = λ can goes blocks was none.
     let o = c.in_default.ensures.opened can.told can.free refl in
     let mid = g.M.Device.content c.attach.new.self in
     let last = g.M.Device.content (machine_left c.open_attached.result) in
-    let same = attached_blocks c.args.name.now blocks (g.M.Device.content c.args.machine) mid was o in
-    left_alone c.args.name.now (g.M.Device.content c.args.machine) mid last can.free o c.open_attached.ensures.silent
-    (c.open_attached.ensures.no_database can.told goes (subst (λ (bs : List (List ℕ)). ¬ HaveDatabase c.args.specs.now bs) same none))
+    let same = attached_blocks c.args.name.now blocks (g.M.Device.content c.args.machine) mid was o
+    in
+    left_alone c.args.name.now (g.M.Device.content c.args.machine) mid last can.free o
+    c.open_attached.ensures.silent
+    (c.open_attached.ensures.no_database can.told goes
+    (subst (λ (bs : List (List ℕ)). ¬ HaveDatabase c.args.specs.now bs) same none))
     ∙ was
 
 pub returns-clause-absent : goal.returns-clause-absent
@@ -90,7 +105,8 @@ returns-clause-named g c = λ can.
     if_ok_with c.open_attached.result _
     (λ s is. attached_named c.args.name.now o.blocks (g.M.Device.content c.args.machine)
     (g.M.Device.content c.attach.new.self) _ can.free o.attached
-    (subst (λ r. Silent (g.M.Device.content c.attach.new.self) (g.M.Device.content (machine_left r))) is c.open_attached.ensures.silent))
+    (subst (λ r. Silent (g.M.Device.content c.attach.new.self)
+    (g.M.Device.content (machine_left r))) is c.open_attached.ensures.silent))
 
 pub returns-clause-attaches : goal.returns-clause-attaches
 returns-clause-attaches g c = λ can.
@@ -116,8 +132,10 @@ returns-clause-kept g c = λ can goes blocks was.
     let mid = g.M.Device.content c.attach.new.self in
     let last = g.M.Device.content (machine_left c.open_attached.result) in (
       last.now.blocks,
-      attached_at c.args.name.now o.blocks old mid last can.free o.attached c.open_attached.ensures.silent,
-      subst (λ (bs : List (List ℕ)). ReadAlike bs last.now.blocks) (sym (attached_blocks c.args.name.now blocks old mid was o))
+      attached_at c.args.name.now o.blocks old mid last can.free o.attached
+          c.open_attached.ensures.silent,
+      subst (λ (bs : List (List ℕ)). ReadAlike bs last.now.blocks)
+          (sym (attached_blocks c.args.name.now blocks old mid was o))
           (c.open_attached.ensures.kept can.told goes),
     )
 
@@ -132,7 +150,9 @@ returns-clause-recovered g c = λ can blocks was.
     let mid = g.M.Device.content c.attach.new.self in
     let last = g.M.Device.content (machine_left c.open_attached.result) in (
       last.now.blocks,
-      attached_at c.args.name.now o.blocks old mid last can.free o.attached c.open_attached.ensures.silent,
-      subst (λ (bs : List (List ℕ)). IsRecoveryOf bs last.now.blocks) (sym (attached_blocks c.args.name.now blocks old mid was o))
+      attached_at c.args.name.now o.blocks old mid last can.free o.attached
+          c.open_attached.ensures.silent,
+      subst (λ (bs : List (List ℕ)). IsRecoveryOf bs last.now.blocks)
+          (sym (attached_blocks c.args.name.now blocks old mid was o))
           (c.open_attached.ensures.recovered can.told),
     )

@@ -5,4 +5,5 @@ use Rattle.gx_tokens.specs.Lexemes.{is_printable}
 use Rattle.gx_tokens.proofs.split.are_printable.Given as goal
 
 abbrev pub invariant-loop-byte : goal.invariant-loop-byte
-invariant-loop-byte l = (l.are && list_all is_printable (drop l.byte-index l.bytes)) ≡ list_all is_printable l.bytes
+invariant-loop-byte l =
+    (l.are && list_all is_printable (drop l.byte-index l.bytes)) ≡ list_all is_printable l.bytes

@@ -1,12 +1,14 @@
-use Rattle.std.proofs.Common.{sym, arith, rules}
-use Rattle.std.proofs.lemmas.List.Sums.{prefix_len_is}
+use Rattle.std.proofs.Common.{rules, tests, ◌∙◌}
+use Rattle.std.proofs.lemmas.Iterator.{YieldsList-from_slice}
+use Rattle.std.proofs.lemmas.Iterator.Consumers.{count_from_yields_List}
+use Rattle.std.proofs.lemmas.Iterator.Search.{YieldsList-from_take_while}
+use Rattle.std.proofs.lemmas.List.Folds.{length-prefix_len}
 use Rattle.gx_tokens.specs.Lexemes.{is_word_byte}
 use Rattle.gx_tokens.proofs.split.word_len.Goals as goal
 
-pub returns-then-not-is_word_byte-clause-value : goal.returns-then-not-is_word_byte-clause-value
-returns-then-not-is_word_byte-clause-value c =
-    sym (prefix_len_is is_word_byte c.args.bytes.now c.loop-at.at 0 (omega arith) c.loop-at.invariant (λ _. search rules))
-
 pub returns-clause-value : goal.returns-clause-value
 returns-clause-value c =
-    sym (prefix_len_is is_word_byte c.args.bytes.now _ 0 (omega arith) (λ k h. c.loop-at.invariant k (omega arith)) (λ h. absurd (omega arith)))
+    count_from_yields_List c.take_while.result _ c.count.ensures.ran
+    (YieldsList-from_take_while _ is_word_byte (YieldsList-from_slice c.args.bytes.now cc)
+    c.take_while.ensures.closure c.take_while.ensures.done (λ x b q k. search (rules, tests)))
+    ∙ length-prefix_len is_word_byte c.args.bytes.now

@@ -15,11 +15,14 @@ returns-in-Ok-clause-answered g c = λ told.
     let new = content c.end.new.machine in
     let same = c.in-Ok.ensures.fetches.same in
     let is =
-    summary words _ c.in-Ok.checked c.summarize-summary.result ((c.in-Ok.ensures.accepted told).ready words checking (tt, refl))
+    summary words _ c.in-Ok.checked c.summarize-summary.result
+    ((c.in-Ok.ensures.accepted told).ready words checking (tt, refl))
     c.summarize-summary.ensures in
-    let ended : IsEnded (ending.Accepted c.summarize-summary.result) mid new c.end.result = c.end.ensures.ended told in
+    let ended : IsEnded (ending.Accepted c.summarize-summary.result) mid new c.end.result =
+    c.end.ensures.ended told in
     record {
-      said = check_end words old mid new c.summarize-summary.result c.end.result is (ap (λ n. n.said) same.now)
+      said = check_end words old mid new c.summarize-summary.result c.end.result is
+          (ap (λ n. n.said) same.now)
           same.script ended;
       due = check_due words old mid new c.summarize-summary.result c.end.result is ended;
     }
@@ -27,14 +30,18 @@ returns-in-Ok-clause-answered g c = λ told.
 pub returns-in-Err-clause-answered : goal.returns-in-Err-clause-answered
 returns-in-Err-clause-answered g c = λ told.
     let words = request_words checking c.args.schema.now c.args.equation.now in
-    unprepared_answered words (g.M.Device.content c.args.machine.now) (g.M.Device.content c.read_texts.new.machine)
+    unprepared_answered words (g.M.Device.content c.args.machine.now)
+    (g.M.Device.content c.read_texts.new.machine)
     (g.M.Device.content c.end-in-Err.new.machine) _ _ c.in-Err.ending c.end-in-Err.result
-    ((c.in-Err.ensures.accepted told).unprepared words checking (tt, refl)) c.in-Err.ensures.fetches.same
+    ((c.in-Err.ensures.accepted told).unprepared words checking (tt, refl))
+    c.in-Err.ensures.fetches.same
     c.end-in-Err.ensures.devices
     (c.end-in-Err.ensures.ended told)
 
 pub returns-in-Ok-clause-shelf : goal.returns-in-Ok-clause-shelf
-returns-in-Ok-clause-shelf g c = c.end.ensures.devices.shelf ∙ ap (λ n. n.shelf) c.in-Ok.ensures.fetches.same.now
+returns-in-Ok-clause-shelf g c = c.end.ensures.devices.shelf
+    ∙ ap (λ n. n.shelf) c.in-Ok.ensures.fetches.same.now
 
 pub returns-in-Err-clause-shelf : goal.returns-in-Err-clause-shelf
-returns-in-Err-clause-shelf g c = c.end-in-Err.ensures.devices.shelf ∙ ap (λ n. n.shelf) c.in-Err.ensures.fetches.same.now
+returns-in-Err-clause-shelf g c = c.end-in-Err.ensures.devices.shelf
+    ∙ ap (λ n. n.shelf) c.in-Err.ensures.fetches.same.now

@@ -13,7 +13,8 @@ returns-in-Ok-clause-answered g c = λ told.
     let s = c.explain_script.result in
     let same = c.in-Ok.ensures.fetches.same in
     let row =
-    explained_by words old (content c.prepare_nodes.new.machine) new s _ c.in-Ok.schema c.in-Ok.built c.in-Ok.schema-is
+    explained_by words old (content c.prepare_nodes.new.machine) new s _ c.in-Ok.schema
+    c.in-Ok.built c.in-Ok.schema-is
     c.in-Ok.built-is ((c.in-Ok.ensures.prepared told).ready words explaining (tt, refl)) same.script
     (ap (λ n. n.said) same.now) (c.explain_script.ensures.said told) in
     record {
@@ -24,14 +25,18 @@ returns-in-Ok-clause-answered g c = λ told.
 pub returns-in-Err-clause-answered : goal.returns-in-Err-clause-answered
 returns-in-Err-clause-answered g c = λ told.
     let words = request_words explaining c.args.schema.now c.args.equation.now in
-    unprepared_answered words (g.M.Device.content c.args.machine.now) (g.M.Device.content c.prepare_nodes.new.machine)
+    unprepared_answered words (g.M.Device.content c.args.machine.now)
+    (g.M.Device.content c.prepare_nodes.new.machine)
     (g.M.Device.content c.end.new.machine) _ _ c.in-Err.ending c.end.result
-    ((c.in-Err.ensures.prepared told).unprepared words explaining (tt, refl)) c.in-Err.ensures.fetches.same
+    ((c.in-Err.ensures.prepared told).unprepared words explaining (tt, refl))
+    c.in-Err.ensures.fetches.same
     c.end.ensures.devices
     (c.end.ensures.ended told)
 
 pub returns-in-Ok-clause-shelf : goal.returns-in-Ok-clause-shelf
-returns-in-Ok-clause-shelf g c = c.explain_script.ensures.shelf ∙ ap (λ n. n.shelf) c.in-Ok.ensures.fetches.same.now
+returns-in-Ok-clause-shelf g c = c.explain_script.ensures.shelf
+    ∙ ap (λ n. n.shelf) c.in-Ok.ensures.fetches.same.now
 
 pub returns-in-Err-clause-shelf : goal.returns-in-Err-clause-shelf
-returns-in-Err-clause-shelf g c = c.end.ensures.devices.shelf ∙ ap (λ n. n.shelf) c.in-Err.ensures.fetches.same.now
+returns-in-Err-clause-shelf g c = c.end.ensures.devices.shelf
+    ∙ ap (λ n. n.shelf) c.in-Err.ensures.fetches.same.now

@@ -6,9 +6,11 @@ use Rattle.gx_top.proofs.inspect.inspect.Goals as goal
 
 pub returns-in-Ok-clause-fulfilled : goal.returns-in-Ok-clause-fulfilled
 returns-in-Ok-clause-fulfilled g c = λ can.
-    let words = request_words (inspecting c.args.device.now) c.args.schema.now c.args.equation.now in
+    let words = request_words (inspecting c.args.device.now) c.args.schema.now c.args.equation.now
+    in
     let same = c.in-Ok.ensures.fetches.same in
-    let free : CanAttach g.M.Device.tells (g.M.Device.content c.prepare_stored.new.machine) = record {
+    let free : CanAttach g.M.Device.tells (g.M.Device.content c.prepare_stored.new.machine) =
+    record {
       told = can.told;
       free = ap (λ n. n.shelf.name) same.now ∙ can.free;
     } in
@@ -17,12 +19,15 @@ returns-in-Ok-clause-fulfilled g c = λ can.
 
 pub returns-in-Err-clause-fulfilled : goal.returns-in-Err-clause-fulfilled
 returns-in-Err-clause-fulfilled g c = λ can.
-    let words = request_words (inspecting c.args.device.now) c.args.schema.now c.args.equation.now in
+    let words = request_words (inspecting c.args.device.now) c.args.schema.now c.args.equation.now
+    in
     let content = g.M.Device.content in
     let same = c.in-Err.ensures.fetches.same in
     record {
       answered = c.refuse.ensures.answered can.told words (content c.args.machine) _ _ same
-          ((c.in-Err.ensures.prepared can.told).unprepared words (inspecting c.args.device.now) (tt, refl));
-      left = unprepared_inspected words c.args.device.now (content c.args.machine) (content c.prepare_stored.new.machine)
+          ((c.in-Err.ensures.prepared can.told).unprepared words (inspecting c.args.device.now)
+          (tt, refl));
+      left = unprepared_inspected words c.args.device.now (content c.args.machine)
+          (content c.prepare_stored.new.machine)
           (content c.refuse.result.1) c.refuse.result.0 same.now c.refuse.ensures.devices;
     }

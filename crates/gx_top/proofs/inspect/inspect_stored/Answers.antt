@@ -26,7 +26,8 @@ returns-in-Ok-clause-fulfilled g c = λ can words old same stored.
     let whole = IsWhole store in
     let found = c.examine_store-found.result.0 in
     let seen = typed_texts words c.args.device.now x old middle stored same
-    (IsSeen c.args.device.now x middle opened mid (working_of store) whole found) schema equation specs
+    (IsSeen c.args.device.now x middle opened mid (working_of store) whole found) schema equation
+    specs
     c.as_slice.ensures c.as_slice-2.ensures (search rules) (record {
       attaches = c.in-Ok.ensures.attaches can;
       named = c.in-Ok.ensures.named can;
@@ -34,14 +35,19 @@ returns-in-Ok-clause-fulfilled g c = λ can words old same stored.
       reopens = λ whole blocks there. reopens_before c.args.device.now schema equation specs
           (working_of store) blocks opened (c.in-Ok.ensures.named can)
           (c.in-Ok.ensures.kept can refl blocks there) (c.in-Ok.ensures.settled can whole);
-      holds = λ blocks others there reopens. let is = c.in-Ok.ensures.holds can blocks others there reopens in (is.whole, sym is.working);
+      holds = λ blocks others there reopens. let is =
+          c.in-Ok.ensures.holds can blocks others there reopens in (is.whole, sym is.working);
       alike = λ blocks there. c.in-Ok.ensures.kept can refl blocks there;
-      untouched = c.examine_store-found.ensures.untouched can.told (c.in-Ok.ensures.just_opened can).steady;
+      untouched = c.examine_store-found.ensures.untouched can.told
+          (c.in-Ok.ensures.just_opened can).steady;
       silent = c.examine_store-found.ensures.silent;
-      examined = c.examine_store-found.ensures.examined can.told (c.in-Ok.ensures.just_opened can).steady;
+      examined = c.examine_store-found.ensures.examined can.told
+          (c.in-Ok.ensures.just_opened can).steady;
       settled = λ whole.
-          subst (λ (ms : List LeafMap). IsSettled schema equation specs ms mid.now.blocks) (c.in-Ok.ensures.just_opened can).kept_is
-          (subst (λ (k : List LeafSpec). IsSettled schema equation k (kept_of store) mid.now.blocks) c.in-Ok.ensures.specs
+          subst (λ (ms : List LeafMap). IsSettled schema equation specs ms mid.now.blocks)
+          (c.in-Ok.ensures.just_opened can).kept_is
+          (subst (λ (k : List LeafSpec). IsSettled schema equation k (kept_of store) mid.now.blocks)
+          c.in-Ok.ensures.specs
           (c.examine_store-found.ensures.settled (schema, equation)
           (subst (λ k. IsHeadOf schema equation k (head_of store)) (sym c.in-Ok.ensures.specs)
           (c.in-Ok.ensures.head can)) ((c.in-Ok.ensures.just_opened can).was_whole whole)));
@@ -50,7 +56,8 @@ returns-in-Ok-clause-fulfilled g c = λ can words old same stored.
       Request words c.args.device.now x old middle
           stored same,
       examined_row words c.args.device.now x old middle stored same opened mid
-          (working_of store) whole found seen after c.tell-status.result c.tell-status.ensures.devices
+          (working_of store) whole found seen after c.tell-status.result
+          c.tell-status.ensures.devices
           (c.tell-status.ensures.told can.told),
     ) in
     record {
@@ -61,7 +68,8 @@ returns-in-Ok-clause-fulfilled g c = λ can words old same stored.
         due = inspect_due words old after c.tell-status.result row;
       };
       left = examined_left words c.args.device.now x old middle stored same opened mid
-          (working_of store) whole found seen after c.tell-status.result c.tell-status.ensures.devices
+          (working_of store) whole found seen after c.tell-status.result
+          c.tell-status.ensures.devices
           (c.tell-status.ensures.told can.told);
     }
 
@@ -73,8 +81,10 @@ returns-in-Err-clause-fulfilled g c = λ can words old same stored.
     let after = content c.end-status.new.machine in
     let x = c.args.stored in
     let un = typed_texts words c.args.device.now x old middle stored same
-    (λ schema equation specs. IsUnopened c.args.device.now schema equation specs middle c.in-Err.why)
-    c.as_slice.result.now c.as_slice-2.result.now c.deref.result.now c.as_slice.ensures c.as_slice-2.ensures
+    (λ schema equation specs. IsUnopened c.args.device.now schema equation specs middle
+    c.in-Err.why)
+    c.as_slice.result.now c.as_slice-2.result.now c.deref.result.now c.as_slice.ensures
+    c.as_slice-2.ensures
     (search rules) (c.in-Err.ensures.unopened can) in
     let built : c.deref.result.now ≡ c.args.stored.built.specs = first_of (search rules, cc) in
     let kinds : c.deref.result.now ≡ stored.typing.specs = built ∙ stored.specs_are in
@@ -86,7 +96,8 @@ returns-in-Err-clause-fulfilled g c = λ can words old same stored.
       kept = c.in-Err.ensures.kept can;
       recovered = c.in-Err.ensures.recovered can;
     } in
-    let ended = subst (λ w. IsEnded w mid after c.end-status.result) c.unopened_ending.ensures (c.end-status.ensures.ended can.told) in
+    let ended = subst (λ w. IsEnded w mid after c.end-status.result) c.unopened_ending.ensures
+    (c.end-status.ensures.ended can.told) in
     let row : InspectsOr words old after c.end-status.result = (
       Request words c.args.device.now x old middle
           stored same,

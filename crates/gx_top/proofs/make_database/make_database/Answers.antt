@@ -20,21 +20,27 @@ returns-in-Ok-clause-fulfilled g c = λ can digits counted.
     let s = c.end-status.result in
     let same = c.in-Ok.ensures.fetches.same in
     let stored = (c.in-Ok.ensures.prepared can.told).ready words a ((_, counted), refl) in
-    let free : CanAttach g.M.Device.tells mid = record { told = can.told; free = ap (λ n. n.shelf.name) same.now ∙ can.free } in
+    let free : CanAttach g.M.Device.tells mid =
+    record { told = can.told; free = ap (λ n. n.shelf.name) same.now ∙ can.free } in
     let is = c.make_stored-machine.ensures.made free in
     let attaches = c.make_stored-machine.ensures.attaches free in
-    let make = to_make words old.aside.texts c.args.device.now digits c.args.blocks x stored counted in
-    let ended : IsEnded c.make_stored-machine.result.0 after new c.end-status.result = c.end-status.ensures.ended can.told in
+    let make = to_make words old.aside.texts c.args.device.now digits c.args.blocks x stored counted
+    in
+    let ended : IsEnded c.make_stored-machine.result.0 after new c.end-status.result =
+    c.end-status.ensures.ended can.told in
     record {
       answered = record {
         said = unhad_end words old after new why s
-            (unhad words c.args.device.now digits c.args.blocks x old mid after after stored counted same.now why is)
+            (unhad words c.args.device.now digits c.args.blocks x old mid after after stored counted
+            same.now why is)
             (attaches.said ∙ ap (λ n. n.said) same.now) (attaches.script ∙ same.script)
             (λ other t task. absurd (not_played words old.aside.texts c.args.blocks t make task))
             (λ t task. absurd (not_played words old.aside.texts c.args.blocks t make task)) ended;
-        due = made_due words c.args.device.now digits c.args.blocks x old mid after new stored counted same.now why s is ended;
+        due = made_due words c.args.device.now digits c.args.blocks x old mid after new stored
+            counted same.now why s is ended;
       };
-      left = made_left words c.args.device.now digits c.args.blocks x old mid after new stored counted same.now why s
+      left = made_left words c.args.device.now digits c.args.blocks x old mid after new stored
+          counted same.now why s
           c.in-Ok.ensures.stored is attaches (c.make_stored-machine.ensures.there free)
           (c.make_stored-machine.ensures.left free) c.end-status.ensures.devices ended;
     }
@@ -48,6 +54,8 @@ returns-in-Err-clause-fulfilled g c = λ can digits counted.
     let why = (c.in-Err.ensures.prepared can.told).unprepared words a ((_, counted), refl) in
     record {
       answered = c.refuse.ensures.answered can.told words (content c.args.machine) _ _ same why;
-      left = unprepared_left words c.args.device.now (content c.args.machine) (content c.prepare_stored.new.machine)
-          (content c.refuse.result.1) _ _ _ c.refuse.result.0 why same.now c.refuse.ensures.devices c.refuse.ensures.status;
+      left = unprepared_left words c.args.device.now (content c.args.machine)
+          (content c.prepare_stored.new.machine)
+          (content c.refuse.result.1) _ _ _ c.refuse.result.0 why same.now c.refuse.ensures.devices
+          c.refuse.ensures.status;
     }

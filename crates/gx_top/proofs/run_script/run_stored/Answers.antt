@@ -35,7 +35,8 @@ returns-in-Ok-clause-fulfilled g c = λ can words old same stored.
     device_run words c.args.device.now x old middle stored same opened mid limit
     (λ (maps : List LeafMap). HoldsMaps maps store) c.play_stored-machine.result.0
     (on_store_told c.args.device.now x schema equation specs middle opened mid limit
-    (λ (maps : List LeafMap). HoldsMaps maps store) c.play_stored-machine.result.0 c.as_slice.ensures
+    (λ (maps : List LeafMap). HoldsMaps maps store) c.play_stored-machine.result.0
+    c.as_slice.ensures
     c.as_slice-2.ensures (search rules) (record {
       said = (c.in-Ok.ensures.attaches can).said;
       script = (c.in-Ok.ensures.attaches can).script;
@@ -45,23 +46,31 @@ returns-in-Ok-clause-fulfilled g c = λ can words old same stored.
       had = c.in-Ok.ensures.opened can;
       holds = λ blocks maps there reopens. c.in-Ok.ensures.holds can blocks maps there reopens;
       limit_is = λ blocks there. limit_on c.args.device.now middle blocks
-          (ground_of (journal_of (pages_of store))) (places_in store) specs there (c.in-Ok.ensures.ground can) c.in-Ok.ensures.specs;
+          (ground_of (journal_of (pages_of store))) (places_in store) specs there
+          (c.in-Ok.ensures.ground can) c.in-Ok.ensures.specs;
       answered = λ s maps reaches internal.
           subst (λ k. IsPlayedAs x.schema x.built (Some limit) s
-          (IsSettledIn x.schema x.built schema equation k mid.now.blocks) opened.script opened.now.said
+          (IsSettledIn x.schema x.built schema equation k mid.now.blocks) opened.script
+          opened.now.said
           mid.now.said c.play_stored-machine.result.0) c.in-Ok.ensures.specs
-          (c.play_stored-machine.ensures.answered can.told s maps reaches internal (schema, equation)
-          (subst (λ k. IsHeadOf schema equation k (head_of store)) (sym c.in-Ok.ensures.specs) (c.in-Ok.ensures.head can)));
-      heard = λ s maps reaches internal ok. c.play_stored-machine.ensures.heard can.told s maps reaches internal ok;
-    })) (content c.finish-status.new.machine) c.finish-status.result c.play_stored-machine.ensures.ending
+          (c.play_stored-machine.ensures.answered can.told s maps reaches internal
+          (schema, equation)
+          (subst (λ k. IsHeadOf schema equation k (head_of store)) (sym c.in-Ok.ensures.specs)
+          (c.in-Ok.ensures.head can)));
+      heard = λ s maps reaches internal ok. c.play_stored-machine.ensures.heard can.told s maps
+          reaches internal ok;
+    })) (content c.finish-status.new.machine) c.finish-status.result
+    c.play_stored-machine.ensures.ending
     (c.finish-status.ensures.finished can.told) c.finish-status.ensures.devices in
     let had = c.in-Ok.ensures.opened can in
     record {
       answered = record {
         said = run_end words (run_task words old.aside.texts c.args.device.now x stored) old mid
-            (content c.finish-status.new.machine) c.play_stored-machine.result.0 c.finish-status.result run;
+            (content c.finish-status.new.machine) c.play_stored-machine.result.0
+            c.finish-status.result run;
         due = run_due words (run_task words old.aside.texts c.args.device.now x stored) old mid
-            (content c.finish-status.new.machine) c.play_stored-machine.result.0 c.finish-status.result run;
+            (content c.finish-status.new.machine) c.play_stored-machine.result.0
+            c.finish-status.result run;
       };
       left =
           played_left words c.args.device.now old middle (content (machine_of c.in-Ok.store))
@@ -71,8 +80,10 @@ returns-in-Ok-clause-fulfilled g c = λ can words old same stored.
           (not_wrong words c.args.device.now c.args.stored old middle stored same
           (opened_told c.args.device.now c.args.stored c.as_slice.result.now c.as_slice-2.result.now
           c.deref.result.now middle c.as_slice.ensures c.as_slice-2.ensures (search rules) had))
-          (c.in-Ok.ensures.attaches can) (c.in-Ok.ensures.named can) c.play_stored-machine.ensures.shelf
-          c.finish-status.ensures.devices c.play_stored-machine.ensures.ending (c.finish-status.ensures.finished can.told);
+          (c.in-Ok.ensures.attaches can) (c.in-Ok.ensures.named can)
+          c.play_stored-machine.ensures.shelf
+          c.finish-status.ensures.devices c.play_stored-machine.ensures.ending
+          (c.finish-status.ensures.finished can.told);
     }
 
 pub returns-in-Err-clause-fulfilled : goal.returns-in-Err-clause-fulfilled
@@ -81,10 +92,13 @@ returns-in-Err-clause-fulfilled g c = λ can words old same stored.
     let middle = content c.args.machine in
     let mid = content c.in-Err.machine in
     let after = content c.end-status.new.machine in
-    let told = unopened_told c.args.device.now c.args.stored c.as_slice.result.now c.as_slice-2.result.now
-    c.deref.result.now middle c.in-Err.why c.as_slice.ensures c.as_slice-2.ensures (search rules) (c.in-Err.ensures.unopened can) in
+    let told = unopened_told c.args.device.now c.args.stored c.as_slice.result.now
+    c.as_slice-2.result.now
+    c.deref.result.now middle c.in-Err.why c.as_slice.ensures c.as_slice-2.ensures (search rules)
+    (c.in-Err.ensures.unopened can) in
     let unhad = subst (IsUnhad words old) (sym c.unopened_ending.ensures)
-    (unopened_unhad words c.args.device.now c.args.stored old middle stored same c.in-Err.why told) in
+    (unopened_unhad words c.args.device.now c.args.stored old middle stored same c.in-Err.why told)
+    in
     let built : c.deref.result.now ≡ c.args.stored.built.specs = first_of (search rules, cc) in
     let kinds : c.deref.result.now ≡ stored.typing.specs = built ∙ stored.specs_are in
     let tried : IsTried c.args.device.now stored.typing.specs middle mid c.in-Err.why = record {
@@ -95,16 +109,20 @@ returns-in-Err-clause-fulfilled g c = λ can words old same stored.
       kept = c.in-Err.ensures.kept can;
       recovered = c.in-Err.ensures.recovered can;
     } in
-    let ended : IsEnded c.unopened_ending.result mid after c.end-status.result = c.end-status.ensures.ended can.told in
+    let ended : IsEnded c.unopened_ending.result mid after c.end-status.result =
+    c.end-status.ensures.ended can.told in
     record {
       answered = record {
         said = unhad_end words old mid after c.unopened_ending.result c.end-status.result
             unhad
             ((c.in-Err.ensures.attaches can).said ∙ ap (λ n. n.said) same.now)
             ((c.in-Err.ensures.attaches can).script ∙ same.script)
-            (λ other. unopened_starts words c.args.device.now c.args.stored old middle stored same mid after
-            c.in-Err.why tried c.end-status.ensures.devices (λ f. other (c.unopened_ending.ensures ∙ f)))
-            (unopened_recovered words c.args.device.now c.args.stored old middle stored same mid after
+            (λ other. unopened_starts words c.args.device.now c.args.stored old middle stored same
+            mid after
+            c.in-Err.why tried c.end-status.ensures.devices
+            (λ f. other (c.unopened_ending.ensures ∙ f)))
+            (unopened_recovered words c.args.device.now c.args.stored old middle stored same mid
+            after
             c.in-Err.why tried c.end-status.ensures.devices)
             ended;
         due = unhad_due words old mid after c.unopened_ending.result c.end-status.result
@@ -113,7 +131,8 @@ returns-in-Err-clause-fulfilled g c = λ can words old same stored.
             (run_is_task words c.args.device.now c.args.stored old middle stored same)
             ended;
       };
-      left = unopened_left words c.args.device.now c.args.stored old middle stored same mid after c.in-Err.why
+      left = unopened_left words c.args.device.now c.args.stored old middle stored same mid after
+          c.in-Err.why
           tried
           c.end-status.ensures.devices
           c.end-status.result

@@ -16,8 +16,10 @@ returns-in-Ok-clause-answered g c = λ told.
     let prepared = (c.in-Ok.ensures.prepared told).ready words trying (tt, refl) in
     let task = try_task words old.aside.texts _ prepared in
     let run =
-    try_run words _ old (content c.prepare_nodes.new.machine) mid new played s prepared c.in-Ok.ensures.fetches.same
-    (c.play_script-machine.ensures.answered told) (c.play_script-machine.ensures.heard told) c.play_script-machine.ensures.ending
+    try_run words _ old (content c.prepare_nodes.new.machine) mid new played s prepared
+    c.in-Ok.ensures.fetches.same
+    (c.play_script-machine.ensures.answered told) (c.play_script-machine.ensures.heard told)
+    c.play_script-machine.ensures.ending
     (c.finish-status.ensures.finished told) in
     record {
       said = run_end words task old mid new played s run;
@@ -27,7 +29,8 @@ returns-in-Ok-clause-answered g c = λ told.
 pub returns-in-Err-clause-answered : goal.returns-in-Err-clause-answered
 returns-in-Err-clause-answered g c = λ told.
     let words = request_words trying c.args.schema.now c.args.equation.now in
-    c.refuse.ensures.answered told words (g.M.Device.content c.args.machine) _ _ c.in-Err.ensures.fetches.same
+    c.refuse.ensures.answered told words (g.M.Device.content c.args.machine) _ _
+    c.in-Err.ensures.fetches.same
     ((c.in-Err.ensures.prepared told).unprepared words trying (tt, refl))
 
 pub returns-in-Ok-clause-shelf : goal.returns-in-Ok-clause-shelf
@@ -36,4 +39,5 @@ returns-in-Ok-clause-shelf g c =
     ∙ ap (λ n. n.shelf) c.in-Ok.ensures.fetches.same.now
 
 pub returns-in-Err-clause-shelf : goal.returns-in-Err-clause-shelf
-returns-in-Err-clause-shelf g c = c.refuse.ensures.devices.shelf ∙ ap (λ n. n.shelf) c.in-Err.ensures.fetches.same.now
+returns-in-Err-clause-shelf g c = c.refuse.ensures.devices.shelf
+    ∙ ap (λ n. n.shelf) c.in-Err.ensures.fetches.same.now

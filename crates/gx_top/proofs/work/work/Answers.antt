@@ -13,7 +13,8 @@ returns-in-Ok-clause-fulfilled g c = λ can digits number counted recorded.
       told = can.told;
       free = ap (λ n. n.shelf.name) same.now ∙ can.free;
     } in
-    c.work_stored.ensures.fulfilled digits number counted recorded free words (g.M.Device.content c.args.machine) same
+    c.work_stored.ensures.fulfilled digits number counted recorded free words
+    (g.M.Device.content c.args.machine) same
     ((c.in-Ok.ensures.prepared can.told).ready words a (((_, counted), (_, recorded)), refl))
 
 pub returns-in-Err-clause-fulfilled : goal.returns-in-Err-clause-fulfilled
@@ -24,7 +25,9 @@ returns-in-Err-clause-fulfilled g c = λ can digits number counted recorded.
     let same = c.in-Err.ensures.fetches.same in
     record {
       answered = c.refuse.ensures.answered can.told words (content c.args.machine) _ _ same
-          ((c.in-Err.ensures.prepared can.told).unprepared words a (((_, counted), (_, recorded)), refl));
-      left = unprepared_worked words c.args.device.now (content c.args.machine) (content c.prepare_work.new.machine)
+          ((c.in-Err.ensures.prepared can.told).unprepared words a
+          (((_, counted), (_, recorded)), refl));
+      left = unprepared_worked words c.args.device.now (content c.args.machine)
+          (content c.prepare_work.new.machine)
           (content c.refuse.result.1) c.refuse.result.0 same.now c.refuse.ensures.devices;
     }

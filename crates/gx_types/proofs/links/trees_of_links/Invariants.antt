@@ -7,7 +7,10 @@ use Rattle.gx_types.proofs.links.trees_of_links.Given as goal
 abbrev pub invariant-loop-left : goal.invariant-loop-left
 invariant-loop-left l = record {
   ready : AreReadyLinks l.files l.next l.left (definitions_of l.rest);
-  trees : (more : List LinkTree) → AreTreesOfLinks l.files l.next l.left (definitions_of l.rest) more → AreTreesOfLinks l.files l.fn.next l.links (definitions_of l.definitions) (l.trees.items ++ more);
+  trees : (more : List LinkTree)
+      → AreTreesOfLinks l.files l.next l.left (definitions_of l.rest) more
+      → AreTreesOfLinks l.files l.fn.next l.links (definitions_of l.definitions)
+      (l.trees.items ++ more);
 }
 
 abbrev pub decreases-loop-left : goal.decreases-loop-left

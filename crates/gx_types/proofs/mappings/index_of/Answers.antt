@@ -12,17 +12,22 @@ pub index-requires : goal.index-requires
 index-requires c =
     let form = c.args.form.now in
     let name = c.args.name.now in
-    let read : c.deref.result.now ≡ form.fields = c.deref.ensures.value ∙ ap (λ (f : Form). f.fields) c.form.view_is in
-    let spelled = subst (λ (n : List ℕ). IsFirstOf c.deref.result.now n c.in-Some.field) c.as_slice.ensures.value c.in-Some.ensures.some in
+    let read : c.deref.result.now ≡ form.fields = c.deref.ensures.value
+    ∙ ap (λ (f : Form). f.fields) c.form.view_is in
+    let spelled = subst (λ (n : List ℕ). IsFirstOf c.deref.result.now n c.in-Some.field)
+    c.as_slice.ensures.value c.in-Some.ensures.some in
     let first = subst (λ (fs : List Field). IsFirstOf fs name c.in-Some.field) read spelled in
-    subst (λ (i : ℕ). CanIndex form i) (first_only form.fields name c.in-Some.field first) c.requires.can
+    subst (λ (i : ℕ). CanIndex form i) (first_only form.fields name c.in-Some.field first)
+    c.requires.can
 
 pub unreachable-requires : goal.unreachable-requires
 unreachable-requires c =
     let form = c.args.form.now in
     let name = c.args.name.now in
-    let read : c.deref.result.now ≡ form.fields = c.deref.ensures.value ∙ ap (λ (f : Form). f.fields) c.form.view_is in
-    let spelled = subst (λ (n : List ℕ). kind_in c.deref.result.now n ≡ None) c.as_slice.ensures.value c.in-None.ensures.none in
+    let read : c.deref.result.now ≡ form.fields = c.deref.ensures.value
+    ∙ ap (λ (f : Form). f.fields) c.form.view_is in
+    let spelled = subst (λ (n : List ℕ). kind_in c.deref.result.now n ≡ None)
+    c.as_slice.ensures.value c.in-None.ensures.none in
     let none = subst (λ (fs : List Field). kind_in fs name ≡ None) read spelled in
     omega (arith, none_first form.fields name none, c.requires.can.place)
 
@@ -30,9 +35,12 @@ pub returns : goal.returns
 returns c =
     let fields = c.args.form.now.fields in
     let name = c.args.name.now in
-    let read : c.deref.result.now ≡ fields = c.deref.ensures.value ∙ ap (λ (f : Form). f.fields) c.form.view_is in
-    let spelled = subst (λ (n : List ℕ). IsFirstOf c.deref.result.now n c.in-Some.field) c.as_slice.ensures.value c.in-Some.ensures.some in
+    let read : c.deref.result.now ≡ fields = c.deref.ensures.value
+    ∙ ap (λ (f : Form). f.fields) c.form.view_is in
+    let spelled = subst (λ (n : List ℕ). IsFirstOf c.deref.result.now n c.in-Some.field)
+    c.as_slice.ensures.value c.in-Some.ensures.some in
     let first = subst (λ (fs : List Field). IsFirstOf fs name c.in-Some.field) read spelled in
     let form = c.in_ok-index-in-Some.ensures.form in
-    let number = c.in_ok-index-in-Some.ensures.field ∙ sym (first_only fields name c.in-Some.field first) in
+    let number = c.in_ok-index-in-Some.ensures.field
+    ∙ sym (first_only fields name c.in-Some.field first) in
     (tt, λ i. index_rule (form i) (number i))

@@ -12,8 +12,12 @@ pub returns : goal.returns
 returns c =
     let fields = c.args.form.now.fields in
     let names = c.args.names.now in
-    let read : c.deref.result.now ≡ fields = c.deref.ensures.value ∙ ap (λ (f : Form). f.fields) c.form.view_is in
-    let numbers = c.deref-2.ensures.value ∙ c.in_ok-numbers.ensures ∙ ap (λ (fs : List Field). numbers_in fs names) read in
-    let mask = c.in_ok-segment.ensures.mask ∙ ap (λ (ns : List ℕ). marks ns 0 (length fields)) numbers ∙ marked (λ f. has_name names f.name) fields in
+    let read : c.deref.result.now ≡ fields = c.deref.ensures.value
+    ∙ ap (λ (f : Form). f.fields) c.form.view_is in
+    let numbers = c.deref-2.ensures.value ∙ c.in_ok-numbers.ensures
+    ∙ ap (λ (fs : List Field). numbers_in fs names) read in
+    let mask = c.in_ok-segment.ensures.mask
+    ∙ ap (λ (ns : List ℕ). marks ns 0 (length fields)) numbers
+    ∙ marked (λ f. has_name names f.name) fields in
     let form = c.in_ok-segment.ensures.form in
     (tt, λ i. segment_rule (form i) (mask i))

@@ -17,7 +17,14 @@ decreases-kid_nodes l = trees_size (kids_of (tree_of l.term.now))
 
 abbrev pub invariant-kid_nodes-loop-i : goal.invariant-kid_nodes-loop-i
 invariant-kid_nodes-loop-i l = record {
-  ready : AreReady l.next (any_rule l.mapping).kid_form l.i (kids_from (drop l.i (list_of (kids_of (tree_of l.term)))));
-  count : l.next + leaf_counts (kids_from (drop l.i (list_of (kids_of (tree_of l.term))))) ≡ l.fn.next + leaf_counts (kids_of (tree_of l.term));
-  trees : (more : List (Node AnyMapping)) → AreTreesOf l.next (any_rule l.mapping).kid_form l.i (kids_from (drop l.i (list_of (kids_of (tree_of l.term))))) (node_kids (map node_tree more)) → AreTreesOf l.fn.next (any_rule l.mapping).kid_form 0 (kids_of (tree_of l.term)) (node_kids (map node_tree (l.nodes.items ++ more)));
+  ready : AreReady l.next (any_rule l.mapping).kid_form l.i
+      (kids_from (drop l.i (list_of (kids_of (tree_of l.term)))));
+  count : l.next + leaf_counts (kids_from (drop l.i (list_of (kids_of (tree_of l.term)))))
+      ≡ l.fn.next + leaf_counts (kids_of (tree_of l.term));
+  trees : (more : List (Node AnyMapping))
+      → AreTreesOf l.next (any_rule l.mapping).kid_form l.i
+      (kids_from (drop l.i (list_of (kids_of (tree_of l.term)))))
+      (node_kids (map node_tree more))
+      → AreTreesOf l.fn.next (any_rule l.mapping).kid_form 0 (kids_of (tree_of l.term))
+      (node_kids (map node_tree (l.nodes.items ++ more)));
 }

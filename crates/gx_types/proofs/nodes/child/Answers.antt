@@ -10,7 +10,8 @@ use Rattle.gx_types.proofs.nodes.child.Goals as goal
 pub index-requires : goal.index-requires
 index-requires c =
     let kids = c.in-Transpose.kids in
-    let many : count (kids_of (tree_of c.args.term.now)) ≡ length kids.items = ap count (listed c.args.term.now kids c.in-Transpose.is) ∙ count_kids kids.items in
+    let many : count (kids_of (tree_of c.args.term.now)) ≡ length kids.items =
+    ap count (listed c.args.term.now kids c.in-Transpose.is) ∙ count_kids kids.items in
     omega (arith, many, c.requires)
 
 pub returns-in-Transpose : goal.returns-in-Transpose

@@ -8,8 +8,12 @@ use Rattle.gx_types.proofs.nodes.nodes_of_files.Given as goal
 abbrev pub invariant-loop-left : goal.invariant-loop-left
 invariant-loop-left l = record {
   ready : AreReadyFiles l.next l.left (definitions_of l.rest);
-  count : l.next + file_leaf_count l.left (definitions_of l.rest) ≡ l.fn.next + file_leaf_count l.files (definitions_of l.definitions);
-  trees : (more : List (Node AnyMapping)) → AreTreesOfFiles l.next l.left (definitions_of l.rest) more → AreTreesOfFiles l.fn.next l.files (definitions_of l.definitions) (l.nodes.items ++ more);
+  count : l.next + file_leaf_count l.left (definitions_of l.rest) ≡ l.fn.next
+      + file_leaf_count l.files (definitions_of l.definitions);
+  trees : (more : List (Node AnyMapping))
+      → AreTreesOfFiles l.next l.left (definitions_of l.rest) more
+      → AreTreesOfFiles l.fn.next l.files (definitions_of l.definitions)
+      (l.nodes.items ++ more);
 }
 
 abbrev pub decreases-loop-left : goal.decreases-loop-left

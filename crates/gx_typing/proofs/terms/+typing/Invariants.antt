@@ -19,7 +19,13 @@ abbrev pub decreases-same_typed : goal.decreases-same_typed
 decreases-same_typed l = trees_size (kids_from (trees_of l.kids.now))
 
 abbrev pub invariant-each_typed-loop-i : goal.invariant-each_typed-loop-i
-invariant-each_typed-loop-i l = kids_typed l.owner (one_field l.form) l.i (kids_from (trees_of (drop l.i l.kids))) l.left l.typing ≡ kids_typed l.owner (one_field l.form) 0 (kids_from (trees_of l.kids)) l.lines l.initial.typing
+invariant-each_typed-loop-i l =
+    kids_typed l.owner (one_field l.form) l.i (kids_from (trees_of (drop l.i l.kids))) l.left
+    l.typing ≡ kids_typed l.owner (one_field l.form) 0 (kids_from (trees_of l.kids)) l.lines
+    l.initial.typing
 
 abbrev pub invariant-same_typed-loop-kid : goal.invariant-same_typed-loop-kid
-invariant-same_typed-loop-kid l = kids_typed l.owner (λ _. l.form) l.kid-index (kids_from (trees_of (drop l.kid-index l.kids))) l.left l.typing ≡ kids_typed l.owner (λ _. l.form) 0 (kids_from (trees_of l.kids)) l.lines l.initial.typing
+invariant-same_typed-loop-kid l =
+    kids_typed l.owner (λ _. l.form) l.kid-index (kids_from (trees_of (drop l.kid-index l.kids)))
+    l.left l.typing ≡ kids_typed l.owner (λ _. l.form) 0 (kids_from (trees_of l.kids)) l.lines
+    l.initial.typing

@@ -3,7 +3,8 @@ use Rattle.gx_work.proofs.SchemaLemmas.{lines_canonical, schema_means, work_rule
 use Rattle.gx_work.proofs.definition.schema.Goals as goal
 
 pub returns-in-Ok-clause-schema : goal.returns-in-Ok-clause-schema
-returns-in-Ok-clause-schema c = c.read_schema.ensures.one c.in-Ok.schema work_schema c.in-Ok.ensures.found schema_means
+returns-in-Ok-clause-schema c =
+    c.read_schema.ensures.one c.in-Ok.schema work_schema c.in-Ok.ensures.found schema_means
 
 pub returns-in-Ok-clause-valid : goal.returns-in-Ok-clause-valid
 returns-in-Ok-clause-valid c = work_rules

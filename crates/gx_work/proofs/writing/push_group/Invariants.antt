@@ -5,4 +5,6 @@ use Rattle.gx_work.specs.Workload.{lines_text, joining}
 use Rattle.gx_work.proofs.writing.push_group.Given as goal
 
 abbrev pub invariant-loop-place : goal.invariant-loop-place
-invariant-loop-place l = l.out.items ≡ l.fn.out.items ++ lines_text (task.Begin ∷ flat_map joining (range_with_len (20 * l.number + 1) l.place))
+invariant-loop-place l =
+    l.out.items ≡ l.fn.out.items
+    ++ lines_text (task.Begin ∷ flat_map joining (range_with_len (20 * l.number + 1) l.place))

@@ -10,9 +10,12 @@ use Rattle.gx_working.proofs.working.answers.Goals as goal
 pub returns-in_err-play_script-clause-played : goal.returns-in_err-play_script-clause-played
 returns-in_err-play_script-clause-played g c = λ p at.
     let lines = script_lines c.args.script.now in
-    subst (λ r. IsAnsweredBy g.B.View p lines c.args.engine.now c.play_script.new.engine r) (sym (is_err _ _ c.from_residual.ensures.1)) (
+    subst (λ r. IsAnsweredBy g.B.View p lines c.args.engine.now c.play_script.new.engine r)
+    (sym (is_err _ _ c.from_residual.ensures.1)) (
       c.play_script.new.out,
-      subst (λ o. IsPlayedTo (beside g.B.View answers.Kept) p lines (with_answers c.args.engine.now o)
-          (with_answers c.play_script.new.engine c.play_script.new.out) (Err c.in_err-play_script.field-0.0))
+      subst (λ o. IsPlayedTo (beside g.B.View answers.Kept) p lines
+          (with_answers c.args.engine.now o)
+          (with_answers c.play_script.new.engine c.play_script.new.out)
+          (Err c.in_err-play_script.field-0.0))
           c.new.ensures.items (c.in_err-play_script.ensures.played refl p at),
     )

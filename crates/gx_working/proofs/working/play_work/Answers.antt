@@ -8,9 +8,10 @@ pub returns-clause-worked : goal.returns-clause-worked
 returns-clause-worked g c = λ s h.
     let at : IsAt g.B.View (start_at s) c.start-engine.result = record {
       stands = c.start-engine.ensures.stands s h.working_is h.kept_same;
-      whole_is = subst g.B.View.whole (sym c.start-engine.ensures.leaves) h.whole_is;
-      kept_whole_is = subst g.B.View.kept_whole (sym c.start-engine.ensures.leaves) h.kept_whole_is;
+      whole_is = subst g.B.View.whole (sym c.start-engine.ensures.begins.leaves_are) h.whole_is;
+      kept_whole_is = subst g.B.View.kept_whole (sym c.start-engine.ensures.begins.leaves_are)
+          h.kept_whole_is;
     } in
     worked_over g.B.View c.args.records s c.start-engine.result c.work-line.new.engine c.args.leaves
-    c.into_leaves.result c.args.built c.work-line.result c.start-engine.ensures.built
-    c.start-engine.ensures.leaves c.into_leaves.ensures (c.work-line.ensures.worked s at)
+    c.into_leaves.result c.args.built c.work-line.result c.start-engine.ensures.begins.built_is
+    c.start-engine.ensures.begins.leaves_are c.into_leaves.ensures (c.work-line.ensures.worked s at)

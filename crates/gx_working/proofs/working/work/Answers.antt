@@ -24,8 +24,10 @@ returns-in_err-script-clause-worked g c = λ s at.
     let e = c.args.engine.now in
     let n = c.args.records in
     subst (λ r. IsWorkedAs (built_of e) (g.B.View.limit (leaves_of e)) s
-    (KeepsState g.B.View work_schema (built_of e) (leaves_of e)) n r) (sym (is_err _ ending.NoMemory c.from_residual.ensures.1))
-    (done_first g.B.View n s [] (tasks n) 0 e (built_of e) c.requires.few refl c.requires.schema refl (up_to_start g.B.View s e at))
+    (KeepsState g.B.View work_schema (built_of e) (leaves_of e)) n r)
+    (sym (is_err _ ending.NoMemory c.from_residual.ensures.1))
+    (done_first g.B.View n s [] (tasks n) 0 e (built_of e) c.requires.few refl c.requires.schema
+    refl (up_to_start g.B.View s e at))
 
 pub returns-in_err-answers-clause-worked : goal.returns-in_err-answers-clause-worked
 returns-in_err-answers-clause-worked g c = λ s at.
@@ -35,102 +37,134 @@ returns-in_err-answers-clause-worked g c = λ s at.
     subst (λ r. IsWorkedAs (built_of e) (g.B.View.limit (leaves_of e)) s
     (KeepsState g.B.View work_schema (built_of e) (leaves_of c.answers.new.engine)) n r)
     (sym (is_err _ (ending_of c.in_err-answers.field-0.0) c.from_residual-in_err-answers.ensures.1))
-    (no_changes g.B.View n s e c.answers.new.engine c.as_slice.result.now played.0 c.in_err-answers.field-0.0
+    (no_changes g.B.View n s e c.answers.new.engine c.as_slice.result.now played.0
+    c.in_err-answers.field-0.0
     c.requires.few c.requires.schema at (c.as_slice.ensures ∙ c.in_ok-script.ensures)
-    (λ block is. c.in_err-answers.ensures.cause (start_at s) at (stop.Damaged block) (ap Err is)) played.1)
+    (λ block is. c.in_err-answers.ensures.cause (start_at s) at (stop.Damaged block) (ap Err is))
+    played.1)
 
 pub returns-in_err-by_pay-clause-worked : goal.returns-in_err-by_pay-clause-worked
 returns-in_err-by_pay-clause-worked g c = λ s at.
     let e = c.args.engine.now in
     let n = c.args.records in
-    let u = after_changes g.B.View n s e c.answers.new.engine c.as_slice.result.now c.in_ok-answers.field-0
-    c.requires.few c.requires.schema at (c.as_slice.ensures ∙ c.in_ok-script.ensures) (c.in_ok-answers.ensures.played (start_at s) at) in
+    let u = after_changes g.B.View n s e c.answers.new.engine c.as_slice.result.now
+    c.in_ok-answers.field-0
+    c.requires.few c.requires.schema at (c.as_slice.ensures ∙ c.in_ok-script.ensures)
+    (c.in_ok-answers.ensures.played (start_at s) at) in
     let played = c.in_err-by_pay.ensures.played u.final u.at in
     subst (λ r. IsWorkedAs (built_of e) (g.B.View.limit (leaves_of e)) s
     (KeepsState g.B.View work_schema (built_of e) (leaves_of c.answers-2.new.engine)) n r)
     (sym (is_err _ (ending_of c.in_err-by_pay.field-0.0) c.from_residual-in_err-by_pay.ensures.1))
     (no_find g.B.View n s (changes n) (task.FindByLink ∷ []) task.FindByPay
     ((n + 19) / 20 + 2) c.answers.new.engine c.answers-2.new.engine (built_of e)
-    (g.B.View.limit (leaves_of e)) played.0 c.in_err-by_pay.field-0.0 c.requires.few (three_parts n) tt
-    (c.answers.ensures.keeps.schema ∙ c.requires.schema) c.answers.ensures.keeps.built c.answers.ensures.keeps.limit u
-    (λ block is. c.in_err-by_pay.ensures.cause u.final u.at (stop.Damaged block) (ap Err is)) played.1)
+    (g.B.View.limit (leaves_of e)) played.0 c.in_err-by_pay.field-0.0 c.requires.few
+    (three_parts n) tt
+    (c.answers.ensures.keeps.schema ∙ c.requires.schema) c.answers.ensures.keeps.built
+    c.answers.ensures.keeps.limit u
+    (λ block is. c.in_err-by_pay.ensures.cause u.final u.at (stop.Damaged block) (ap Err is))
+    played.1)
 
 pub returns-in_err-by_link-clause-worked : goal.returns-in_err-by_link-clause-worked
 returns-in_err-by_link-clause-worked g c = λ s at.
     let e = c.args.engine.now in
     let n = c.args.records in
-    let u = after_changes g.B.View n s e c.answers.new.engine c.as_slice.result.now c.in_ok-answers.field-0
-    c.requires.few c.requires.schema at (c.as_slice.ensures ∙ c.in_ok-script.ensures) (c.in_ok-answers.ensures.played (start_at s) at) in
+    let u = after_changes g.B.View n s e c.answers.new.engine c.as_slice.result.now
+    c.in_ok-answers.field-0
+    c.requires.few c.requires.schema at (c.as_slice.ensures ∙ c.in_ok-script.ensures)
+    (c.in_ok-answers.ensures.played (start_at s) at) in
     let first = after_find g.B.View s (changes n) task.FindByPay
     ((n + 19) / 20 + 2) c.answers.new.engine c.answers-2.new.engine c.in_ok-by_pay.by_pay tt
-    (c.answers.ensures.keeps.schema ∙ c.requires.schema) u (c.in_ok-by_pay.ensures.played u.final u.at) in
+    (c.answers.ensures.keeps.schema ∙ c.requires.schema) u
+    (c.in_ok-by_pay.ensures.played u.final u.at) in
     let v = first.next in
     let played = c.in_err-by_link.ensures.played v.final v.at in
     subst (λ r. IsWorkedAs (built_of e) (g.B.View.limit (leaves_of e)) s
     (KeepsState g.B.View work_schema (built_of e) (leaves_of c.answers-3.new.engine)) n r)
     (sym (is_err _ (ending_of c.in_err-by_link.field-0.0) c.from_residual-in_err-by_link.ensures.1))
     (no_find g.B.View n s (changes n ++ task.FindByPay ∷ []) [] task.FindByLink u.final.commits
-    c.answers-2.new.engine c.answers-3.new.engine (built_of e) (g.B.View.limit (leaves_of e)) played.0
+    c.answers-2.new.engine c.answers-3.new.engine (built_of e) (g.B.View.limit (leaves_of e))
+    played.0
     c.in_err-by_link.field-0.0 c.requires.few (three_parts n ∙ sym (append-nil _)) tt
     (c.answers-2.ensures.keeps.schema ∙ c.answers.ensures.keeps.schema ∙ c.requires.schema)
-    (c.answers-2.ensures.keeps.built ∙ c.answers.ensures.keeps.built) (c.answers-2.ensures.keeps.limit ∙ c.answers.ensures.keeps.limit) v
-    (λ block is. c.in_err-by_link.ensures.cause v.final v.at (stop.Damaged block) (ap Err is)) played.1)
+    (c.answers-2.ensures.keeps.built ∙ c.answers.ensures.keeps.built)
+    (c.answers-2.ensures.keeps.limit ∙ c.answers.ensures.keeps.limit) v
+    (λ block is. c.in_err-by_link.ensures.cause v.final v.at (stop.Damaged block) (ap Err is))
+    played.1)
 
 pub returns-in_err-summary_line-clause-worked : goal.returns-in_err-summary_line-clause-worked
 returns-in_err-summary_line-clause-worked g c = λ s at.
     let e = c.args.engine.now in
     let n = c.args.records in
-    let u = after_changes g.B.View n s e c.answers.new.engine c.as_slice.result.now c.in_ok-answers.field-0
-    c.requires.few c.requires.schema at (c.as_slice.ensures ∙ c.in_ok-script.ensures) (c.in_ok-answers.ensures.played (start_at s) at) in
+    let u = after_changes g.B.View n s e c.answers.new.engine c.as_slice.result.now
+    c.in_ok-answers.field-0
+    c.requires.few c.requires.schema at (c.as_slice.ensures ∙ c.in_ok-script.ensures)
+    (c.in_ok-answers.ensures.played (start_at s) at) in
     let first = after_find g.B.View s (changes n) task.FindByPay
     ((n + 19) / 20 + 2) c.answers.new.engine c.answers-2.new.engine c.in_ok-by_pay.by_pay tt
-    (c.answers.ensures.keeps.schema ∙ c.requires.schema) u (c.in_ok-by_pay.ensures.played u.final u.at) in
+    (c.answers.ensures.keeps.schema ∙ c.requires.schema) u
+    (c.in_ok-by_pay.ensures.played u.final u.at) in
     let v = first.next in
-    let second = after_find g.B.View s (changes n ++ task.FindByPay ∷ []) task.FindByLink u.final.commits
+    let second = after_find g.B.View s (changes n ++ task.FindByPay ∷ []) task.FindByLink
+    u.final.commits
     c.answers-2.new.engine c.answers-3.new.engine c.in_ok-by_link.by_link tt
     (c.answers-2.ensures.keeps.schema ∙ c.answers.ensures.keeps.schema ∙ c.requires.schema) v
     (c.in_ok-by_link.ensures.played v.final v.at) in
     subst (λ r. IsWorkedAs (built_of e) (g.B.View.limit (leaves_of e)) s
     (KeepsState g.B.View work_schema (built_of e) (leaves_of c.answers-3.new.engine)) n r)
     (sym (is_err _ ending.NoMemory c.from_residual-in_err-summary_line.ensures.1))
-    (done_first g.B.View n s ((changes n ++ task.FindByPay ∷ []) ++ task.FindByLink ∷ []) [] v.final.commits
+    (done_first g.B.View n s ((changes n ++ task.FindByPay ∷ []) ++ task.FindByLink ∷ []) []
+    v.final.commits
     c.answers-3.new.engine (built_of e) c.requires.few (three_parts n ∙ sym (append-nil _))
-    (c.answers-3.ensures.keeps.schema ∙ c.answers-2.ensures.keeps.schema ∙ c.answers.ensures.keeps.schema
-    ∙ c.requires.schema) (c.answers-3.ensures.keeps.built ∙ c.answers-2.ensures.keeps.built ∙ c.answers.ensures.keeps.built) second.next)
+    (c.answers-3.ensures.keeps.schema ∙ c.answers-2.ensures.keeps.schema
+    ∙ c.answers.ensures.keeps.schema
+    ∙ c.requires.schema) (c.answers-3.ensures.keeps.built ∙ c.answers-2.ensures.keeps.built
+    ∙ c.answers.ensures.keeps.built) second.next)
 
 pub returns-clause-worked : goal.returns-clause-worked
 returns-clause-worked g c = λ s at.
     let e = c.args.engine.now in
     let n = c.args.records in
-    let u = after_changes g.B.View n s e c.answers.new.engine c.as_slice.result.now c.in_ok-answers.field-0
-    c.requires.few c.requires.schema at (c.as_slice.ensures ∙ c.in_ok-script.ensures) (c.in_ok-answers.ensures.played (start_at s) at) in
+    let u = after_changes g.B.View n s e c.answers.new.engine c.as_slice.result.now
+    c.in_ok-answers.field-0
+    c.requires.few c.requires.schema at (c.as_slice.ensures ∙ c.in_ok-script.ensures)
+    (c.in_ok-answers.ensures.played (start_at s) at) in
     let first = after_find g.B.View s (changes n) task.FindByPay
     ((n + 19) / 20 + 2) c.answers.new.engine c.answers-2.new.engine c.in_ok-by_pay.by_pay tt
-    (c.answers.ensures.keeps.schema ∙ c.requires.schema) u (c.in_ok-by_pay.ensures.played u.final u.at) in
+    (c.answers.ensures.keeps.schema ∙ c.requires.schema) u
+    (c.in_ok-by_pay.ensures.played u.final u.at) in
     let v = first.next in
-    let second = after_find g.B.View s (changes n ++ task.FindByPay ∷ []) task.FindByLink u.final.commits
+    let second = after_find g.B.View s (changes n ++ task.FindByPay ∷ []) task.FindByLink
+    u.final.commits
     c.answers-2.new.engine c.answers-3.new.engine c.in_ok-by_link.by_link tt
     (c.answers-2.ensures.keeps.schema ∙ c.answers.ensures.keeps.schema ∙ c.requires.schema) v
     (c.in_ok-by_link.ensures.played v.final v.at) in
     let w = second.next in
     let a = found_count work_schema (seen_state u.final) by_pay in
     let b = found_count work_schema (seen_state v.final) by_link in
-    let many : c.div_ceil-commits.result + 2 ≡ (n + 19) / 20 + 2 = omega (arith, c.div_ceil-commits.ensures) in
-    done_all g.B.View n s ((changes n ++ task.FindByPay ∷ []) ++ task.FindByLink ∷ []) v.final.commits
+    let many : c.div_ceil-commits.result + 2 ≡ (n + 19) / 20 + 2 =
+    omega (arith, c.div_ceil-commits.ensures) in
+    done_all g.B.View n s ((changes n ++ task.FindByPay ∷ []) ++ task.FindByLink ∷ [])
+    v.final.commits
     c.answers-3.new.engine (built_of e) c.in_ok-summary_line.field-0 c.requires.few (three_parts n)
-    (c.answers-3.ensures.keeps.schema ∙ c.answers-2.ensures.keeps.schema ∙ c.answers.ensures.keeps.schema
-    ∙ c.requires.schema) (c.answers-3.ensures.keeps.built ∙ c.answers-2.ensures.keeps.built ∙ c.answers.ensures.keeps.built) w
-    (line_of_last n ((n + 19) / 20 + 2) u.final v.final w.final c.in_ok-summary_line.field-0 first.same
+    (c.answers-3.ensures.keeps.schema ∙ c.answers-2.ensures.keeps.schema
+    ∙ c.answers.ensures.keeps.schema
+    ∙ c.requires.schema) (c.answers-3.ensures.keeps.built ∙ c.answers-2.ensures.keeps.built
+    ∙ c.answers.ensures.keeps.built) w
+    (line_of_last n ((n + 19) / 20 + 2) u.final v.final w.final c.in_ok-summary_line.field-0
+    first.same
     second.same (w.commits_are ∙ v.commits_are ∙ u.commits_are)
     (c.in_ok-summary_line.ensures a b
-    (subst (λ t. TellsCount t a) (sym c.as_slice-2.ensures) (find_tells u.final by_pay c.in_ok-by_pay.by_pay first.answered))
-    (subst (λ t. TellsCount t b) (sym c.as_slice-3.ensures) (find_tells v.final by_link c.in_ok-by_link.by_link second.answered))
+    (subst (λ t. TellsCount t a) (sym c.as_slice-2.ensures)
+    (find_tells u.final by_pay c.in_ok-by_pay.by_pay first.answered))
+    (subst (λ t. TellsCount t b) (sym c.as_slice-3.ensures)
+    (find_tells v.final by_link c.in_ok-by_link.by_link second.answered))
     ∙ ap (work_line n a b) many))
 
 -- ---- what stays of the engine, and how failures are counted
 
 pub returns-in_err-script-clause-keeps : goal.returns-in_err-script-clause-keeps
-returns-in_err-script-clause-keeps g c = keeps_same g.B.View answers.Kept c.args.engine.now c.requires.ready
+returns-in_err-script-clause-keeps g c =
+    keeps_same g.B.View answers.Kept c.args.engine.now c.requires.ready
 
 pub returns-in_err-by_pay-clause-keeps : goal.returns-in_err-by_pay-clause-keeps
 returns-in_err-by_pay-clause-keeps g c =
@@ -139,39 +173,50 @@ returns-in_err-by_pay-clause-keeps g c =
 
 pub returns-in_err-by_link-clause-keeps : goal.returns-in_err-by_link-clause-keeps
 returns-in_err-by_link-clause-keeps g c =
-    keeps_then g.B.View answers.Kept c.args.engine.now c.answers.new.engine c.answers-3.new.engine c.answers.ensures.keeps
-    (keeps_then g.B.View answers.Kept c.answers.new.engine c.answers-2.new.engine c.answers-3.new.engine
+    keeps_then g.B.View answers.Kept c.args.engine.now c.answers.new.engine c.answers-3.new.engine
+    c.answers.ensures.keeps
+    (keeps_then g.B.View answers.Kept c.answers.new.engine c.answers-2.new.engine
+    c.answers-3.new.engine
     c.answers-2.ensures.keeps c.answers-3.ensures.keeps)
 
 pub returns-in_err-summary_line-clause-keeps : goal.returns-in_err-summary_line-clause-keeps
 returns-in_err-summary_line-clause-keeps g c =
-    keeps_then g.B.View answers.Kept c.args.engine.now c.answers.new.engine c.answers-3.new.engine c.answers.ensures.keeps
-    (keeps_then g.B.View answers.Kept c.answers.new.engine c.answers-2.new.engine c.answers-3.new.engine
+    keeps_then g.B.View answers.Kept c.args.engine.now c.answers.new.engine c.answers-3.new.engine
+    c.answers.ensures.keeps
+    (keeps_then g.B.View answers.Kept c.answers.new.engine c.answers-2.new.engine
+    c.answers-3.new.engine
     c.answers-2.ensures.keeps c.answers-3.ensures.keeps)
 
 pub returns-clause-keeps : goal.returns-clause-keeps
 returns-clause-keeps g c =
-    keeps_then g.B.View answers.Kept c.args.engine.now c.answers.new.engine c.answers-3.new.engine c.answers.ensures.keeps
-    (keeps_then g.B.View answers.Kept c.answers.new.engine c.answers-2.new.engine c.answers-3.new.engine
+    keeps_then g.B.View answers.Kept c.args.engine.now c.answers.new.engine c.answers-3.new.engine
+    c.answers.ensures.keeps
+    (keeps_then g.B.View answers.Kept c.answers.new.engine c.answers-2.new.engine
+    c.answers-3.new.engine
     c.answers-2.ensures.keeps c.answers-3.ensures.keeps)
 
 pub returns-in_err-answers-clause-counts : goal.returns-in_err-answers-clause-counts
 returns-in_err-answers-clause-counts g c =
     failed_end (List ℕ) _ _ _ c.in_err-answers.field-0.0 _ refl
-    (is_err _ (ending_of c.in_err-answers.field-0.0) c.from_residual-in_err-answers.ensures.1) c.in_err-answers.ensures.counts
+    (is_err _ (ending_of c.in_err-answers.field-0.0) c.from_residual-in_err-answers.ensures.1)
+    c.in_err-answers.ensures.counts
 
 pub returns-in_err-by_pay-clause-counts : goal.returns-in_err-by_pay-clause-counts
 returns-in_err-by_pay-clause-counts g c =
-    failed_end (List ℕ) _ _ _ c.in_err-by_pay.field-0.0 _ (c.in_ok-answers.ensures.counts.counted refl)
-    (is_err _ (ending_of c.in_err-by_pay.field-0.0) c.from_residual-in_err-by_pay.ensures.1) c.in_err-by_pay.ensures.counts
+    failed_end (List ℕ) _ _ _ c.in_err-by_pay.field-0.0 _
+    (c.in_ok-answers.ensures.counts.counted refl)
+    (is_err _ (ending_of c.in_err-by_pay.field-0.0) c.from_residual-in_err-by_pay.ensures.1)
+    c.in_err-by_pay.ensures.counts
 
 pub returns-in_err-by_link-clause-counts : goal.returns-in_err-by_link-clause-counts
 returns-in_err-by_link-clause-counts g c =
     failed_end (List ℕ) _ _ _ c.in_err-by_link.field-0.0 _
     (c.in_ok-by_pay.ensures.counts.counted refl ∙ c.in_ok-answers.ensures.counts.counted refl)
-    (is_err _ (ending_of c.in_err-by_link.field-0.0) c.from_residual-in_err-by_link.ensures.1) c.in_err-by_link.ensures.counts
+    (is_err _ (ending_of c.in_err-by_link.field-0.0) c.from_residual-in_err-by_link.ensures.1)
+    c.in_err-by_link.ensures.counts
 
 pub returns-clause-counts : goal.returns-clause-counts
 returns-clause-counts g c =
-    none_failed _ _ (c.in_ok-by_link.ensures.counts.counted refl ∙ c.in_ok-by_pay.ensures.counts.counted refl
+    none_failed _ _ (c.in_ok-by_link.ensures.counts.counted refl
+    ∙ c.in_ok-by_pay.ensures.counts.counted refl
     ∙ c.in_ok-answers.ensures.counts.counted refl)

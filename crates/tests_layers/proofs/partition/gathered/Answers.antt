@@ -14,6 +14,7 @@ gather-requires c =
     let copied = c.in_ok-rec.ensures key_sized (are_sized m.form.fields r.fields is.fields) in
     let sized = subst (λ (x : Rec). AreSized x.key) (sym copied) key_sized in
     let same = c.in_ok-key.ensures sized ∙ ap (λ (x : Rec). x.key) copied in
-    let parts = c.in_ok-parts.ensures ∙ (λ i. record { child = c.args.child; rec = copied i } ∷ []) in
+    let parts = c.in_ok-parts.ensures ∙ (λ i. record { child = c.args.child; rec = copied i } ∷ [])
+    in
     part_of_key m.form m.at m.bounds c.in_ok-key.key c.args.child r c.in_ok-parts.parts
     c.requires.child is same parts

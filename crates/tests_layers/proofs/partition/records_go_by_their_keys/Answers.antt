@@ -5,4 +5,5 @@ pub partition-requires : goal.partition-requires
 partition-requires g c =
     let form = c.in_ok-form in
     let bounds = c.in_ok-vec in
-    key_layer form.form bounds.field-0.items _ _ form.ensures.keys form.ensures.fields bounds.ensures.items
+    key_layer form.form bounds.field-0.items _ _ form.ensures.keys form.ensures.fields
+    bounds.ensures.items

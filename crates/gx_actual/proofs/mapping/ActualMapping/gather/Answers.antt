@@ -13,8 +13,11 @@ pub without_body-requires-clause-under : goal.without_body-requires-clause-under
 without_body-requires-clause-under c =
     let rule = actual_rule c.args.self.now.form in
     let part = c.part-item.result in
-    let one = sym (c.as_slice.ensures.value ∙ c.parts.view_is) ∙ one_item c.as_slice.result.now part c.in-len1.len_at_least c.in-len1.len_below c.part-item.is in
-    let key = c.in_ok-key-in-len1.ensures (are_sized c.args.self.now.form.keys c.args.key.now c.requires.key_fits) in
+    let one = sym (c.as_slice.ensures.value ∙ c.parts.view_is)
+    ∙ one_item c.as_slice.result.now part c.in-len1.len_at_least c.in-len1.len_below
+    c.part-item.is in
+    let key = c.in_ok-key-in-len1.ensures
+    (are_sized c.args.self.now.form.keys c.args.key.now c.requires.key_fits) in
     let of = subst (AreOfKey rule c.args.key.now) one c.requires in
     let whole = the_part c.args.self.now.form c.args.key.now part of in
     subst (λ (k : List Value). AreOfKey rule k (body_part k part.rec.fields ∷ [])) (sym key)
@@ -24,10 +27,16 @@ pub returns-in_ok-key-in-len1 : goal.returns-in_ok-key-in-len1
 returns-in_ok-key-in-len1 c =
     let rule = actual_rule c.args.self.now.form in
     let part = c.part-item.result in
-    let one = sym (c.as_slice.ensures.value ∙ c.parts.view_is) ∙ one_item c.as_slice.result.now part c.in-len1.len_at_least c.in-len1.len_below c.part-item.is in
-    let key = c.in_ok-key-in-len1.ensures (are_sized c.args.self.now.form.keys c.args.key.now c.requires.key_fits) in
+    let one = sym (c.as_slice.ensures.value ∙ c.parts.view_is)
+    ∙ one_item c.as_slice.result.now part c.in-len1.len_at_least c.in-len1.len_below
+    c.part-item.is in
+    let key = c.in_ok-key-in-len1.ensures
+    (are_sized c.args.self.now.form.keys c.args.key.now c.requires.key_fits) in
     let of = subst (AreOfKey rule c.args.key.now) one c.requires in
     let whole = the_part c.args.self.now.form c.args.key.now part of in
-    subst (λ (ps : List Part). IfOk c.without_body.result (IsGathered rule c.args.key.now ps)) (sym one)
-    (subst (λ (p : Part). IfOk c.without_body.result (IsGathered rule c.args.key.now (p ∷ []))) whole
-    (subst (λ (k : List Value). IfOk c.without_body.result (IsGathered rule k (body_part k part.rec.fields ∷ []))) key c.without_body.ensures))
+    subst (λ (ps : List Part). IfOk c.without_body.result (IsGathered rule c.args.key.now ps))
+    (sym one)
+    (subst (λ (p : Part). IfOk c.without_body.result (IsGathered rule c.args.key.now (p ∷ [])))
+    whole
+    (subst (λ (k : List Value). IfOk c.without_body.result
+    (IsGathered rule k (body_part k part.rec.fields ∷ []))) key c.without_body.ensures))

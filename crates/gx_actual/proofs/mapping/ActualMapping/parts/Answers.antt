@@ -9,4 +9,6 @@ pub returns : goal.returns
 returns c =
     let r = c.args.rec.now in
     let key = c.in_ok-key.ensures (are_sized c.args.self.now.form.keys r.key c.requires.key) in
-    subst (λ (k : List Value). IfOk c.with_body.result (λ parts. parts ≡ actual_part (record { key = k; fields = r.fields }) ∷ [])) key c.with_body.ensures
+    subst (λ (k : List Value). IfOk c.with_body.result
+    (λ parts. parts ≡ actual_part (record { key = k; fields = r.fields }) ∷ [])) key
+    c.with_body.ensures

@@ -27,6 +27,7 @@ pub returns-clause-goes : goal.returns-clause-goes
 returns-clause-goes c =
     let found = c.in_ok-branch.ensures in
     let shorter = ap length
-    (sym c.self.view_is ∙ records-next branch_format c.self.inside.left (lent c.in_ok-branch.branch) c.self.inside.bytes.now
+    (sym c.self.view_is ∙ records-next branch_format c.self.inside.left (lent c.in_ok-branch.branch)
+    c.self.inside.bytes.now
     c.in_ok-branch.rest.now (omega arith) found.0 found.1) in
     search rules

@@ -15,4 +15,5 @@ pub returns : goal.returns
 returns c =
     let m = c.args.self.now in
     let p = c.args.part in
-    subst (λ (q : Part). IfOk c.record_of.result (IsGathered (rule_of m) p.rec.key (q ∷ []))) (part_whole m.form m.field m.code m.sound p.rec.key p c.requires) c.record_of.ensures
+    subst (λ (q : Part). IfOk c.record_of.result (IsGathered (rule_of m) p.rec.key (q ∷ [])))
+    (part_whole m.form m.field m.code m.sound p.rec.key p c.requires) c.record_of.ensures

@@ -10,10 +10,14 @@ pub part_of-requires : goal.part_of-requires
 part_of-requires c =
     let m = c.args.self.now in
     let r = c.args.rec.now in
-    subst (IsOf m.form) (sym (c.in_ok-rec.ensures (are_sized m.form.keys r.key c.requires.key) (are_sized m.form.fields r.fields c.requires.fields))) c.requires
+    subst (IsOf m.form) (sym
+    (c.in_ok-rec.ensures (are_sized m.form.keys r.key c.requires.key)
+    (are_sized m.form.fields r.fields c.requires.fields))) c.requires
 
 pub returns : goal.returns
 returns c =
     let m = c.args.self.now in
     let r = c.args.rec.now in
-    subst (λ (q : Rec). IfOk c.part_of.result (λ parts. parts ≡ (rule_of m).parts q)) (c.in_ok-rec.ensures (are_sized m.form.keys r.key c.requires.key) (are_sized m.form.fields r.fields c.requires.fields)) c.part_of.ensures
+    subst (λ (q : Rec). IfOk c.part_of.result (λ parts. parts ≡ (rule_of m).parts q))
+    (c.in_ok-rec.ensures (are_sized m.form.keys r.key c.requires.key)
+    (are_sized m.form.fields r.fields c.requires.fields)) c.part_of.ensures

@@ -12,4 +12,5 @@ pub entry-requires-clause-key : goal.entry-requires-clause-key
 entry-requires-clause-key c = are_sized c.args.self.now.form.keys c.args.rec.now.key c.requires.key
 
 pub entry-requires-clause-fields : goal.entry-requires-clause-fields
-entry-requires-clause-fields c = are_sized c.args.self.now.form.fields c.args.rec.now.fields c.requires.fields
+entry-requires-clause-fields c =
+    are_sized c.args.self.now.form.fields c.args.rec.now.fields c.requires.fields

@@ -14,14 +14,19 @@ pub entry-requires-clause-key : goal.entry-requires-clause-key
 entry-requires-clause-key c = are_sized c.args.self.now.form.keys c.args.rec.now.key c.requires.key
 
 pub entry-requires-clause-fields : goal.entry-requires-clause-fields
-entry-requires-clause-fields c = are_sized c.args.self.now.form.fields c.args.rec.now.fields c.requires.fields
+entry-requires-clause-fields c =
+    are_sized c.args.self.now.form.fields c.args.rec.now.fields c.requires.fields
 
 pub returns : goal.returns
 returns c =
     let m = c.args.self.now in
     let r = c.args.rec.now in
-    let copy = c.in_ok-copy.ensures (are_sized m.form.keys r.key c.requires.key) (are_sized m.form.fields r.fields c.requires.fields) in
+    let copy = c.in_ok-copy.ensures (are_sized m.form.keys r.key c.requires.key)
+    (are_sized m.form.fields r.fields c.requires.fields) in
     let entry = c.in_ok-entry.ensures ∙ ap (λ (n : ℕ). entry_of n r) c.from.ensures in
     c.in_ok-push-2.ensures.items
-    ∙ ap (λ (ps : List Part). ps ++ record { child = 1; rec = c.in_ok-entry.field-0 } ∷ []) (c.in_ok-push.ensures.items ∙ ap (λ (ps : List Part). ps ++ record { child = 0; rec = c.in_ok-copy.field-0 } ∷ []) c.in_ok-parts.ensures.items)
+    ∙ ap (λ (ps : List Part). ps ++ record { child = 1; rec = c.in_ok-entry.field-0 } ∷ [])
+    (c.in_ok-push.ensures.items
+    ∙ ap (λ (ps : List Part). ps ++ record { child = 0; rec = c.in_ok-copy.field-0 } ∷ [])
+    c.in_ok-parts.ensures.items)
     ∙ (λ j. record { child = 0; rec = copy j } ∷ record { child = 1; rec = entry j } ∷ [])

@@ -45,7 +45,8 @@ returns-clause-images g c start is =
     let P = length old.working.spilled.items in
     let before = g.D.Device.content old.device in
     let kept = homes_told tells P before in
-    either_images tells is.told kept (pages_told tells P before old.working.spilled.items old.working.frames.resident) before _
+    either_images tells is.told kept
+    (pages_told tells P before old.working.spilled.items old.working.frames.resident) before _
     (c.commit-committed.ensures.replaces is.told (view_now kept before)
     (calm_count tells old.failed P start before is) (calm_rest tells old.failed P start before
     is)).images
@@ -74,15 +75,19 @@ returns-clause-calm g c start is =
       g.met.D.Device.sized
           c.commit-committed.new.device is.told,
     ) in
-    calm_committed c.commit-committed.result tells old.failed c.is_err.result Q after is.steady c.is_err.ensures.value
-    (on_ok_weaker c.commit-committed.result (λ rest. opened_calm tells is.told Q after (view_now pages before) count room rest false refl)
+    calm_committed c.commit-committed.result tells old.failed c.is_err.result Q after is.steady
+    c.is_err.ensures.value
+    (on_ok_weaker c.commit-committed.result
+    (λ rest. opened_calm tells is.told Q after (view_now pages before) count room rest false
+    refl)
     (e.replaces is.told (view_now (homes_told tells P before) before)
     (calm_count tells old.failed P start before is) (calm_rest tells old.failed P start before
     is)).at_rest)
 
 pub invariant_of-self-clause-closed : goal.invariant_of-self-clause-closed
 invariant_of-self-clause-closed g c told steady =
-    committed_still c.commit-committed.result c.args.self.now.failed c.is_err.result c.is_err.ensures.value steady
+    committed_still c.commit-committed.result c.args.self.now.failed c.is_err.result
+    c.is_err.ensures.value steady
     (λ was. c.commit-committed.ensures.closed told (c.args.self.now.closed told was))
 
 pub invariant_of-self-clause-cached : goal.invariant_of-self-clause-cached

@@ -12,10 +12,13 @@ invariant_of-self g c =
       room = omega (arith, old.room, c.hear.ensures.size);
       limit = omega (arith, old.limit, c.hear.ensures.size);
       count = old.count ∙ ap pages_of (sym c.hear.ensures.size);
-      closed = λ told steady. ap (λ (m : Moment). is_open (block_of m 1)) c.hear.ensures.rest.now ∙ old.closed told steady;
-      cached = λ told. still_cached (g.D.Device.content old.device) (g.D.Device.content c.hear.new.self)
+      closed = λ told steady. ap (λ (m : Moment). is_open (block_of m 1)) c.hear.ensures.rest.now
+          ∙ old.closed told steady;
+      cached = λ told. still_cached (g.D.Device.content old.device)
+          (g.D.Device.content c.hear.new.self)
           (ap (λ (m : Moment). m.blocks) c.hear.ensures.rest.now)
-          (length old.working.spilled.items) old.working.spilled.items old.working.frames.resident (old.cached told);
+          (length old.working.spilled.items) old.working.spilled.items old.working.frames.resident
+          (old.cached told);
     }
 
 pub returns-clause-working : goal.returns-clause-working

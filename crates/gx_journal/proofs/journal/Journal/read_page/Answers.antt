@@ -40,8 +40,10 @@ returns-clause-working g c =
 pub returns-clause-page : goal.returns-clause-page
 returns-clause-page g c told =
     let old = c.args.self.now in
-    on_ok_weaker c.read.result (λ is. is ∙ sym (pages_at g.D.Device.tells (length old.working.spilled.items)
-    (g.D.Device.content old.device) old.working.spilled.items old.working.frames.resident told c.args.p c.requires.below))
+    on_ok_weaker c.read.result
+    (λ is. is ∙ sym (pages_at g.D.Device.tells (length old.working.spilled.items)
+    (g.D.Device.content old.device) old.working.spilled.items old.working.frames.resident told
+    c.args.p c.requires.below))
     (c.read.ensures.page told)
 
 pub invariant_of-self-clause-closed : goal.invariant_of-self-clause-closed

@@ -15,7 +15,8 @@ returns-in-Ok-true-clause-kept g c told =
     let sized = g.met.D.Device.sized c.args.device told in
     let many : length v.pages ≡ c.count.result =
     omega (arith, length-replayed old.now.blocks, c.blocks-2.ensures, c.in-Ok.ensures.count, c.count.ensures, sized) in
-    let rest = c.in-Ok-true.ensures.at_rest told v many (reads_replayed old) c.in-Ok-true.field-0-test in
+    let rest = c.in-Ok-true.ensures.at_rest told v many
+    (reads_replayed old) c.in-Ok-true.field-0-test in
     opened_kept g.D.Device.tells told (length j.working.spilled.items) (content j.device) v
     (omega (arith, many, c.over.ensures.size, c.count.ensures))
     (omega (arith, j.room, g.met.D.Device.sized j.device told))
@@ -30,7 +31,8 @@ returns-in-Ok-true-clause-calm g c told =
     let sized = g.met.D.Device.sized c.args.device told in
     let many : length v.pages ≡ c.count.result =
     omega (arith, length-replayed old.now.blocks, c.blocks-2.ensures, c.in-Ok.ensures.count, c.count.ensures, sized) in
-    let rest = c.in-Ok-true.ensures.at_rest told v many (reads_replayed old) c.in-Ok-true.field-0-test in
+    let rest = c.in-Ok-true.ensures.at_rest told v many
+    (reads_replayed old) c.in-Ok-true.field-0-test in
     opened_calm g.D.Device.tells told (length j.working.spilled.items) (content j.device) v
     (omega (arith, many, c.over.ensures.size, c.count.ensures))
     (omega (arith, j.room, g.met.D.Device.sized j.device told))
@@ -65,7 +67,8 @@ returns-in-Ok-false-clause-images g c told =
       c.count.ensures,
       g.met.D.Device.sized c.args.device told,
     ) in
-    c.recover.ensures.images told (view_now (replayed_pages old.now.blocks) old) many (reads_replayed old)
+    c.recover.ensures.images told (view_now (replayed_pages old.now.blocks) old) many
+    (reads_replayed old)
 
 pub returns-in-Err-clause-images : goal.returns-in-Err-clause-images
 returns-in-Err-clause-images g c told =
@@ -79,10 +82,12 @@ returns-in-Err-clause-images g c told =
       c.count.ensures,
       g.met.D.Device.sized c.args.device told,
     ) in
-    c.recover.ensures.images told (view_now (replayed_pages old.now.blocks) old) many (reads_replayed old)
+    c.recover.ensures.images told (view_now (replayed_pages old.now.blocks) old) many
+    (reads_replayed old)
 
 pub over-requires-clause-count : goal.over-requires-clause-count
-over-requires-clause-count g c = omega (arith, c.blocks-2.ensures, c.in-Ok.ensures.count, c.recover.ensures.size)
+over-requires-clause-count g c =
+    omega (arith, c.blocks-2.ensures, c.in-Ok.ensures.count, c.recover.ensures.size)
 
 pub over-requires-clause-closed : goal.over-requires-clause-closed
 over-requires-clause-closed g c told =

@@ -11,15 +11,19 @@ invariant_of-self g c =
       room = omega (arith, old.room, c.say.ensures.size);
       limit = omega (arith, old.limit, c.say.ensures.size);
       count = old.count ∙ ap pages_of (sym c.say.ensures.size);
-      closed = λ told steady. ap (λ (l : List (List ℕ)). is_open (get_or l 1 [])) c.say.ensures.rest.blocks ∙ old.closed told steady;
-      cached = λ told. still_cached (g.D.Device.content old.device) (g.D.Device.content c.say.new.self) c.say.ensures.rest.blocks
-          (length old.working.spilled.items) old.working.spilled.items old.working.frames.resident (old.cached told);
+      closed = λ told steady. ap (λ (l : List (List ℕ)). is_open (get_or l 1 []))
+          c.say.ensures.rest.blocks ∙ old.closed told steady;
+      cached = λ told. still_cached (g.D.Device.content old.device)
+          (g.D.Device.content c.say.new.self) c.say.ensures.rest.blocks
+          (length old.working.spilled.items) old.working.spilled.items old.working.frames.resident
+          (old.cached told);
     }
 
 pub returns-clause-working : goal.returns-clause-working
 returns-clause-working g c =
     let old = c.args.self.now in
-    still_pages (g.D.Device.content old.device) (g.D.Device.content c.say.new.self) c.say.ensures.rest.blocks g.D.Device.tells
+    still_pages (g.D.Device.content old.device) (g.D.Device.content c.say.new.self)
+    c.say.ensures.rest.blocks g.D.Device.tells
     (length old.working.spilled.items) old.working.spilled.items old.working.frames.resident
 
 pub returns-clause-keeps : goal.returns-clause-keeps
@@ -35,6 +39,7 @@ returns-clause-keeps g c =
       size = refl;
       blocks = c.say.ensures.size;
       steady = refl;
-      calm = λ start. still_calm before after blocks g.D.Device.tells old.failed P start c.say.ensures.rest.shelf
+      calm = λ start. still_calm before after blocks g.D.Device.tells old.failed P start
+          c.say.ensures.rest.shelf
           (λ v. calm_speaks start v before after c.say.ensures.time c.say.ensures.rest);
     }

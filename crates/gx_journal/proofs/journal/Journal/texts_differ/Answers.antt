@@ -14,10 +14,13 @@ invariant_of-self g c =
       room = omega (arith, old.room, c.texts_differ.ensures.size);
       limit = omega (arith, old.limit, c.texts_differ.ensures.size);
       count = old.count ∙ ap pages_of (sym c.texts_differ.ensures.size);
-      closed = λ told steady. ap (λ (m : Moment). is_open (block_of m 1)) c.texts_differ.ensures.reads.now ∙ old.closed told steady;
-      cached = λ told. still_cached (g.D.Device.content old.device) (g.D.Device.content c.texts_differ.new.device)
+      closed = λ told steady. ap (λ (m : Moment). is_open (block_of m 1))
+          c.texts_differ.ensures.reads.now ∙ old.closed told steady;
+      cached = λ told. still_cached (g.D.Device.content old.device)
+          (g.D.Device.content c.texts_differ.new.device)
           (ap (λ (m : Moment). m.blocks) c.texts_differ.ensures.reads.now)
-          (length old.working.spilled.items) old.working.spilled.items old.working.frames.resident (old.cached told);
+          (length old.working.spilled.items) old.working.spilled.items old.working.frames.resident
+          (old.cached told);
     }
 
 pub returns-clause-working : goal.returns-clause-working
@@ -41,14 +44,16 @@ returns-clause-keeps g c =
       blocks = c.texts_differ.ensures.size;
       steady = refl;
       calm = λ start. still_calm before after blocks g.D.Device.tells old.failed P start
-          (ap (λ (m : Moment). m.shelf) c.texts_differ.ensures.reads.now) (c.texts_differ.ensures.reads.calm start);
+          (ap (λ (m : Moment). m.shelf) c.texts_differ.ensures.reads.now)
+          (c.texts_differ.ensures.reads.calm start);
     }
 
 pub returns-clause-place : goal.returns-clause-place
 returns-clause-place g c told =
     let before = g.D.Device.content c.args.self.now.device in
     subst (λ (head : List (List ℕ)). IfOk c.texts_differ.result
-    (DifferFirst (text_at head) (λ q. get_or (text_area c.args.schema.now c.args.equation.now) q 0)))
+    (DifferFirst (text_at head)
+    (λ q. get_or (text_area c.args.schema.now c.args.equation.now) q 0)))
     (sym (ap (λ (b : Bool). head_told b before) told)) (c.texts_differ.ensures.place told)
 
 pub returns-clause-blocks : goal.returns-clause-blocks

@@ -8,8 +8,13 @@ pub returns-clause-ok : goal.returns-clause-ok
 returns-clause-ok g c = λ whole.
     let l = c.args.self.now in
     let old = map_at (maps g.P.PageView l.places.items l.pages) c.args.leaf in
-    sets g.P.PageView l.places.items l.pages l.laid_out c.args.leaf c.place-place.result c.place-place.ensures.at c.put_in_file.new.pages c.put_in_file.ensures.keeps c.put_in_file.result (insert old c.args.key.now c.args.body.now) c.put_in_file.ensures.others
-    (c.put_in_file.ensures.ok old (holds g.P.PageView l.places.items l.pages l.laid_out c.args.leaf c.place-place.result c.place-place.ensures.at whole)) whole
+    sets g.P.PageView l.places.items l.pages l.laid_out c.args.leaf c.place-place.result
+    c.place-place.ensures.at c.put_in_file.new.pages c.put_in_file.ensures.keeps
+    c.put_in_file.result (insert old c.args.key.now c.args.body.now)
+    c.put_in_file.ensures.others
+    (c.put_in_file.ensures.ok old
+    (holds g.P.PageView l.places.items l.pages l.laid_out c.args.leaf c.place-place.result
+    c.place-place.ensures.at whole)) whole
 
 pub returns-clause-edits : goal.returns-clause-edits
 returns-clause-edits g c =
@@ -17,25 +22,41 @@ returns-clause-edits g c =
     let old = map_at (maps g.P.PageView l.places.items l.pages) c.args.leaf in
     let cause = c.put_in_file.ensures.ends.cause in
     let home = c.put_in_file.ensures.ends.home in record {
-      others = others_stay g.P.PageView l.places.items l.pages l.laid_out c.args.leaf c.place-place.result c.place-place.ensures.at c.put_in_file.new.pages c.put_in_file.ensures.keeps c.put_in_file.result c.put_in_file.ensures.others;
-      fresh_others = fresh_stays g.P.PageView l.places.items l.pages l.laid_out c.args.leaf c.place-place.result c.place-place.ensures.at c.put_in_file.new.pages c.put_in_file.ensures.keeps c.put_in_file.result c.put_in_file.ensures.others;
+      others = others_stay g.P.PageView l.places.items l.pages l.laid_out c.args.leaf
+          c.place-place.result c.place-place.ensures.at c.put_in_file.new.pages
+          c.put_in_file.ensures.keeps c.put_in_file.result c.put_in_file.ensures.others;
+      fresh_others = fresh_stays g.P.PageView l.places.items l.pages l.laid_out c.args.leaf
+          c.place-place.result c.place-place.ensures.at c.put_in_file.new.pages
+          c.put_in_file.ensures.keeps c.put_in_file.result c.put_in_file.ensures.others;
       keeps = record {
-        leaves = same_count g.P.PageView l.places.items l.pages c.put_in_file.new.pages c.put_in_file.ensures.keeps;
-        kept = same_kept g.P.PageView l.places.items l.pages c.put_in_file.new.pages c.put_in_file.ensures.keeps;
-        kept_whole = were_whole g.P.PageView l.places.items l.pages c.put_in_file.new.pages c.put_in_file.ensures.keeps;
-        limit = same_limit g.P.PageView l.places.items l.pages c.put_in_file.new.pages c.put_in_file.ensures.keeps;
-        head = same_head g.P.PageView l.places.items l.pages c.put_in_file.new.pages c.put_in_file.ensures.keeps;
+        leaves = same_count g.P.PageView l.places.items l.pages c.put_in_file.new.pages
+            c.put_in_file.ensures.keeps;
+        kept = same_kept g.P.PageView l.places.items l.pages c.put_in_file.new.pages
+            c.put_in_file.ensures.keeps;
+        kept_whole = were_whole g.P.PageView l.places.items l.pages c.put_in_file.new.pages
+            c.put_in_file.ensures.keeps;
+        limit = same_limit g.P.PageView l.places.items l.pages c.put_in_file.new.pages
+            c.put_in_file.ensures.keeps;
+        head = same_head g.P.PageView l.places.items l.pages c.put_in_file.new.pages
+            c.put_in_file.ensures.keeps;
         calm = c.put_in_file.ensures.keeps.calm;
         silent = c.put_in_file.ensures.keeps.silent;
       };
       work = refl;
       ends = record {
-        whole = stays_whole g.P.PageView l.places.items l.pages l.laid_out c.args.leaf c.place-place.result c.place-place.ensures.at c.put_in_file.new.pages c.put_in_file.ensures.keeps c.put_in_file.result (insert old c.args.key.now c.args.body.now) c.put_in_file.ensures.others
-            (λ whole. c.put_in_file.ensures.ok old (holds g.P.PageView l.places.items l.pages l.laid_out c.args.leaf c.place-place.result c.place-place.ensures.at whole));
+        whole = stays_whole g.P.PageView l.places.items l.pages l.laid_out c.args.leaf
+            c.place-place.result c.place-place.ensures.at c.put_in_file.new.pages
+            c.put_in_file.ensures.keeps c.put_in_file.result
+            (insert old c.args.key.now c.args.body.now) c.put_in_file.ensures.others
+            (λ whole. c.put_in_file.ensures.ok old
+            (holds g.P.PageView l.places.items l.pages l.laid_out c.args.leaf
+            c.place-place.result c.place-place.ensures.at whole));
         later = cause.later;
         fault = cause.fault;
         counted = cause.counted;
-        damaged = λ block is whole. cause.damaged block is (file_whole g.P.PageView l.places.items l.pages l.laid_out c.args.leaf c.place-place.result c.place-place.ensures.at whole);
+        damaged = λ block is whole. cause.damaged block is
+            (file_whole g.P.PageView l.places.items l.pages l.laid_out c.args.leaf
+            c.place-place.result c.place-place.ensures.at whole);
       };
       block = record { bound = λ block is. (home block is).1.within; home = home };
     }
@@ -43,4 +64,7 @@ returns-clause-edits g c =
 pub returns-clause-full : goal.returns-clause-full
 returns-clause-full g c =
     let l = c.args.self.now in
-    full g.P.PageView l.places.items l.pages l.laid_out c.args.leaf c.place-place.result c.place-place.ensures.at c.put_in_file.new.pages c.put_in_file.ensures.keeps c.put_in_file.result c.put_in_file.ensures.others c.put_in_file.ensures.full (λ told. (g.met.P.Pages.many c.put_in_file.new.pages told).0)
+    full g.P.PageView l.places.items l.pages l.laid_out c.args.leaf c.place-place.result
+    c.place-place.ensures.at c.put_in_file.new.pages c.put_in_file.ensures.keeps
+    c.put_in_file.result c.put_in_file.ensures.others c.put_in_file.ensures.full
+    (λ told. (g.met.P.Pages.many c.put_in_file.new.pages told).0)

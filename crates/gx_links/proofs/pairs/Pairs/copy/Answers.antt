@@ -11,8 +11,12 @@ loop-pair-preserved c =
     let i = c.loop-pair.pair-index in
     let pair = c.pair-item.result in
     let is : items ≡ c.args.self.now = search rules in
-    let sized = c.requires pair (subst (In pair) is (in_read items i pair c.pair-item.is c.loop-pair-test.true)) in
+    let sized = c.requires pair
+    (subst (In pair) is (in_read items i pair c.pair-item.is c.loop-pair-test.true)) in
     let one = c.in_ok-copy.ensures sized.0 in
     let two = c.in_ok-copy-2.ensures sized.1 in
-    let both : ◌≡◌ {A = Value × Value} (c.in_ok-copy.field-0, c.in_ok-copy-2.field-0) pair = λ j. (one j, two j) in
-    c.in_ok-push.ensures.items ∙ (λ j. c.loop-pair.invariant j ++ both j ∷ []) ∙ ap (λ q. take i items ++ q ∷ []) c.pair-item.is ∙ sym (take_more items i pair c.loop-pair-test.true)
+    let both : ◌≡◌ {A = Value × Value} (c.in_ok-copy.field-0, c.in_ok-copy-2.field-0) pair =
+    λ j. (one j, two j) in
+    c.in_ok-push.ensures.items ∙ (λ j. c.loop-pair.invariant j ++ both j ∷ [])
+    ∙ ap (λ q. take i items ++ q ∷ []) c.pair-item.is
+    ∙ sym (take_more items i pair c.loop-pair-test.true)

@@ -10,23 +10,30 @@ use Rattle.gx_lists.proofs.ArrayChanges.{each_sized, bytes_small, with_fits, non
 use Rattle.gx_lists.proofs.array.PointerArray.put_among.Goals as goal
 
 pub with_member-requires-clause-members : goal.with_member-requires-clause-members
-with_member-requires-clause-members g c = each_sized c.args.self.now.member c.args.members.now c.requires.members
+with_member-requires-clause-members g c =
+    each_sized c.args.self.now.member c.args.members.now c.requires.members
 
 pub array_rec-requires-clause-members : goal.array_rec-requires-clause-members
 array_rec-requires-clause-members g c = λ m h.
-    let list : c.deref.result.now ≡ with_member c.args.member.now c.args.members.now = search rules in
+    let list : c.deref.result.now ≡ with_member c.args.member.now c.args.members.now =
+    search rules in
     bytes_small c.args.self.now.member m c.requires.valid.member_kind
-    (with_fits c.args.self.now.member c.args.member.now c.args.members.now c.requires.member c.requires.members m (subst (In m) list h))
+    (with_fits c.args.self.now.member c.args.member.now c.args.members.now c.requires.member
+    c.requires.members m (subst (In m) list h))
 
 pub replace-requires-clause-below : goal.replace-requires-clause-below
 replace-requires-clause-below g c = λ n h. c.requires.below n
-    (in_leaves g.M.Mapping.rule (tree_of c.args.self.now.tree.now) c.args.self.now.member c.requires.valid n h)
+    (in_leaves g.M.Mapping.rule (tree_of c.args.self.now.tree.now) c.args.self.now.member
+    c.requires.valid n h)
 
 pub replace-requires-clause-new_fits : goal.replace-requires-clause-new_fits
 replace-requires-clause-new_fits g c =
-    let list : c.deref.result.now ≡ with_member c.args.member.now c.args.members.now = search rules in
-    new_fits g.M.Mapping.rule (tree_of c.args.self.now.tree.now) c.args.self.now.member c.requires.valid c.args.owner.now c.args.member.now
-    c.args.members.now c.deref.result.now c.in_ok-new.new c.requires.owner c.requires.member c.requires.members c.requires.room list
+    let list : c.deref.result.now ≡ with_member c.args.member.now c.args.members.now =
+    search rules in
+    new_fits g.M.Mapping.rule (tree_of c.args.self.now.tree.now) c.args.self.now.member
+    c.requires.valid c.args.owner.now c.args.member.now
+    c.args.members.now c.deref.result.now c.in_ok-new.new c.requires.owner c.requires.member
+    c.requires.members c.requires.room list
     c.in_ok-new.ensures
 
 pub returns-then-is_empty : goal.returns-then-is_empty
@@ -62,25 +69,31 @@ returns-then-is_empty g c =
 pub array_rec-requires-2-clause-members : goal.array_rec-requires-2-clause-members
 array_rec-requires-2-clause-members g c = λ m h.
     let list : c.deref-2.result.now ≡ c.args.members.now = search rules in
-    bytes_small c.args.self.now.member m c.requires.valid.member_kind (c.requires.members m (subst (In m) list h))
+    bytes_small c.args.self.now.member m c.requires.valid.member_kind
+    (c.requires.members m (subst (In m) list h))
 
 pub replace-requires-2-clause-below : goal.replace-requires-2-clause-below
 replace-requires-2-clause-below g c = λ n h. c.requires.below n
-    (in_leaves g.M.Mapping.rule (tree_of c.args.self.now.tree.now) c.args.self.now.member c.requires.valid n h)
+    (in_leaves g.M.Mapping.rule (tree_of c.args.self.now.tree.now) c.args.self.now.member
+    c.requires.valid n h)
 
 pub replace-requires-2-clause-old_fits : goal.replace-requires-2-clause-old_fits
 replace-requires-2-clause-old_fits g c =
     let list : c.deref-2.result.now ≡ c.args.members.now = search rules in
     let room = c.requires.room in
-    old_fits g.M.Mapping.rule (tree_of c.args.self.now.tree.now) c.args.self.now.member c.requires.valid c.args.owner.now
+    old_fits g.M.Mapping.rule (tree_of c.args.self.now.tree.now) c.args.self.now.member
+    c.requires.valid c.args.owner.now
     c.args.members.now c.in_ok-old.old c.requires.owner c.requires.members (omega (arith, room))
     (c.in_ok-old.ensures ∙ ap (array_rec c.args.owner.now) list)
 
 pub replace-requires-2-clause-new_fits : goal.replace-requires-2-clause-new_fits
 replace-requires-2-clause-new_fits g c =
-    let list : c.deref.result.now ≡ with_member c.args.member.now c.args.members.now = search rules in
-    new_fits g.M.Mapping.rule (tree_of c.args.self.now.tree.now) c.args.self.now.member c.requires.valid c.args.owner.now c.args.member.now
-    c.args.members.now c.deref.result.now c.in_ok-new.new c.requires.owner c.requires.member c.requires.members c.requires.room list
+    let list : c.deref.result.now ≡ with_member c.args.member.now c.args.members.now =
+    search rules in
+    new_fits g.M.Mapping.rule (tree_of c.args.self.now.tree.now) c.args.self.now.member
+    c.requires.valid c.args.owner.now c.args.member.now
+    c.args.members.now c.deref.result.now c.in_ok-new.new c.requires.owner c.requires.member
+    c.requires.members c.requires.room list
     c.in_ok-new.ensures
 
 pub returns : goal.returns

@@ -27,7 +27,8 @@ owners_of-requires g c = λ p h.
     let rule = g.M.Mapping.rule in
     let down = tree_of c.args.self.now.down.now in
     let up = tree_of c.args.self.now.up.now in
-    let fit = (inverted_read rule down up c.requires.valid c.args.down c.args.up c.requires.up).fit p
+    let fit = (inverted_read rule down up c.requires.valid c.args.down c.args.up c.requires.up).fit
+    p
     (subst (In p) c.in_ok-pairs.ensures h) in
     (fit_sized (member_kind rule up) p.0 fit.0, fit_sized (owner_kind rule down) p.1 fit.1)
 
@@ -36,7 +37,8 @@ inverted_rows-requires g c = λ x h m k.
     let rule = g.M.Mapping.rule in
     let down = tree_of c.args.self.now.down.now in
     let up = tree_of c.args.self.now.up.now in
-    let fit = (inverted_read rule down up c.requires.valid c.args.down c.args.up c.requires.up).fit (m, x.owner)
+    let fit = (inverted_read rule down up c.requires.valid c.args.down c.args.up c.requires.up).fit
+    (m, x.owner)
     (subst (In (m, x.owner)) c.in_ok-pairs.ensures ((c.in_ok-owners.ensures.pairs x h).each m k)) in
     (fit_sized (owner_kind rule down) x.owner fit.1, fit_sized (member_kind rule up) m fit.0)
 

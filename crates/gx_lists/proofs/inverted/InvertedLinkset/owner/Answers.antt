@@ -17,20 +17,25 @@ use Rattle.gx_lists.proofs.inverted.InvertedLinkset.owner.Goals as goal
 
 pub select-requires-clause-below : goal.select-requires-clause-below
 select-requires-clause-below g c = λ n h. c.requires.below n
-    (up_leaf g.M.Mapping.rule (tree_of c.args.self.now.down.now) (tree_of c.args.self.now.up.now) c.requires.valid n h)
+    (up_leaf g.M.Mapping.rule (tree_of c.args.self.now.down.now) (tree_of c.args.self.now.up.now)
+    c.requires.valid n h)
 
 pub returns-in_err-select-clause-reads : goal.returns-in_err-select-clause-reads
 returns-in_err-select-clause-reads g c =
     let down = tree_of c.args.self.now.down.now in
     let up = tree_of c.args.self.now.up.now in
-    let held = up_has_set g.M.Mapping.rule down up c.requires.valid (g.B.View.working c.args.leaves.now) in
-    reads_given g.B.View c.from_residual.result c.from_residual.ensures.1 (λ s. (s.0, held s.1)) c.in_err-select.ensures.reads
+    let held = up_has_set g.M.Mapping.rule down up c.requires.valid
+    (g.B.View.working c.args.leaves.now) in
+    reads_given g.B.View c.from_residual.result c.from_residual.ensures.1
+    (λ s. (s.0, held s.1)) c.in_err-select.ensures.reads
 
 pub owner_of-requires : goal.owner_of-requires
 owner_of-requires g c = λ r h.
     let found = c.in_ok-select.ensures.found in
-    let now = found.appended ∙ ap (λ (before : List Rec). before ++ found.found) c.new-found.ensures in
-    (owned_long g.M.Mapping.rule (tree_of c.args.self.now.down.now) (tree_of c.args.self.now.up.now) c.requires.valid r
+    let now = found.appended ∙ ap (λ (before : List Rec). before ++ found.found) c.new-found.ensures
+    in
+    (owned_long g.M.Mapping.rule (tree_of c.args.self.now.down.now) (tree_of c.args.self.now.up.now)
+    c.requires.valid r
     (found.fit r (subst (In r) now h))).0
 
 pub returns-clause-found : goal.returns-clause-found
@@ -41,18 +46,25 @@ returns-clause-found g c =
     let member = c.args.member.now in
     let span = c.value_span-span.result in
     let found = c.in_ok-select.ensures.found in
-    let now = found.appended ∙ ap (λ (before : List Rec). before ++ found.found) c.new-found.ensures in
+    let now = found.appended ∙ ap (λ (before : List Rec). before ++ found.found) c.new-found.ensures
+    in
     let answer : c.owner_of.result ≡ owner_in found.found = c.owner_of.ensures ∙ ap owner_in now in
     let those = subst (λ (form : Form). (key : List Value) → AreFit form.keys key
-    → is_inside span.lo span.hi (key_of key) ≡ begins_with member key) c.form.ensures c.value_span-span.ensures.those in
+    → is_inside span.lo span.hi (key_of key) ≡ begins_with member key) c.form.ensures
+    c.value_span-span.ensures.those in
     record {
       fit = subst (λ o. IfSome o (Fits (owner_kind rule down))) (sym answer)
           (owner_fits rule down up c.requires.valid found.found found.fit);
-      that = λ whole link is held. answer ∙ ap owner_in (owned_found rule down up c.requires.valid link member span found.found is those
-          (found.selected whole (node_rows inverted_rows link 1) (up_set rule down up c.requires.valid link is) held.1.0))
+      that = λ whole link is held. answer
+          ∙ ap owner_in (owned_found rule down up c.requires.valid link member span found.found is
+          those
+          (found.selected whole (node_rows inverted_rows link 1)
+          (up_set rule down up c.requires.valid link is) held.1.0))
           ∙ owner_again member (fin.get link member);
-      few_steps = λ finds whole link is held. owner_steps rule down up c.requires.valid link member found.found c.owner_of.result _ _
+      few_steps = λ finds whole link is held. owner_steps rule down up c.requires.valid link member
+          found.found c.owner_of.result _ _
           (owned_found rule down up c.requires.valid link member span found.found is those
-          (found.selected whole (node_rows inverted_rows link 1) (up_set rule down up c.requires.valid link is) held.1.0)) answer
+          (found.selected whole (node_rows inverted_rows link 1)
+          (up_set rule down up c.requires.valid link is) held.1.0)) answer
           found.few_steps;
     }

@@ -6,7 +6,8 @@ use Rattle.gx_memory_machine.proofs.memory.MemoryMachineDevice.hear.Goals as goa
 pub returns-clause-heard : goal.returns-clause-heard
 returns-clause-heard c = record {
   heard = ap (λ (m : Memory). m.script) (sym c.self.view_is)
-      ∙ heard_bytes c.self.inside.script.items c.copy_from_slice.new.self _ c.self.inside.heard c.min-count.result
+      ∙ heard_bytes c.self.inside.script.items c.copy_from_slice.new.self _ c.self.inside.heard
+      c.min-count.result
       (rw (← c.deref.ensures.value) c.copy_from_slice.ensures.after) (omega arith);
   at_end = λ e. ap (λ (m : Memory). m.script) (sym c.self.view_is)
       ∙ heard_none c.self.inside.script.items c.self.inside.heard

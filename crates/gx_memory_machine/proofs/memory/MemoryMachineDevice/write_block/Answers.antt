@@ -10,7 +10,8 @@ pub returns-then-not-begins-clause-rest : goal.returns-then-not-begins-clause-re
 returns-then-not-begins-clause-rest c =
     let t = c.self.inside in
     let n = c.args.n in
-    let size = subst (λ (m : Memory). n < length m.now.blocks) (sym c.self.view_is) c.requires.below in
+    let size = subst (λ (m : Memory). n < length m.now.blocks) (sym c.self.view_is) c.requires.below
+    in
     subst (λ (old : Memory). Writes n (content_of old) (content_of (the_view (record {
       texts = t.texts;
       script = t.script;
@@ -20,7 +21,8 @@ returns-then-not-begins-clause-rest c =
     })))) c.self.view_is
     (writes_nothing n _ _ (record {
       time =
-          ticks (c.begins.result || is_short t.counter 4096) _ _ c.begins.ensures.now refl refl c.begins.ensures.past;
+          ticks (c.begins.result || is_short t.counter 4096) _ _ c.begins.ensures.now refl refl
+          c.begins.ensures.past;
       now =
           c.begins.ensures.now;
       script = refl;

@@ -17,8 +17,10 @@ returns-clause-opened c = λ none opens.
       trace = c.attach.new.self;
       counter = c.begins_itself.new.counter;
     })))
-    c.as_bytes-name.result.now c.args.name.now c.args.make c.begins_itself.new.trace.now c.as_bytes-name.ensures.value was
-    (ap (λ (m : Memory). m.script) c.self.view_is) (ap (λ (m : Memory). (content_of m).aside) c.self.view_is) none adds.now there opens)
+    c.as_bytes-name.result.now c.args.name.now c.args.make c.begins_itself.new.trace.now
+    c.as_bytes-name.ensures.value was
+    (ap (λ (m : Memory). m.script) c.self.view_is)
+    (ap (λ (m : Memory). (content_of m).aside) c.self.view_is) none adds.now there opens)
     c.attach.ensures.ok c.attach.ensures.cause.there
 
 pub returns-clause-made : goal.returns-clause-made
@@ -34,7 +36,8 @@ returns-clause-made c = λ none n makes.
       trace = c.attach.new.self;
       counter = c.begins_itself.new.counter;
     })))
-    c.as_bytes-name.result.now c.args.name.now c.args.make c.begins_itself.new.trace.now c.as_bytes-name.ensures.value was
+    c.as_bytes-name.result.now c.args.name.now c.args.make c.begins_itself.new.trace.now
+    c.as_bytes-name.ensures.value was
     (ap (λ (m : Memory). m.script) c.self.view_is) (ap (λ (m : Memory).
     (content_of m).aside) c.self.view_is) none adds.now there n makes)
     c.attach.ensures.ok c.attach.ensures.cause.there

@@ -12,9 +12,11 @@ use Rattle.gx_memory_machine.proofs.LogLemmas.{noted, noted_past, attaching_uses
 use Rattle.gx_memory_machine.proofs.trace.Trace.attach.Goals as goal
 
 -- what stands once the device is attached
-attached : (blocks given : List (List ℕ)) (pending : List Bool) (said drive_name name : List ℕ) (shelf : Shelf) (devices : Devices)
+attached : (blocks given : List (List ℕ)) (pending : List Bool) (said drive_name name : List ℕ)
+    (shelf : Shelf) (devices : Devices)
     (m : Moment)
-    → m.said ≡ said → m.shelf ≡ shelf → shelf.devices ≡ devices → blocks ≡ given → pending ≡ replicate (length given) false
+    → m.said ≡ said → m.shelf ≡ shelf → shelf.devices ≡ devices → blocks ≡ given
+    → pending ≡ replicate (length given) false
     → drive_name ≡ name
     → (let x : Moment = record {
       blocks = blocks;
@@ -22,52 +24,66 @@ attached : (blocks given : List (List ℕ)) (pending : List Bool) (said drive_na
       said = said;
       shelf = record { name = Some drive_name; devices = remove devices drive_name };
     } in x) ≡ with_device m name given
-attached blocks given pending said drive_name name shelf devices m is_said is_shelf on b p n = λ i. record {
-  blocks = b i;
-  pending = p i;
-  said = sym is_said i;
-  shelf = record { name = Some (n i); devices = remove (sym (ap (λ (s : Shelf). s.devices) is_shelf ∙ on) i) (n i) };
-}
+attached blocks given pending said drive_name name shelf devices m is_said is_shelf on b p n =
+    λ i. record {
+      blocks = b i;
+      pending = p i;
+      said = sym is_said i;
+      shelf = record { name = Some (n i); devices = remove (sym (ap (λ (s : Shelf). s.devices) is_shelf ∙ on) i) (n i) };
+    }
 
 pub invariant_of-self : goal.invariant_of-self
 invariant_of-self c =
     let t = c.self.inside in
     let devices : Devices = by_name t.start.entries in
     let m : Moment = record { blocks = t.blocks.items; pending = t.pending.items; said = t.said.items; shelf = shelf_of t.name devices } in
-    let on = all_on_shelf t.name devices (ap (λ (x : Traced). x.now.shelf.name) c.self.view_is ∙ c.requires.first) in
+    let on = all_on_shelf t.name devices (ap (λ (x : Traced). x.now.shelf.name) c.self.view_is
+    ∙ c.requires.first) in
     let name = c.args.name.now in
     let drive = c.in-Ok-prepare.drive in
     let given : c.in-Ok.blocks.items ≡ blocks_given m.shelf.devices name c.args.make =
     c.in-Ok.ensures.blocks ∙ ap (λ (d : Devices). blocks_given d name c.args.make) (sym on) in
-    let blocks : drive.blocks.items ≡ c.in-Ok.blocks.items = ap (λ (v : Vec (List ℕ)). v.items) c.in-Ok-prepare.ensures.blocks in
+    let blocks : drive.blocks.items ≡ c.in-Ok.blocks.items =
+    ap (λ (v : Vec (List ℕ)). v.items) c.in-Ok-prepare.ensures.blocks in
     let is = attached drive.blocks.items
-    (blocks_given m.shelf.devices name c.args.make) drive.pending.items t.said.items drive.name.items name m.shelf devices m refl refl on
+    (blocks_given m.shelf.devices name c.args.make) drive.pending.items t.said.items
+    drive.name.items name m.shelf devices m refl refl on
     (blocks ∙ given)
-    (c.in-Ok-prepare.ensures.pending ∙ ap (λ (l : List (List ℕ)). replicate (length l) false) given) c.in-Ok-prepare.ensures.name in
-    noted (first devices) m t.steps.items c.note.new.steps.items t.written.items c.note.new.written.items c.self.invariant c.step_of.result
+    (c.in-Ok-prepare.ensures.pending ∙ ap (λ (l : List (List ℕ)). replicate (length l) false) given)
+    c.in-Ok-prepare.ensures.name in
+    noted (first devices) m t.steps.items c.note.new.steps.items t.written.items
+    c.note.new.written.items c.self.invariant c.step_of.result
     name c.note.ensures.steps c.note.ensures.written
     (attaching_uses (length name) c.args.make ∙ sym (ap uses c.step_of.ensures)) _
-    (ap (λ (s : Step). advance m s name) c.step_of.ensures ∙ attaching_is m name c.args.make ∙ sym is)
-    (ap (λ (l : List Bool). length l) c.in-Ok-prepare.ensures.pending ∙ length-replicate (length c.in-Ok.blocks.items) false
+    (ap (λ (s : Step). advance m s name) c.step_of.ensures ∙ attaching_is m name c.args.make
+    ∙ sym is)
+    (ap (λ (l : List Bool). length l) c.in-Ok-prepare.ensures.pending
+    ∙ length-replicate (length c.in-Ok.blocks.items) false
     ∙ sym (ap (λ (l : List (List ℕ)). length l) blocks))
-    (subst (λ (l : List (List ℕ)). length l < 2 ^ 32) (sym blocks) (c.in-Ok.ensures.few c.self.invariant.each_few))
+    (subst (λ (l : List (List ℕ)). length l < 2 ^ 32) (sym blocks)
+    (c.in-Ok.ensures.few c.self.invariant.each_few))
 
 pub returns-clause-ok : goal.returns-clause-ok
 returns-clause-ok c =
     let t = c.self.inside in
     let devices : Devices = by_name t.start.entries in
     let m : Moment = record { blocks = t.blocks.items; pending = t.pending.items; said = t.said.items; shelf = shelf_of t.name devices } in
-    let on = all_on_shelf t.name devices (ap (λ (x : Traced). x.now.shelf.name) c.self.view_is ∙ c.requires.first) in
+    let on = all_on_shelf t.name devices (ap (λ (x : Traced). x.now.shelf.name) c.self.view_is
+    ∙ c.requires.first) in
     let name = c.args.name.now in
     let drive = c.in-Ok-prepare.drive in
     let given : c.in-Ok.blocks.items ≡ blocks_given m.shelf.devices name c.args.make =
     c.in-Ok.ensures.blocks ∙ ap (λ (d : Devices). blocks_given d name c.args.make) (sym on) in
-    let blocks : drive.blocks.items ≡ c.in-Ok.blocks.items = ap (λ (v : Vec (List ℕ)). v.items) c.in-Ok-prepare.ensures.blocks in
+    let blocks : drive.blocks.items ≡ c.in-Ok.blocks.items =
+    ap (λ (v : Vec (List ℕ)). v.items) c.in-Ok-prepare.ensures.blocks in
     let is = attached drive.blocks.items
-    (blocks_given m.shelf.devices name c.args.make) drive.pending.items t.said.items drive.name.items name m.shelf devices m refl refl on
+    (blocks_given m.shelf.devices name c.args.make) drive.pending.items t.said.items
+    drive.name.items name m.shelf devices m refl refl on
     (blocks ∙ given)
-    (c.in-Ok-prepare.ensures.pending ∙ ap (λ (l : List (List ℕ)). replicate (length l) false) given) c.in-Ok-prepare.ensures.name in
-    subst (λ (old : Traced). Adds (length name) (with_device old.now name (blocks_given old.now.shelf.devices name c.args.make)) old
+    (c.in-Ok-prepare.ensures.pending ∙ ap (λ (l : List (List ℕ)). replicate (length l) false) given)
+    c.in-Ok-prepare.ensures.name in
+    subst (λ (old : Traced). Adds (length name)
+    (with_device old.now name (blocks_given old.now.shelf.devices name c.args.make)) old
     (the_view (record {
       start = t.start;
       name = Some drive.name;
@@ -78,7 +94,8 @@ returns-clause-ok c =
       written = c.note.new.written;
     }))) c.self.view_is (record {
       now = is;
-      past = noted_past (first devices) m t.steps.items c.note.new.steps.items t.written.items c.note.new.written.items c.self.invariant
+      past = noted_past (first devices) m t.steps.items c.note.new.steps.items t.written.items
+          c.note.new.written.items c.self.invariant
           c.step_of.result name c.note.ensures.steps c.note.ensures.written
           (attaching_uses (length name) c.args.make ∙ sym (ap uses c.step_of.ensures));
       calls = omega (arith, c.note.ensures.count, c.note.ensures.places);

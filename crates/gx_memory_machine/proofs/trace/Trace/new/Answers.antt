@@ -16,8 +16,10 @@ invariant_of-result c =
         shelf = record { name = None; devices = by_name c.new.result.entries };
       })
           ∙ sym (ap (λ (l : List Step). latest start l c.new-6.result.items) c.new-5.ensures.items);
-      total = ap (λ (l : List ℕ). length l) c.new-6.ensures.items ∙ sym (ap total c.new-5.ensures.items);
-      flags = ap (λ (l : List Bool). length l) c.new-3.ensures.items ∙ sym (ap (λ (l : List (List ℕ)). length l) c.new-2.ensures.items);
+      total = ap (λ (l : List ℕ). length l) c.new-6.ensures.items
+          ∙ sym (ap total c.new-5.ensures.items);
+      flags = ap (λ (l : List Bool). length l) c.new-3.ensures.items
+          ∙ sym (ap (λ (l : List (List ℕ)). length l) c.new-2.ensures.items);
       few = omega (arith, ap (λ (l : List (List ℕ)). length l) c.new-2.ensures.items);
       each_few = none_few c.new.result.entries c.new.ensures.empty;
     }

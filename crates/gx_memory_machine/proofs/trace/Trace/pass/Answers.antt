@@ -10,8 +10,10 @@ use Rattle.gx_memory_machine.proofs.trace.Trace.pass.Goals as goal
 pub invariant_of-self : goal.invariant_of-self
 invariant_of-self c =
     let t = c.self.inside in
-    noted (first (by_name t.start.entries)) _ t.steps.items c.note.new.steps.items t.written.items c.note.new.written.items c.self.invariant
-    step.Still [] c.note.ensures.steps c.note.ensures.written refl _ refl c.self.invariant.flags c.self.invariant.few
+    noted (first (by_name t.start.entries)) _ t.steps.items c.note.new.steps.items t.written.items
+    c.note.new.written.items c.self.invariant
+    step.Still [] c.note.ensures.steps c.note.ensures.written refl _ refl c.self.invariant.flags
+    c.self.invariant.few
 
 pub returns : goal.returns
 returns c =
@@ -26,7 +28,8 @@ returns c =
       written = c.note.new.written;
     }))) c.self.view_is (record {
       now = refl;
-      past = noted_past (first (by_name t.start.entries)) _ t.steps.items c.note.new.steps.items t.written.items c.note.new.written.items
+      past = noted_past (first (by_name t.start.entries)) _ t.steps.items c.note.new.steps.items
+          t.written.items c.note.new.written.items
           c.self.invariant step.Still [] c.note.ensures.steps c.note.ensures.written refl;
       calls = omega (arith, c.note.ensures.count, c.note.ensures.places);
       bytes = omega (arith, c.note.ensures.long, c.note.ensures.capacity);

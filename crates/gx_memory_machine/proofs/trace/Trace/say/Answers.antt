@@ -14,8 +14,10 @@ invariant_of-self c =
     let whole : take (length c.args.piece.now) c.args.piece.now ≡ c.args.piece.now =
     take_all (length c.args.piece.now) c.args.piece.now (omega arith) in
     let said = ap (λ (l : List ℕ). t.said.items ++ l) whole ∙ sym c.append.ensures.items in
-    noted (first (by_name t.start.entries)) _ t.steps.items c.note.new.steps.items t.written.items c.note.new.written.items c.self.invariant
-    (step.Say (length c.args.piece.now)) c.args.piece.now c.note.ensures.steps c.note.ensures.written refl _
+    noted (first (by_name t.start.entries)) _ t.steps.items c.note.new.steps.items t.written.items
+    c.note.new.written.items c.self.invariant
+    (step.Say (length c.args.piece.now)) c.args.piece.now c.note.ensures.steps
+    c.note.ensures.written refl _
     (λ i. record {
       blocks = t.blocks.items;
       pending = t.pending.items;
@@ -42,8 +44,10 @@ returns c =
         said = c.append.ensures.items i;
         shelf = shelf_of t.name (by_name t.start.entries);
       };
-      past = noted_past (first (by_name t.start.entries)) _ t.steps.items c.note.new.steps.items t.written.items c.note.new.written.items
-          c.self.invariant (step.Say (length c.args.piece.now)) c.args.piece.now c.note.ensures.steps c.note.ensures.written refl;
+      past = noted_past (first (by_name t.start.entries)) _ t.steps.items c.note.new.steps.items
+          t.written.items c.note.new.written.items
+          c.self.invariant (step.Say (length c.args.piece.now)) c.args.piece.now
+          c.note.ensures.steps c.note.ensures.written refl;
       calls = omega (arith, c.note.ensures.count, c.note.ensures.places);
       bytes = omega (arith, c.note.ensures.long, c.note.ensures.capacity, c.append.ensures.long, c.append.ensures.capacity);
     })

@@ -11,7 +11,8 @@ use Rattle.gx_memory_machine.proofs.trace.Trace.sync.Goals as goal
 pub invariant_of-self : goal.invariant_of-self
 invariant_of-self c =
     let t = c.self.inside in
-    noted (first (by_name t.start.entries)) _ t.steps.items c.note.new.steps.items t.written.items c.note.new.written.items c.self.invariant
+    noted (first (by_name t.start.entries)) _ t.steps.items c.note.new.steps.items t.written.items
+    c.note.new.written.items c.self.invariant
     step.Sync [] c.note.ensures.steps c.note.ensures.written refl _
     (λ i. record {
       blocks = t.blocks.items;
@@ -39,7 +40,8 @@ returns c =
         said = t.said.items;
         shelf = shelf_of t.name (by_name t.start.entries);
       };
-      past = noted_past (first (by_name t.start.entries)) _ t.steps.items c.note.new.steps.items t.written.items c.note.new.written.items
+      past = noted_past (first (by_name t.start.entries)) _ t.steps.items c.note.new.steps.items
+          t.written.items c.note.new.written.items
           c.self.invariant step.Sync [] c.note.ensures.steps c.note.ensures.written refl;
       calls = omega (arith, c.note.ensures.count, c.note.ensures.places);
       bytes = omega (arith, c.note.ensures.long, c.note.ensures.capacity);

@@ -13,9 +13,12 @@ pub invariant_of-self : goal.invariant_of-self
 invariant_of-self c =
     let t = c.self.inside in
     let own : take 4096 c.args.from.now ≡ c.copy_from_slice.new.self =
-    take_all 4096 c.args.from.now (omega (arith, c.requires.block)) ∙ sym c.copy_from_slice.ensures.after in
-    noted (first (by_name t.start.entries)) _ t.steps.items c.note.new.steps.items t.written.items c.note.new.written.items c.self.invariant
-    (step.Write c.args.n) c.args.from.now c.note.ensures.steps c.note.ensures.written c.requires.block _
+    take_all 4096 c.args.from.now (omega (arith, c.requires.block))
+    ∙ sym c.copy_from_slice.ensures.after in
+    noted (first (by_name t.start.entries)) _ t.steps.items c.note.new.steps.items t.written.items
+    c.note.new.written.items c.self.invariant
+    (step.Write c.args.n) c.args.from.now c.note.ensures.steps c.note.ensures.written
+    c.requires.block _
     (λ i. record {
       blocks = set t.blocks.items c.args.n (own i);
       pending = set t.pending.items c.args.n true;
@@ -44,8 +47,10 @@ returns c =
         said = t.said.items;
         shelf = shelf_of t.name (by_name t.start.entries);
       };
-      past = noted_past (first (by_name t.start.entries)) _ t.steps.items c.note.new.steps.items t.written.items c.note.new.written.items
-          c.self.invariant (step.Write c.args.n) c.args.from.now c.note.ensures.steps c.note.ensures.written c.requires.block;
+      past = noted_past (first (by_name t.start.entries)) _ t.steps.items c.note.new.steps.items
+          t.written.items c.note.new.written.items
+          c.self.invariant (step.Write c.args.n) c.args.from.now c.note.ensures.steps
+          c.note.ensures.written c.requires.block;
       calls = omega (arith, c.note.ensures.count, c.note.ensures.places);
       bytes = omega (arith, c.note.ensures.long, c.note.ensures.capacity);
     })

@@ -17,7 +17,8 @@ returns-clause-claimed g c told =
     let j = c.args.self.now.journal in
     let between = c.find_free.new.journal in
     claimed_since (ground_of j) (ground_of between) (working_of j) (working_of between)
-    (working_of c.set_owner.new.journal) c.in-Some.page c.args.owner (count_pages j) refl c.find_free.ensures.working
+    (working_of c.set_owner.new.journal) c.in-Some.page c.args.owner
+    (count_pages j) refl c.find_free.ensures.working
     (MatchOption-at_some _ _ c.in-Some.page c.in-Some.is c.in_ok-page.ensures.past)
     (MatchOption-at_some _ _ c.in-Some.page c.in-Some.is (c.in_ok-page.ensures.free told))
     (c.in_ok-set_owner.ensures.owned told)

@@ -9,5 +9,6 @@ pub returns-clause-owners : goal.returns-clause-owners
 returns-clause-owners g c told =
     let pages = working_of c.args.self.now.journal in
     on_ok_weaker c.owners_on.result (λ is i low below. is i low
-    ∙ sym (owner_listed pages (2048 * c.args.table + i) _ (omega (arith, below, count_owners pages)) refl))
+    ∙ sym (owner_listed pages (2048 * c.args.table + i) _ (omega (arith, below, count_owners pages))
+    refl))
     (c.owners_on.ensures.owners told)

@@ -9,5 +9,7 @@ use Rattle.gx_pages.proofs.paged.PagedPages.read.Goals as goal
 pub returns-clause-read : goal.returns-clause-read
 returns-clause-read g c told =
     let j = c.args.self.now.journal in
-    on_ok_weaker c.read_page.result (λ is. slice_get-get_or (working_of j) c.args.page [] (omega (arith, count_pages j, c.requires.page))
+    on_ok_weaker c.read_page.result
+    (λ is. slice_get-get_or (working_of j) c.args.page []
+    (omega (arith, count_pages j, c.requires.page))
     ∙ ap Some (sym is)) (c.read_page.ensures.page told)

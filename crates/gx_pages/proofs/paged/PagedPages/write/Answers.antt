@@ -8,5 +8,8 @@ use Rattle.gx_pages.proofs.paged.PagedPages.write.Goals as goal
 pub returns-clause-written : goal.returns-clause-written
 returns-clause-written g c told =
     let j = c.args.self.now.journal in
-    on_ok_weaker c.write_page.result (λ is. sheets_written (working_of j) (working_of c.write_page.new.self) c.args.page c.args.from.now
-    (omega (arith, count_pages j, j.working.few)) c.requires.page.past is) (c.write_page.ensures.page told)
+    on_ok_weaker c.write_page.result
+    (λ is. sheets_written (working_of j) (working_of c.write_page.new.self) c.args.page
+    c.args.from.now
+    (omega (arith, count_pages j, j.working.few)) c.requires.page.past is)
+    (c.write_page.ensures.page told)

@@ -11,7 +11,8 @@ use Rattle.gx_partition.proofs.layer.Partition.only_by_key.Goals as goal
 pub first_from-child-requires-clause-parted : goal.first_from-child-requires-clause-parted
 first_from-child-requires-clause-parted c =
     let m = c.args.self.now in
-    ends_parted (kind_at m.at m.form) m.sound.kind m.bounds c.args.span.now.lo m.sound.fit m.sound.ascending
+    ends_parted (kind_at m.at m.form) m.sound.kind m.bounds c.args.span.now.lo m.sound.fit
+    m.sound.ascending
 
 pub returns-then-begins_after-clause-none : goal.returns-then-begins_after-clause-none
 returns-then-begins_after-clause-none c =
@@ -19,9 +20,13 @@ returns-then-begins_after-clause-none c =
     let span = c.args.span.now in
     let first = c.first_from-child in
     let lower : begins_after (lower_of m.bounds first.result) span.hi ≡ true =
-    ap (λ o. begins_after o span.hi) (sym c.lower_of.ensures) ∙ sym c.begins_after.ensures ∙ c.if-begins_after.true in
-    subst (λ (at : Where). (d : ℕ) → IsAlone (partition_rule m.form at m.bounds) span d → ⊥) (sym c.requires)
-    (none_first m.form m.bounds (subst (λ (at : Where). IsPartition m.form at m.bounds) c.requires m.sound) span first.result
+    ap (λ o. begins_after o span.hi) (sym c.lower_of.ensures) ∙ sym c.begins_after.ensures
+    ∙ c.if-begins_after.true in
+    subst (λ (at : Where). (d : ℕ) → IsAlone (partition_rule m.form at m.bounds) span d
+    → ⊥) (sym c.requires)
+    (none_first m.form m.bounds
+    (subst (λ (at : Where). IsPartition m.form at m.bounds) c.requires m.sound) span
+    first.result
     first.ensures.few first.ensures.point lower)
 
 pub returns-in_default-clause-alone : goal.returns-in_default-clause-alone
@@ -30,10 +35,14 @@ returns-in_default-clause-alone c =
     let span = c.args.span.now in
     let first = c.first_from-child in
     let lower : begins_after (lower_of m.bounds first.result) span.hi ≡ false =
-    ap (λ o. begins_after o span.hi) (sym c.lower_of.ensures) ∙ sym c.begins_after.ensures ∙ c.if-begins_after.false in
+    ap (λ o. begins_after o span.hi) (sym c.lower_of.ensures) ∙ sym c.begins_after.ensures
+    ∙ c.if-begins_after.false in
     let last : None ≡ upper_of m.bounds first.result = c.in_default.ensures in
-    subst (λ (at : Where). IsAlone (partition_rule m.form at m.bounds) span first.result) (sym c.requires)
-    (alone_first m.form m.bounds (subst (λ (at : Where). IsPartition m.form at m.bounds) c.requires m.sound) span first.result
+    subst (λ (at : Where). IsAlone (partition_rule m.form at m.bounds) span first.result)
+    (sym c.requires)
+    (alone_first m.form m.bounds
+    (subst (λ (at : Where). IsPartition m.form at m.bounds) c.requires m.sound) span
+    first.result
     first.ensures.few first.ensures.point lower (λ b e. absurd (no_bound b (last ∙ e))))
   where
     no_bound : (b : Value) → ◌≡◌ {A = Option Value} None (Some b) → ⊥
@@ -45,12 +54,17 @@ returns-then-begins_after-2-clause-alone c =
     let span = c.args.span.now in
     let first = c.first_from-child in
     let lower : begins_after (lower_of m.bounds first.result) span.hi ≡ false =
-    ap (λ o. begins_after o span.hi) (sym c.lower_of.ensures) ∙ sym c.begins_after.ensures ∙ c.if-begins_after.false in
+    ap (λ o. begins_after o span.hi) (sym c.lower_of.ensures) ∙ sym c.begins_after.ensures
+    ∙ c.if-begins_after.false in
     let upper : Some c.in-Some.upper.now ≡ upper_of m.bounds first.result = c.in-Some.ensures in
-    subst (λ (at : Where). IsAlone (partition_rule m.form at m.bounds) span first.result) (sym c.requires)
-    (alone_first m.form m.bounds (subst (λ (at : Where). IsPartition m.form at m.bounds) c.requires m.sound) span first.result
+    subst (λ (at : Where). IsAlone (partition_rule m.form at m.bounds) span first.result)
+    (sym c.requires)
+    (alone_first m.form m.bounds
+    (subst (λ (at : Where). IsPartition m.form at m.bounds) c.requires m.sound) span
+    first.result
     first.ensures.few first.ensures.point lower
-    (λ b e. ap (λ o. begins_after o span.hi) (sym (upper ∙ e)) ∙ sym c.begins_after-2.ensures ∙ c.if-begins_after-2.true))
+    (λ b e. ap (λ o. begins_after o span.hi) (sym (upper ∙ e)) ∙ sym c.begins_after-2.ensures
+    ∙ c.if-begins_after-2.true))
 
 pub returns-else-begins_after-2-clause-none : goal.returns-else-begins_after-2-clause-none
 returns-else-begins_after-2-clause-none c =
@@ -58,8 +72,13 @@ returns-else-begins_after-2-clause-none c =
     let span = c.args.span.now in
     let first = c.first_from-child in
     let lower : begins_after (lower_of m.bounds first.result) span.hi ≡ false =
-    ap (λ o. begins_after o span.hi) (sym c.lower_of.ensures) ∙ sym c.begins_after.ensures ∙ c.if-begins_after.false in
+    ap (λ o. begins_after o span.hi) (sym c.lower_of.ensures) ∙ sym c.begins_after.ensures
+    ∙ c.if-begins_after.false in
     let upper : Some c.in-Some.upper.now ≡ upper_of m.bounds first.result = c.in-Some.ensures in
-    subst (λ (at : Where). (d : ℕ) → IsAlone (partition_rule m.form at m.bounds) span d → ⊥) (sym c.requires)
-    (two_first m.form m.bounds (subst (λ (at : Where). IsPartition m.form at m.bounds) c.requires m.sound) span first.result
-    first.ensures.few first.ensures.point c.in-Some.upper.now lower (sym upper) (sym c.begins_after-2.ensures ∙ c.if-begins_after-2.false))
+    subst (λ (at : Where). (d : ℕ) → IsAlone (partition_rule m.form at m.bounds) span d
+    → ⊥) (sym c.requires)
+    (two_first m.form m.bounds
+    (subst (λ (at : Where). IsPartition m.form at m.bounds) c.requires m.sound) span
+    first.result
+    first.ensures.few first.ensures.point c.in-Some.upper.now lower (sym upper)
+    (sym c.begins_after-2.ensures ∙ c.if-begins_after-2.false))

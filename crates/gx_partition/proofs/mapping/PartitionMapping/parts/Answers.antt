@@ -8,5 +8,7 @@ pub returns : goal.returns
 returns c =
     let m = c.args.self.now in
     let r = c.args.rec.now in
-    let copied = c.in_ok-rec.ensures (are_sized m.form.keys r.key c.requires.key) (are_sized m.form.fields r.fields c.requires.fields) in
-    subst (λ (p : Part). IfOk c.one.result (λ parts. parts ≡ p ∷ [])) (λ i. record { child = c.child_for-child.ensures i; rec = copied i }) c.one.ensures
+    let copied = c.in_ok-rec.ensures (are_sized m.form.keys r.key c.requires.key)
+    (are_sized m.form.fields r.fields c.requires.fields) in
+    subst (λ (p : Part). IfOk c.one.result (λ parts. parts ≡ p ∷ []))
+    (λ i. record { child = c.child_for-child.ensures i; rec = copied i }) c.one.ensures

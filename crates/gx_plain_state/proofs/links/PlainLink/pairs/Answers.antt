@@ -4,4 +4,5 @@ use Rattle.gx_plain_state.proofs.MapLemmas.{entries_view}
 use Rattle.gx_plain_state.proofs.links.PlainLink.pairs.Goals as goal
 
 pub returns : goal.returns
-returns c = c.deref.ensures.value ∙ sym (entries_view c.self.inside.pairs.items c.self.invariant) ∙ ap (λ m. fin.entries m) c.self.view_is
+returns c = c.deref.ensures.value ∙ sym (entries_view c.self.inside.pairs.items c.self.invariant)
+    ∙ ap (λ m. fin.entries m) c.self.view_is

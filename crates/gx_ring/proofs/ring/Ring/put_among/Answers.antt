@@ -19,32 +19,55 @@ use Rattle.gx_ring.proofs.ring.Ring.put_among.Goals as goal
 pub lead_change-requires-clause-before : goal.lead_change-requires-clause-before
 lead_change-requires-clause-before g c =
     let nexts = tree_of c.args.self.now.chain.now in
-    let is : option_map (λ v. v.now) c.neighbours_of-at.result.before ≡ before_in c.args.members.now c.args.member.now = c.neighbours_of-at.ensures.before ∙ ap (λ ms. before_in ms c.args.member.now) (c.deref.ensures.value ∙ c.members.view_is) in
-    subst (λ x. IfThere x IsKeyValue) (sym is) (before_fits IsKeyValue c.args.members.now c.args.member.now (λ x h. key_value_of (member_kind g.M.Mapping.rule nexts) x c.requires.valid.member (c.requires.members x h)))
+    let is : option_map (λ v. v.now) c.neighbours_of-at.result.before ≡ before_in c.args.members.now
+    c.args.member.now = c.neighbours_of-at.ensures.before
+    ∙ ap (λ ms. before_in ms c.args.member.now) (c.deref.ensures.value ∙ c.members.view_is)
+    in
+    subst (λ x. IfThere x IsKeyValue) (sym is)
+    (before_fits IsKeyValue c.args.members.now c.args.member.now
+    (λ x h. key_value_of (member_kind g.M.Mapping.rule nexts) x c.requires.valid.member
+    (c.requires.members x h)))
 
 pub lead_change-requires-clause-next : goal.lead_change-requires-clause-next
 lead_change-requires-clause-next g c =
     let nexts = tree_of c.args.self.now.chain.now in
-    let is : option_map (λ v. v.now) c.neighbours_of-at.result.next ≡ next_in c.args.members.now c.args.member.now = c.neighbours_of-at.ensures.next ∙ ap (λ ms. next_in ms c.args.member.now) (c.deref.ensures.value ∙ c.members.view_is) in
-    subst (λ x. IfThere x IsKeyValue) (sym is) (next_fits IsKeyValue c.args.members.now c.args.member.now (λ x h. key_value_of (member_kind g.M.Mapping.rule nexts) x c.requires.valid.member (c.requires.members x h)))
+    let is : option_map (λ v. v.now) c.neighbours_of-at.result.next ≡ next_in c.args.members.now
+    c.args.member.now = c.neighbours_of-at.ensures.next
+    ∙ ap (λ ms. next_in ms c.args.member.now) (c.deref.ensures.value ∙ c.members.view_is) in
+    subst (λ x. IfThere x IsKeyValue) (sym is)
+    (next_fits IsKeyValue c.args.members.now c.args.member.now
+    (λ x h. key_value_of (member_kind g.M.Mapping.rule nexts) x c.requires.valid.member
+    (c.requires.members x h)))
 
 pub own_change-requires-clause-owner : goal.own_change-requires-clause-owner
-own_change-requires-clause-owner g c = key_value_of (owner_kind g.M.Mapping.rule (tree_of c.args.self.now.heads.now)) c.args.owner.now c.requires.valid.owner c.requires.owner
+own_change-requires-clause-owner g c =
+    key_value_of (owner_kind g.M.Mapping.rule (tree_of c.args.self.now.heads.now)) c.args.owner.now
+    c.requires.valid.owner c.requires.owner
 
 pub own_change-requires-clause-member : goal.own_change-requires-clause-member
-own_change-requires-clause-member g c = key_value_of (member_kind g.M.Mapping.rule (tree_of c.args.self.now.chain.now)) c.args.member.now c.requires.valid.member c.requires.member
+own_change-requires-clause-member g c =
+    key_value_of (member_kind g.M.Mapping.rule (tree_of c.args.self.now.chain.now))
+    c.args.member.now c.requires.valid.member c.requires.member
 
 pub own_change-requires-clause-next : goal.own_change-requires-clause-next
 own_change-requires-clause-next g c =
     let nexts = tree_of c.args.self.now.chain.now in
-    let is : option_map (λ v. v.now) c.neighbours_of-at.result.next ≡ next_in c.args.members.now c.args.member.now = c.neighbours_of-at.ensures.next ∙ ap (λ ms. next_in ms c.args.member.now) (c.deref.ensures.value ∙ c.members.view_is) in
-    subst (λ x. IfThere x IsKeyValue) (sym is) (next_fits IsKeyValue c.args.members.now c.args.member.now (λ x h. key_value_of (member_kind g.M.Mapping.rule nexts) x c.requires.valid.member (c.requires.members x h)))
+    let is : option_map (λ v. v.now) c.neighbours_of-at.result.next ≡ next_in c.args.members.now
+    c.args.member.now = c.neighbours_of-at.ensures.next
+    ∙ ap (λ ms. next_in ms c.args.member.now) (c.deref.ensures.value ∙ c.members.view_is) in
+    subst (λ x. IfThere x IsKeyValue) (sym is)
+    (next_fits IsKeyValue c.args.members.now c.args.member.now
+    (λ x h. key_value_of (member_kind g.M.Mapping.rule nexts) x c.requires.valid.member
+    (c.requires.members x h)))
 
 pub replace_both-requires-clause-first_below : goal.replace_both-requires-clause-first_below
 replace_both-requires-clause-first_below g c =
     let heads = tree_of c.args.self.now.heads.now in
     let nexts = tree_of c.args.self.now.chain.now in
-    λ n h. c.requires.below n (leading_below g.M.Mapping.rule heads nexts c.requires.valid (option_map (λ v. v.now) c.neighbours_of-at.result.before) n (subst (λ t. In n (leaves_of t)) c.leading.ensures h))
+    λ n h. c.requires.below n
+    (leading_below g.M.Mapping.rule heads nexts c.requires.valid
+    (option_map (λ v. v.now) c.neighbours_of-at.result.before) n
+    (subst (λ t. In n (leaves_of t)) c.leading.ensures h))
 
 pub replace_both-requires-clause-second_below : goal.replace_both-requires-clause-second_below
 replace_both-requires-clause-second_below g c =
@@ -60,12 +83,21 @@ replace_both-requires-clause-first_fits g c =
     let same = c.deref.ensures.value ∙ c.members.view_is in
     let before = option_map (λ v. v.now) c.neighbours_of-at.result.before in
     let next = option_map (λ v. v.now) c.neighbours_of-at.result.next in
-    let before_is = c.neighbours_of-at.ensures.before ∙ ap (λ ms. before_in ms c.args.member.now) same in
+    let before_is = c.neighbours_of-at.ensures.before
+    ∙ ap (λ ms. before_in ms c.args.member.now) same in
     let next_is = c.neighbours_of-at.ensures.next ∙ ap (λ ms. next_in ms c.args.member.now) same in
-    let fit_b : IfThere before (Fits (member_kind rule nexts)) = subst (λ x. IfThere x (Fits (member_kind rule nexts))) (sym before_is) (before_fits (Fits (member_kind rule nexts)) c.args.members.now c.args.member.now c.requires.members) in
-    let fit_n : IfThere next (Fits (member_kind rule nexts)) = subst (λ x. IfThere x (Fits (member_kind rule nexts))) (sym next_is) (next_fits (Fits (member_kind rule nexts)) c.args.members.now c.args.member.now c.requires.members) in
+    let fit_b : IfThere before (Fits (member_kind rule nexts)) =
+    subst (λ x. IfThere x (Fits (member_kind rule nexts))) (sym before_is)
+    (before_fits (Fits (member_kind rule nexts)) c.args.members.now c.args.member.now
+    c.requires.members) in
+    let fit_n : IfThere next (Fits (member_kind rule nexts)) =
+    subst (λ x. IfThere x (Fits (member_kind rule nexts))) (sym next_is)
+    (next_fits (Fits (member_kind rule nexts)) c.args.members.now c.args.member.now
+    c.requires.members) in
     subst (λ t. FitsChange (tree_form rule t) c.in_ok-lead.lead) (sym c.leading.ensures)
-    (subst (FitsChange (tree_form rule (leading heads nexts before))) (sym c.in_ok-lead.ensures) (lead_fits rule heads nexts c.requires.valid c.args.owner.now c.args.member.now c.requires.owner c.requires.member before next fit_b fit_n))
+    (subst (FitsChange (tree_form rule (leading heads nexts before))) (sym c.in_ok-lead.ensures)
+    (lead_fits rule heads nexts c.requires.valid c.args.owner.now c.args.member.now
+    c.requires.owner c.requires.member before next fit_b fit_n))
 
 pub replace_both-requires-clause-second_fits : goal.replace_both-requires-clause-second_fits
 replace_both-requires-clause-second_fits g c =
@@ -75,8 +107,13 @@ replace_both-requires-clause-second_fits g c =
     let same = c.deref.ensures.value ∙ c.members.view_is in
     let next = option_map (λ v. v.now) c.neighbours_of-at.result.next in
     let next_is = c.neighbours_of-at.ensures.next ∙ ap (λ ms. next_in ms c.args.member.now) same in
-    let fit_n : IfThere next (Fits (member_kind rule nexts)) = subst (λ x. IfThere x (Fits (member_kind rule nexts))) (sym next_is) (next_fits (Fits (member_kind rule nexts)) c.args.members.now c.args.member.now c.requires.members) in
-    subst (FitsChange (tree_form rule nexts)) (sym c.in_ok-own.ensures) (own_fits rule heads nexts c.requires.valid c.args.owner.now c.args.member.now c.requires.owner c.requires.member next fit_n)
+    let fit_n : IfThere next (Fits (member_kind rule nexts)) =
+    subst (λ x. IfThere x (Fits (member_kind rule nexts))) (sym next_is)
+    (next_fits (Fits (member_kind rule nexts)) c.args.members.now c.args.member.now
+    c.requires.members) in
+    subst (FitsChange (tree_form rule nexts)) (sym c.in_ok-own.ensures)
+    (own_fits rule heads nexts c.requires.valid c.args.owner.now c.args.member.now
+    c.requires.owner c.requires.member next fit_n)
 
 pub returns : goal.returns
 returns g c =

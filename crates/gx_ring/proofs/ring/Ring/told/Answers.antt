@@ -26,7 +26,8 @@ owners_of-requires g c = λ p h.
     let rule = g.M.Mapping.rule in
     let heads = tree_of c.args.self.now.heads.now in
     let nexts = tree_of c.args.self.now.chain.now in
-    let fit = (ring_read rule heads nexts c.requires.valid c.args.heads c.args.chain c.requires.chain).fit p (subst (In p) c.in_ok-pairs.ensures h) in
+    let fit = (ring_read rule heads nexts c.requires.valid c.args.heads c.args.chain
+    c.requires.chain).fit p (subst (In p) c.in_ok-pairs.ensures h) in
     (fit_sized (member_kind rule nexts) p.0 fit.0, fit_sized (owner_kind rule heads) p.1 fit.1)
 
 pub ring_rows-requires : goal.ring_rows-requires
@@ -35,7 +36,9 @@ ring_rows-requires g c = λ x h m k.
     let heads = tree_of c.args.self.now.heads.now in
     let nexts = tree_of c.args.self.now.chain.now in
     let valid = c.requires.valid in
-    let fit = (ring_read rule heads nexts valid c.args.heads c.args.chain c.requires.chain).fit (m, x.owner) (subst (In (m, x.owner)) c.in_ok-pairs.ensures ((c.in_ok-owners.ensures.pairs x h).each m k)) in
+    let fit = (ring_read rule heads nexts valid c.args.heads c.args.chain c.requires.chain).fit
+    (m, x.owner) (subst (In (m, x.owner)) c.in_ok-pairs.ensures
+    ((c.in_ok-owners.ensures.pairs x h).each m k)) in
     (key_value_of (owner_kind rule heads) x.owner valid.owner fit.1, key_value_of (member_kind rule nexts) m valid.member fit.0)
 
 pub returns : goal.returns

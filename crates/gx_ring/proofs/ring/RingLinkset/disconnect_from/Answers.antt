@@ -32,10 +32,14 @@ own_change-requires-clause-next g c =
     c.requires.valid.member beside.1
 
 pub lead_change-requires-clause-owner : goal.lead_change-requires-clause-owner
-lead_change-requires-clause-owner g c = key_value_of (owner_kind g.M.Mapping.rule (tree_of c.args.self.now.heads.now)) c.args.owner.now c.requires.valid.owner c.requires.owner
+lead_change-requires-clause-owner g c =
+    key_value_of (owner_kind g.M.Mapping.rule (tree_of c.args.self.now.heads.now)) c.args.owner.now
+    c.requires.valid.owner c.requires.owner
 
 pub lead_change-requires-clause-member : goal.lead_change-requires-clause-member
-lead_change-requires-clause-member g c = key_value_of (member_kind g.M.Mapping.rule (tree_of c.args.self.now.chain.now)) c.args.member.now c.requires.valid.member c.requires.member
+lead_change-requires-clause-member g c =
+    key_value_of (member_kind g.M.Mapping.rule (tree_of c.args.self.now.chain.now))
+    c.args.member.now c.requires.valid.member c.requires.member
 
 pub lead_change-requires-clause-before : goal.lead_change-requires-clause-before
 lead_change-requires-clause-before g c =

@@ -7,4 +7,6 @@ abbrev pub decreases-indexed : goal.decreases-indexed
 decreases-indexed g l = height (tree_of l.self.now)
 
 abbrev pub invariant-loop-child : goal.invariant-loop-child
-invariant-loop-child g l = let rule = g.M.Mapping.rule in AreIndexedBelow rule l.field l.layer.kids.items (λ c. (rule l.layer.mapping).carries c l.field) l.child l.carried
+invariant-loop-child g l = let rule = g.M.Mapping.rule in
+    AreIndexedBelow rule l.field l.layer.kids.items (λ c. (rule l.layer.mapping).carries c l.field)
+    l.child l.carried

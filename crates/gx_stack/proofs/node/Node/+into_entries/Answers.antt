@@ -52,7 +52,8 @@ loop-part-init g t c =
     let out = c.match-branch-9.out.items in
     let items : into_iter_items c.into_iter-part-iterator.result ≡ c.match-branch-9.parts =
     search rules in
-    let many : into_iter_len c.into_iter-part-iterator.result ≡ length (into_iter_items c.into_iter-part-iterator.result) = search rules in
+    let many : into_iter_len c.into_iter-part-iterator.result ≡ length
+    (into_iter_items c.into_iter-part-iterator.result) = search rules in
     let all : entries_of m.rule (layer l.mapping ks) rec ≡ entries_of m.rule (tree_of n) rec =
     sym (ap (λ x. entries_of m.rule x rec) (seen_layer n l c.in-Layer.is)) in
     elim c.match-branch-9.branch [
@@ -60,27 +61,37 @@ loop-part-init g t c =
           let whole = w.in-Some-2.whole in
           let is = subst (IsWhole (m.rule l.mapping) rec) w.in-Some-2.is
           c.in_ok-whole-in-Layer.ensures in
-          let fits = subst (λ f. IsOf f rec) (layer_form m.rule n l c.in-Layer.is) c.requires.of_form in
+          let fits = subst (λ f. IsOf f rec) (layer_form m.rule n l c.in-Layer.is)
+          c.requires.of_form in
           let child = whole_child (g.met.M.Mapping.laws l.mapping) rec whole fits is in
           let k = w.index-first-in-Some-2.result.now in
           let there = child_there m.rule n l c.in-Layer.is whole.child c.requires.valid child.0 in
           let same = kid_entries_at m.rule l.kids.items whole.child k rec there
           ∙ ap (λ x. entries_of m.rule (tree_of x) rec) (sym w.index-first-in-Some-2.ensures) in
-          let parts : into_iter_items c.into_iter-part-iterator.result ≡ whole.others = items ∙ w.parts-is in
+          let parts : into_iter_items c.into_iter-part-iterator.result ≡ whole.others =
+          items ∙ w.parts-is in
           let new : out ≡ was ++ entries_of m.rule (tree_of k) rec = ap (λ o. o.items) w.out-is
           ∙ w.in_ok-into_entries-in-Some-2.ensures in
           record {
             many = many;
-            among = λ p h. whole_others (m.rule l.mapping) rec whole is p (subst (λ (ps : List Part). In p ps) parts h);
-            so_far = ap (λ (ps : List Part). out ++ flat_map (λ (p : Part). kid_entries m.rule ks p.child p.rec) ps) parts ∙ whole_entries m.rule l.mapping ks rec whole was out (entries_of m.rule (tree_of k) rec) is same new ∙ ap (λ es. was ++ es) all;
+            among = λ p h. whole_others (m.rule l.mapping) rec whole is p
+                (subst (λ (ps : List Part). In p ps) parts h);
+            so_far = ap (λ (ps : List Part). out
+                ++ flat_map (λ (p : Part). kid_entries m.rule ks p.child p.rec) ps) parts
+                ∙ whole_entries m.rule l.mapping ks rec whole was out
+                (entries_of m.rule (tree_of k) rec) is same new ∙ ap (λ es. was ++ es) all;
           })
       | in-None+in_ok-parts-in-None w ↦ (
-          let parts : into_iter_items c.into_iter-part-iterator.result ≡ (m.rule l.mapping).parts rec = items ∙ w.parts-is ∙ w.in_ok-parts-in-None.ensures in
+          let parts : into_iter_items c.into_iter-part-iterator.result ≡ (m.rule l.mapping).parts
+          rec = items ∙ w.parts-is ∙ w.in_ok-parts-in-None.ensures in
           let same : out ≡ was = ap (λ o. o.items) w.out-is in
           record {
             many = many;
             among = λ p h. subst (λ (ps : List Part). In p ps) parts h;
-            so_far = ap (λ (ps : List Part). out ++ flat_map (λ (p : Part). kid_entries m.rule ks p.child p.rec) ps) parts ∙ ap (λ es. es ++ entries_of m.rule (layer l.mapping ks) rec) same ∙ ap (λ es. was ++ es) all;
+            so_far = ap (λ (ps : List Part). out
+                ++ flat_map (λ (p : Part). kid_entries m.rule ks p.child p.rec) ps) parts
+                ∙ ap (λ es. es ++ entries_of m.rule (layer l.mapping ks) rec) same
+                ∙ ap (λ es. was ++ es) all;
           })
     ]
 
@@ -114,8 +125,10 @@ index-kid-requires g t c =
     let m = g.M.Mapping in
     let l = c.in-Layer.layer in
     let p = c.in-Some-part.part in
-    let there = c.loop-part.invariant.among p (subst (λ (ps : List Part). In p ps) (sym c.in-Some-part.ensures.steps.0) (inl refl)) in
-    let part = layer_part m.rule c.args.self.now l c.in-Layer.is (g.met.M.Mapping.laws l.mapping) c.args.rec p c.requires.valid c.requires.of_form there in
+    let there = c.loop-part.invariant.among p
+    (subst (λ (ps : List Part). In p ps) (sym c.in-Some-part.ensures.steps.0) (inl refl)) in
+    let part = layer_part m.rule c.args.self.now l c.in-Layer.is (g.met.M.Mapping.laws l.mapping)
+    c.args.rec p c.requires.valid c.requires.of_form there in
     omega (arith, part.0, l.kids.ok.0)
 
 pub into_entries-requires-in-loop-part : goal.into_entries-requires-in-loop-part
@@ -123,8 +136,10 @@ into_entries-requires-in-loop-part g t c κs within =
     let m = g.M.Mapping in
     let l = c.in-Layer.layer in
     let p = c.in-Some-part.part in
-    let there = c.loop-part.invariant.among p (subst (λ (ps : List Part). In p ps) (sym c.in-Some-part.ensures.steps.0) (inl refl)) in
-    let part = layer_part m.rule c.args.self.now l c.in-Layer.is (g.met.M.Mapping.laws l.mapping) c.args.rec p c.requires.valid c.requires.of_form there in
+    let there = c.loop-part.invariant.among p
+    (subst (λ (ps : List Part). In p ps) (sym c.in-Some-part.ensures.steps.0) (inl refl)) in
+    let part = layer_part m.rule c.args.self.now l c.in-Layer.is (g.met.M.Mapping.laws l.mapping)
+    c.args.rec p c.requires.valid c.requires.of_form there in
     let k = c.index-kid.result.now in
     let both = part.1 k c.index-kid.ensures in
     (omega (arith, kid_lower m.rule c.args.self.now l c.in-Layer.is p.child k part.0 c.index-kid.ensures, c.decreases), (search rules, (both.0, both.1)))
@@ -134,24 +149,38 @@ loop-part-preserved g t c =
     let m = g.M.Mapping in
     let l = c.in-Layer.layer in
     let p = c.in-Some-part.part in
-    let there = c.loop-part.invariant.among p (subst (λ (ps : List Part). In p ps) (sym c.in-Some-part.ensures.steps.0) (inl refl)) in
-    let part = layer_part m.rule c.args.self.now l c.in-Layer.is (g.met.M.Mapping.laws l.mapping) c.args.rec p c.requires.valid c.requires.of_form there in
+    let there = c.loop-part.invariant.among p
+    (subst (λ (ps : List Part). In p ps) (sym c.in-Some-part.ensures.steps.0) (inl refl)) in
+    let part = layer_part m.rule c.args.self.now l c.in-Layer.is (g.met.M.Mapping.laws l.mapping)
+    c.args.rec p c.requires.valid c.requires.of_form there in
     let k = c.index-kid.result.now in
     let rest = into_iter_items c.next.new.self in
-    let steps : into_iter_items c.loop-part.part-iterator ≡ p ∷ into_iter_items c.next.new.self = c.in-Some-part.ensures.steps.0 in
-    let many : into_iter_len c.next.new.self ≡ length (into_iter_items c.next.new.self) = let was = c.loop-part.invariant.many in let gone = c.in-Some-part.ensures.steps.1 in let short = ap length steps in omega arith in
+    let steps : into_iter_items c.loop-part.part-iterator ≡ p ∷ into_iter_items c.next.new.self =
+    c.in-Some-part.ensures.steps.0 in
+    let many : into_iter_len c.next.new.self ≡ length (into_iter_items c.next.new.self) = let was =
+    c.loop-part.invariant.many in let gone = c.in-Some-part.ensures.steps.1 in let short =
+    ap length steps in omega arith in
     record {
       many = many;
-      among = λ q h. c.loop-part.invariant.among q (subst (λ (ps : List Part). In q ps) (sym steps) (inr h));
-      so_far = entries_so_far (λ q. kid_entries m.rule (kids_from (map tree_of l.kids.items)) q.child q.rec) (into_iter_items c.loop-part.part-iterator) rest p c.loop-part.out.items c.into_entries-in-loop-part.new.out.items (entries_of m.rule (tree_of k) p.rec) _ steps
-          (kid_entries_at m.rule l.kids.items p.child k p.rec part.0 ∙ ap (λ n. entries_of m.rule (tree_of n) p.rec) (sym c.index-kid.ensures))
+      among = λ q h. c.loop-part.invariant.among q
+          (subst (λ (ps : List Part). In q ps) (sym steps) (inr h));
+      so_far = entries_so_far
+          (λ q. kid_entries m.rule (kids_from (map tree_of l.kids.items)) q.child q.rec)
+          (into_iter_items c.loop-part.part-iterator) rest p c.loop-part.out.items
+          c.into_entries-in-loop-part.new.out.items (entries_of m.rule (tree_of k) p.rec) _
+          steps
+          (kid_entries_at m.rule l.kids.items p.child k p.rec part.0
+          ∙ ap (λ n. entries_of m.rule (tree_of n) p.rec) (sym c.index-kid.ensures))
           c.in_ok-into_entries-in-Layer.ensures c.loop-part.invariant.so_far;
     }
 
 pub returns-in-None-part : goal.returns-in-None-part
 returns-in-None-part g t c =
     let none = nothing_left _ (sym c.in-None-part.ensures.steps.0 ∙ c.loop-part.invariant.many) in
-    entries_out (λ q. kid_entries g.M.Mapping.rule (kids_from (map tree_of c.in-Layer.layer.kids.items)) q.child q.rec) (into_iter_items c.loop-part.part-iterator) c.loop-part.out.items _ none c.loop-part.invariant.so_far
+    entries_out (λ q. kid_entries g.M.Mapping.rule
+    (kids_from (map tree_of c.in-Layer.layer.kids.items)) q.child q.rec)
+    (into_iter_items c.loop-part.part-iterator) c.loop-part.out.items _ none
+    c.loop-part.invariant.so_far
 
 -- ---- the body of the record
 

@@ -14,6 +14,10 @@ decreases-into_entries g l = height (tree_of l.self.now)
 abbrev pub invariant-loop-part : goal.invariant-loop-part
 invariant-loop-part g l = let rule = g.M.Mapping.rule in record {
   many : into_iter_len l.part-iterator ≡ length (into_iter_items l.part-iterator);
-  among : (p : Part) → In p (into_iter_items l.part-iterator) → In p ((rule l.layer.mapping).parts l.fn.rec);
-  so_far : l.out.items ++ flat_map (λ p. kid_entries rule (kids_from (map tree_of l.layer.kids.items)) p.child p.rec) (into_iter_items l.part-iterator) ≡ l.fn.out.items ++ entries_of rule (tree_of l.fn.self) l.fn.rec;
+  among : (p : Part) → In p (into_iter_items l.part-iterator)
+      → In p ((rule l.layer.mapping).parts l.fn.rec);
+  so_far : l.out.items ++ flat_map
+      (λ p. kid_entries rule (kids_from (map tree_of l.layer.kids.items)) p.child p.rec)
+      (into_iter_items l.part-iterator) ≡ l.fn.out.items
+      ++ entries_of rule (tree_of l.fn.self) l.fn.rec;
 }

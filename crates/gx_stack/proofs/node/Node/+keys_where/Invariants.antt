@@ -14,5 +14,8 @@ invariant-loop-child g l = let rule = g.M.Mapping.rule in let b = g.B.View in re
   whole : b.whole l.fn.leaves → b.whole l.leaves;
   reads : Reads b l.fn.leaves l.leaves;
   counted : b.faults l.leaves ≡ b.faults l.fn.leaves;
-  found : AreKeysBelow rule l.layer.mapping (kids_from (map tree_of l.layer.kids.items)) l.field l.span (b.whole l.fn.leaves) (λ R. IsInternal rule (tree_of l.fn.self) R (b.working l.fn.leaves)) l.child (b.work l.fn.leaves) (b.work l.leaves) l.fn.out l.out;
+  found : AreKeysBelow rule l.layer.mapping (kids_from (map tree_of l.layer.kids.items)) l.field
+      l.span (b.whole l.fn.leaves)
+      (λ R. IsInternal rule (tree_of l.fn.self) R (b.working l.fn.leaves)) l.child
+      (b.work l.fn.leaves) (b.work l.leaves) l.fn.out l.out;
 }

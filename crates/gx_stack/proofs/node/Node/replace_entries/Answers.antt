@@ -19,8 +19,11 @@ put_new-requires g c =
     let t = tree_of c.args.self.now in
     let k = length (g.B.View.working c.remove_others.new.leaves) in
     record {
-      small = subst (AreSmall k) (sym (c.deref-2.ensures.value ∙ c.in_ok-come.ensures)) (all_small g.M.Mapping.rule t g.met.M.Mapping.laws c.args.new k c.requires.valid c.requires.new_fits
-          (λ n h. subst (λ j. n < j) (sym c.in_ok-remove_others.ensures.keeps.leaves) (c.requires.below n h)));
+      small = subst (AreSmall k) (sym (c.deref-2.ensures.value ∙ c.in_ok-come.ensures))
+          (all_small g.M.Mapping.rule t g.met.M.Mapping.laws c.args.new k c.requires.valid
+          c.requires.new_fits
+          (λ n h. subst (λ j. n < j) (sym c.in_ok-remove_others.ensures.keeps.leaves)
+          (c.requires.below n h)));
     }
 
 pub returns-in_err-remove_others-clause-replaces : goal.returns-in_err-remove_others-clause-replaces
@@ -31,7 +34,9 @@ returns-in_err-remove_others-clause-replaces g c =
     record {
       others = λ n whole fault away. c.in_err-remove_others.ensures.others whole
           (λ f. fault (p.1 ∙ ap Err p.2 ∙ f)) n
-          (λ e h is. away (subst (λ k. In k (leaves_of t)) is (entries_leaf g.M.Mapping.rule t c.requires.gone.0 e (subst (In e) c.requires.gone.2 h))));
+          (λ e h is. away (subst (λ k. In k (leaves_of t)) is
+          (entries_leaf g.M.Mapping.rule t c.requires.gone.0 e
+          (subst (In e) c.requires.gone.2 h))));
       count = search rules;
       keeps = search rules;
       work = search rules;
@@ -46,9 +51,13 @@ returns-clause-replaces g c =
     record {
       others = λ n whole fault away.
           c.put_new.ensures.others (c.in_ok-remove_others.ensures.ends.whole whole) fault n
-          (λ e h is. away (subst (λ k. In k (leaves_of t)) is (entries_leaf g.M.Mapping.rule t c.args.new e (subst (In e) (c.deref-2.ensures.value ∙ c.in_ok-come.ensures) h))))
+          (λ e h is. away (subst (λ k. In k (leaves_of t)) is
+          (entries_leaf g.M.Mapping.rule t c.args.new e
+          (subst (In e) (c.deref-2.ensures.value ∙ c.in_ok-come.ensures) h))))
           ∙ c.in_ok-remove_others.ensures.others whole (λ f. cc) n
-          (λ e h is. away (subst (λ k. In k (leaves_of t)) is (entries_leaf g.M.Mapping.rule t c.requires.gone.0 e (subst (In e) c.requires.gone.2 h))));
+          (λ e h is. away (subst (λ k. In k (leaves_of t)) is
+          (entries_leaf g.M.Mapping.rule t c.requires.gone.0 e
+          (subst (In e) c.requires.gone.2 h))));
       count = search rules;
       keeps = search rules;
       work = search rules;
@@ -68,8 +77,14 @@ returns-clause-internal g c = λ R old whole gone set change is.
     let after = b.working c.put_new.new.leaves in
     let done = c.in_ok-remove_others.ensures.done whole in
     let removed : IsRemoved (entries_if rule t old) (entries_if rule t new) maps between =
-    subst (λ es. IsRemoved es (entries_if rule t new) maps between) gone (subst (λ es. IsRemoved c.args.gone.now es maps between) (c.deref.ensures.value ∙ c.in_ok-come.ensures) done) in
+    subst (λ es. IsRemoved es (entries_if rule t new) maps between) gone
+    (subst (λ es. IsRemoved c.args.gone.now es maps between) (c.deref.ensures.value
+    ∙ c.in_ok-come.ensures) done) in
     on_ok_weaker c.put_new.result (λ d.
     let put : IsPut (entries_if rule t old) (entries_if rule t new) between after =
-    subst (λ es. IsPut es (entries_if rule t new) between after) gone (subst (λ es. IsPut c.args.gone.now es between after) (c.deref-2.ensures.value ∙ c.in_ok-come.ensures) d) in
-    replaced rule g.met.M.Mapping.laws t c.requires.valid R set old new c.requires.new_fits change maps between after c.requires.below removed put (union_from_internal rule t R maps is)) (c.put_new.ensures.done (c.in_ok-remove_others.ensures.ends.whole whole))
+    subst (λ es. IsPut es (entries_if rule t new) between after) gone
+    (subst (λ es. IsPut c.args.gone.now es between after) (c.deref-2.ensures.value
+    ∙ c.in_ok-come.ensures) d) in
+    replaced rule g.met.M.Mapping.laws t c.requires.valid R set old new c.requires.new_fits change
+    maps between after c.requires.below removed put (union_from_internal rule t R maps is))
+    (c.put_new.ensures.done (c.in_ok-remove_others.ensures.ends.whole whole))

@@ -5,4 +5,6 @@ use Rattle.gx_types.specs.Any.{any_rule}
 use Rattle.gx_types.proofs.any.AnyMappingMapping.gather.Goals as goal
 
 pub gather-requires-in-Segment : goal.gather-requires-in-Segment
-gather-requires-in-Segment c = subst (λ (m : AnyMapping). AreOfKey (any_rule m) c.args.key.now c.args.parts.now) c.in-Segment.is c.requires
+gather-requires-in-Segment c =
+    subst (λ (m : AnyMapping). AreOfKey (any_rule m) c.args.key.now c.args.parts.now)
+    c.in-Segment.is c.requires

@@ -1,8 +1,8 @@
--- Values in the bytes of entries.
+-- Values whose bytes another owns.
 use Rattle.gx_values.specs.declared.values.Value.{Value}
 use Rattle.gx_values.specs.declared.values.Value.TheVariants as value
-use Rattle.gx_scan.specs.declared.scan.ValueRef.{ValueRef}
-use Rattle.gx_scan.specs.declared.scan.ValueRef.TheVariants.{Int, Text, Bytes}
+use Rattle.gx_values.specs.declared.borrowed.ValueRef.{ValueRef}
+use Rattle.gx_values.specs.declared.borrowed.ValueRef.TheVariants.{Int, Text, Bytes}
 
 -- the value that stands there
 abbrev pub value_of : ValueRef → Value
