@@ -18,6 +18,8 @@ TERMS = [
     "actual(heap)",
     "encode(quantity pack, actual(heap))",
     "encode(name rle, actual(heap))",
+    "partition(quantity 500, actual(heap), actual(heap))",
+    "index(quantity, actual(heap), heap)",
     "segment(quantity, actual(heap), actual(heap))",
     "transpose(actual(heap), actual(heap))",
     "actual(divide(64, heap))",
