@@ -1,6 +1,5 @@
 // The layer's mapping.
 ghost use Rattle.std.specs.Prelude.{◌≡◌, ◌∷◌, [], ◌<◌, ◌≤◌, length, IfOk};
-ghost use Rattle.gx_values.specs.Values.{AreSized};
 ghost use Rattle.gx_mapping.specs.Rule.{IsOf};
 ghost use Rattle.gx_divide.specs.Forms.{most_in, most_of};
 ghost use Rattle.gx_divide.specs.Rules.{form_of, size_of, rule_of};

@@ -1,7 +1,6 @@
 // Pieces of bytes as parts, and back.
 ghost use Rattle.std.specs.Prelude.{◌≡◌, ◌∷◌, [], ◌<◌, ◌≤◌, ◌+◌, ◌++◌, pos, length, drop, slice_index_or, IfOk};
 ghost use Rattle.std.specs.Option.{option_map};
-ghost use Rattle.gx_values.specs.Values.{AreSized};
 ghost use Rattle.gx_values.specs.declared.values.Value.TheVariants as value;
 ghost use Rattle.gx_mapping.specs.declared.parts.Part.{Part as ThePart};
 ghost use Rattle.gx_mapping.specs.Rule.{In};
@@ -32,7 +31,6 @@ pub(crate) fn one_value(alloc: Global, value: Value) -> Result<Values, NoMemory>
 
 // The piece with a number.
 fn piece_part(alloc: Global, key: &Values, number: u32, piece: &[u8]) -> Result<Part, NoMemory>
-    requires { AreSized key.now }
     ensures { IfOk result (λ part. part ≡ piece_part key.now number piece.now) }
 {
     let key = piece_key(alloc, key, number)?;
@@ -44,7 +42,6 @@ fn piece_part(alloc: Global, key: &Values, number: u32, piece: &[u8]) -> Result<
 
 // The key of a piece, in memory of its length.
 fn piece_key(alloc: Global, key: &Values, number: u32) -> Result<Values, NoMemory>
-    requires { AreSized key.now }
     ensures { IfOk result (λ made. made ≡ key.now ++ value.Int (pos number) ∷ []) }
 {
     let mut values = Vec::with_capacity(alloc, key.0.len().saturating_add(1))?;
@@ -58,7 +55,6 @@ fn piece_key(alloc: Global, key: &Values, number: u32) -> Result<Values, NoMemor
 /// The one piece of a record whose bytes are fewer than those of a piece. `NoMemory`: there was
 /// none for its key.
 pub(crate) fn only_piece(alloc: Global, rec: Rec) -> Result<Part, NoMemory>
-    requires { AreSized rec.key }
     ensures { IfOk result (λ part. part ≡ record {
       child = 0;
       rec = record { key = rec.key ++ value.Int (pos 0) ∷ []; fields = rec.fields };
@@ -81,7 +77,6 @@ pub(crate) fn numbered_pieces(
     bytes: &[u8],
 ) -> Result<Parts, NoMemory>
     requires some { 0 < size }
-    requires sized { AreSized key.now }
     requires few { length bytes.now ≤ 65535 }
     ensures { IfOk result (λ parts. parts ≡ numbered key.now 0 (pieces size bytes.now)) }
 {

@@ -3,8 +3,6 @@ ghost use Rattle.std.specs.Prelude.{◌≡◌, ◌<◌, ◌≤◌, length, true,
 ghost use Rattle.std.specs.List.Sorted.{IsPermutation, IsSortedBy};
 ghost use Rattle.std.specs.FinMap.{entries};
 ghost use Rattle.std.specs.Ordering.{is_lt};
-ghost use Rattle.gx_values.specs.declared.values.Value.{Value as FieldValue};
-ghost use Rattle.gx_values.specs.Values.{IsSized};
 ghost use Rattle.gx_mapping.specs.Rule.{In};
 ghost use Rattle.gx_links.specs.declared.pairs.Owned.{Owned as Group};
 ghost use Rattle.gx_links.specs.Links.{Link, most_members};
@@ -19,8 +17,6 @@ use std::cmp::Ordering;
 /// The owners in the pairs of a link, in ascending order, each with its members. They have just
 /// these pairs, also where those are of no link. `NoMemory`: there was none for them.
 pub fn owners_of(alloc: Global, pairs: &Pairs) -> Result<Owners, NoMemory>
-    requires { (pair : FieldValue × FieldValue) → In pair pairs.now →
-        IsSized pair.0 × IsSized pair.1 }
     ensures owners { IfOk result
         (λ owners. (link : Link) → entries link ≡ pairs.now → AreOwners link owners) }
     ensures pairs { IfOk result (λ owners. (g : Group) → In g owners → IsGroupOf pairs.now g) }

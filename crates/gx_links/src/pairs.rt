@@ -1,9 +1,6 @@
 // The pairs of links, and owners with their members.
 ghost use Rattle.std.specs.Prelude.{◌≡◌, IfOk, OnOk};
 ghost use Rattle.gx_links.specs.Owners.{first_of, with_member_last};
-ghost use Rattle.gx_values.specs.declared.values.Value.{Value as FieldValue};
-ghost use Rattle.gx_values.specs.Values.{IsSized};
-ghost use Rattle.gx_mapping.specs.Rule.{In};
 
 use gx_values::{NoMemory, Value, Values};
 use std::alloc::{AllocError, Global};
@@ -25,8 +22,6 @@ impl Model for Pairs {
 impl Pairs {
     /// The same pairs. `NoMemory`: there was none for them.
     pub fn copy(&self, alloc: Global) -> Result<Pairs, NoMemory>
-        requires { (pair : FieldValue × FieldValue) → In pair self.now →
-            IsSized pair.0 × IsSized pair.1 }
         ensures { IfOk result (λ copy. copy ≡ self.now) }
     {
         let mut copies = Vec::with_capacity(alloc, self.0.len())?;

@@ -1,7 +1,7 @@
 // The pairs that the records of nodes tell.
 ghost use Rattle.std.specs.Prelude.{◌≡◌, ◌<◌, length, map, get_or, IfOk};
 ghost use Rattle.gx_values.specs.declared.records.Rec.{Rec as Record};
-ghost use Rattle.gx_values.specs.Values.{IsSized, no_value};
+ghost use Rattle.gx_values.specs.Values.{no_value};
 ghost use Rattle.gx_mapping.specs.Rule.{In};
 ghost use Rattle.gx_links.specs.Pairs.{pair_at, two_parts, ArePairsOfRows};
 
@@ -16,10 +16,8 @@ use std::alloc::Global;
 /// The pairs in records of members, each with its owner in the field at this index. `NoMemory`:
 /// there was none for them.
 pub fn pairs_at(alloc: Global, records: &Recs, index: usize) -> Result<Pairs, NoMemory>
-    requires keys { (r : Record) → In r records.now →
-        (0 < length r.key) × IsSized (pair_at index r).0 }
-    requires fields { (r : Record) → In r records.now →
-        (index < length r.fields) × IsSized (pair_at index r).1 }
+    requires keys { (r : Record) → In r records.now → 0 < length r.key }
+    requires fields { (r : Record) → In r records.now → index < length r.fields }
     ensures { IfOk result (λ pairs. pairs ≡ map (pair_at index) records.now) }
 {
     let mut pairs = Vec::with_capacity(alloc, records.0.len())?;

@@ -5,10 +5,9 @@ use Rattle.gx_values.specs.declared.values.Kind.{Kind}
 use Rattle.gx_values.specs.declared.values.Kind.TheVariants as kind
 use Rattle.gx_values.specs.declared.values.Value.{Value}
 use Rattle.gx_values.specs.declared.records.Rec.{Rec}
-use Rattle.gx_values.specs.Values.{Fits, IsSized, AreSized, no_value}
+use Rattle.gx_values.specs.Values.{Fits, no_value}
 use Rattle.gx_values.specs.Keys.{bytes_of}
 use Rattle.gx_values.specs.Spans.{IsSpanKind}
-use Rattle.gx_values.proofs.CopyLemmas.{fit_sized}
 use Rattle.gx_values.proofs.KeyLemmas.{fit_bytes}
 use Rattle.gx_ports.specs.LeafMaps.{LeafMap, Limits, IsCrowdedBy}
 use Rattle.gx_mapping.specs.Rule.{Rule, In, IsOf}
@@ -22,11 +21,6 @@ use Rattle.gx_lists.specs.Arrays.{array_rec, array_rows, one_node, IsArray, AreO
 use Rattle.gx_lists.proofs.ArrayLemmas.{of_form, none_there, one_there, first_held, more_held, last_held, others_gone, rec_crowded}
 
 -- ---- values
-
-pub each_sized : (k : Kind) (ms : List Value) → AreOfKind k ms → AreSized ms
-each_sized k [] fit = tt
-each_sized k (m ∷ ms) fit =
-    (fit_sized k m (fit m (inl refl)), each_sized k ms (λ x h. fit x (inr h)))
 
 pub bytes_small : (k : Kind) (m : Value) → IsSpanKind k → Fits k m → length (bytes_of m) ≤ 400
 bytes_small kind.Int m key fit = omega (arith, fit_bytes kind.Int m fit)
@@ -205,7 +199,6 @@ has_of k r body before now is none cut = (
 )
 
 pub first_value : (key : List Value) (x : Value) → 0 < length key → x ≡ get_or key 0 x
-    → AreSized key
-    → IsSized x × (get_or key 0 no_value ≡ x)
-first_value [] x some read sized = absurd (omega arith)
-first_value (v ∷ key) x some read sized = (subst IsSized (sym read) sized.0, sym read)
+    → get_or key 0 no_value ≡ x
+first_value [] x some read = absurd (omega arith)
+first_value (v ∷ key) x some read = sym read

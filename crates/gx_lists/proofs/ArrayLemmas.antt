@@ -7,9 +7,8 @@ use Rattle.gx_values.specs.declared.values.Kind.{Kind}
 use Rattle.gx_values.specs.declared.values.Value.{Value}
 use Rattle.gx_values.specs.declared.records.Rec.{Rec}
 use Rattle.gx_values.specs.declared.keys.Span.{Span}
-use Rattle.gx_values.specs.Values.{Fits, AreFit, AreSized, no_value}
+use Rattle.gx_values.specs.Values.{Fits, AreFit, no_value}
 use Rattle.gx_values.specs.Keys.{key_of, is_inside, IsKeyKind}
-use Rattle.gx_values.proofs.CopyLemmas.{are_sized}
 use Rattle.gx_values.proofs.OrderLemmas.{same_value, value_itself, value_cases}
 use Rattle.gx_ports.specs.LeafMaps.{LeafMap, Limits, IsCrowdedBy}
 use Rattle.gx_mapping.specs.declared.parts.Part.{Part}
@@ -124,9 +123,6 @@ module _ {M : Type 0} (rule : M → Rule) (tree : Tree M) (member : Kind)
           → (0 < length key) × Fits owner_key (get_or key 0 no_value)
       go [] fit = absurd fit
       go (v ∷ key) fit = (omega arith, fit.0)
-
-  pub key_sized : (r : Rec) → IsOf (tree_form rule tree) r → AreSized r.key
-  key_sized r fits = are_sized (tree_form rule tree).keys r.key fits.key
 
   -- ---- what a selection finds
 

@@ -13,9 +13,8 @@ use Rattle.gx_values.specs.declared.values.Kind.TheVariants as kind
 use Rattle.gx_values.specs.declared.values.Value.{Value}
 use Rattle.gx_values.specs.declared.values.Value.TheVariants as value
 use Rattle.gx_values.specs.declared.records.Rec.{Rec}
-use Rattle.gx_values.specs.Values.{value_cmp, Fits, IsSized, no_value}
+use Rattle.gx_values.specs.Values.{value_cmp, Fits, no_value}
 use Rattle.gx_values.specs.Keys.{key_of, IsKeyKind}
-use Rattle.gx_values.proofs.CopyLemmas.{fit_sized}
 use Rattle.gx_values.proofs.OrderLemmas.{value_cmp_total, value_cmp_same}
 use Rattle.gx_ports.specs.LeafMaps.{LeafMap}
 use Rattle.gx_mapping.specs.declared.parts.Part.{Part}
@@ -254,13 +253,6 @@ module _ {M : Type 0} (rule : M → Rule) (tree : Tree M) (member : Kind)
           ∙ ap (members_of link) owner in
           subst (λ x. In (m, x) (pairs_of gs)) owner
           (in_pairs gs g.0 m g.1 (subst (In m) (sym members) (in_members link o m e)))
-
-      pub owner_sized : (g : Owned) → In g gs → IsSized g.owner
-      owner_sized g h =
-          let r = cut_at member found gs g cut h in
-          subst IsSized (sym r.2.owner)
-          (fit_sized (owner_kind rule tree) (get_or r.0.key 0 no_value)
-          (array_key r.0 (fits r.0 r.1)).1)
 
       -- the owners ascend, as the keys of the records do
       owners_ascend : IsStrictlySortedBy part_cmp (two_parts found [])

@@ -7,8 +7,7 @@ use Rattle.std.specs.FinMap as fin
 use Rattle.gx_values.specs.declared.values.Kind.{Kind}
 use Rattle.gx_values.specs.declared.values.Value.{Value}
 use Rattle.gx_values.specs.declared.records.Rec.{Rec}
-use Rattle.gx_values.specs.Values.{value_cmp, Fits, IsSized, no_value}
-use Rattle.gx_values.proofs.CopyLemmas.{fit_sized}
+use Rattle.gx_values.specs.Values.{value_cmp, Fits, no_value}
 use Rattle.gx_values.proofs.OrderLemmas.{value_cmp_total}
 use Rattle.gx_mapping.specs.declared.parts.Part.{Part}
 use Rattle.gx_mapping.specs.Rule.{Rule, In, IsOf, part_cmp}
@@ -122,22 +121,14 @@ module _ {M : Type 0} (rule : M → Rule) (down up : Tree M) (valid : IsInverted
       record { key = k.0; fields = f.0; member_fits = k.1; owner_fits = f.1 }
 
   pub key_ready : (r : Rec) → IsOf (tree_form rule up) r
-      → (0 < length r.key) × IsSized (owned_pair r).0
+      → 0 < length r.key
   key_ready r fits =
-      let own = owned_of r fits in (
-        subst (λ (vs : List Value). 0 < length vs) (sym own.key) (omega arith),
-        fit_sized (member_kind rule up)
-            (owned_pair r).0 own.member_fits,
-      )
+      subst (λ (vs : List Value). 0 < length vs) (sym (owned_of r fits).key) (omega arith)
 
   pub fields_ready : (r : Rec) → IsOf (tree_form rule up) r
-      → (0 < length r.fields) × IsSized (owned_pair r).1
+      → 0 < length r.fields
   fields_ready r fits =
-      let own = owned_of r fits in (
-        subst (λ (vs : List Value). 0 < length vs) (sym own.fields) (omega arith),
-        fit_sized (owner_kind rule down)
-            (owned_pair r).1 own.owner_fits,
-      )
+      subst (λ (vs : List Value). 0 < length vs) (sym (owned_of r fits).fields) (omega arith)
 
   module _ (A B : List Rec) (fits : (r : Rec) → In r B → IsOf (tree_form rule up) r) where
     pub inverted_read : AreRead (owner_kind rule down) (member_kind rule up) inverted_rows

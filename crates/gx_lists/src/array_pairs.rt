@@ -4,9 +4,8 @@ ghost use Rattle.std.specs.List.Sorted.{IsPermutation, IsSortedBy, IsStrictlySor
 ghost use Rattle.std.specs.Ordering.{is_lt};
 ghost use Rattle.gx_values.specs.declared.records.Rec.{Rec as Record};
 ghost use Rattle.gx_values.specs.Keys.{IsKeyKind};
-ghost use Rattle.gx_values.specs.Values.{value_cmp, IsSized, AreSized};
+ghost use Rattle.gx_values.specs.Values.{value_cmp};
 ghost use Rattle.gx_mapping.specs.Rule.{In};
-ghost use Rattle.gx_links.specs.declared.pairs.Owned.{Owned as Group};
 ghost use Rattle.gx_links.specs.Owners.{member_cmp, pair_with, pairs_of};
 ghost use Rattle.gx_lists.specs.Arrays.{AreCutOwners, IsCutOwner, AreOfOneOwner};
 
@@ -22,7 +21,6 @@ use std::cmp::Ordering;
 pub fn cut_owners(alloc: Global, kind: Kind, found: &Recs) -> Result<Option<Owners>, NoMemory>
     requires kind { IsKeyKind kind }
     requires some { (r : Record) → In r found.now → 0 < length r.key }
-    requires sized { (r : Record) → In r found.now → AreSized r.key }
     ensures { IfOk result (AreCutOwners kind found.now) }
 {
     let mut owners = Vec::with_capacity(alloc, found.0.len())?;
@@ -39,7 +37,6 @@ pub fn cut_owners(alloc: Global, kind: Kind, found: &Recs) -> Result<Option<Owne
 fn cut_owner(alloc: Global, kind: Kind, rec: &Rec) -> Result<Option<Owned>, NoMemory>
     requires kind { IsKeyKind kind }
     requires some { 0 < length rec.now.key }
-    requires sized { AreSized rec.now.key }
     ensures { IfOk result (IsCutOwner kind rec.now) }
 {
     let mut members = Values(Vec::new(alloc));
@@ -70,7 +67,6 @@ fn are_ascending(members: &[Value]) -> bool
 
 // The pairs of owners with their members, by member.
 pub fn pairs_by_member(alloc: Global, owners: Owners) -> Result<Pairs, NoMemory>
-    requires { (g : Group) → In g owners → IsSized g.owner }
     ensures those { IfOk result (IsPermutation (pairs_of owners)) }
     ensures in_order { IfOk result (IsSortedBy (λ a b. is_lt (member_cmp a b))) }
 {
@@ -90,7 +86,6 @@ fn add_pairs(
     members: Values,
     pairs: &mut Pairs,
 ) -> Result<(), NoMemory>
-    requires { IsSized owner.now }
     ensures { OnOk result (pairs.new ≡ pairs.old ++ map (pair_with owner.now) members) }
 {
     for member in members.0 {

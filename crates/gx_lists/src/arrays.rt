@@ -3,7 +3,6 @@ ghost use Rattle.std.specs.Prelude.{◌≡◌, ◌≤◌, ◌<◌, ℕ, length, 
 ghost use Rattle.gx_values.specs.declared.values.Value.{Value as FieldValue};
 ghost use Rattle.gx_values.specs.declared.records.Rec.{Rec as Record};
 ghost use Rattle.gx_values.specs.Keys.{bytes_of, key_of, IsKeyKind};
-ghost use Rattle.gx_values.specs.Values.{IsSized, AreSized};
 ghost use Rattle.gx_values.specs.declared.bytes.TheConstants.{MAX_KEY_LEN};
 ghost use Rattle.gx_mapping.specs.Rule.{In};
 ghost use Rattle.gx_stack.specs.Tree.{leaf_body};
@@ -31,8 +30,7 @@ fn joined(alloc: Global, members: &[Value]) -> Result<Octets, NoMemory>
 
 // The record of an owner with these members.
 pub fn array_rec(alloc: Global, owner: &Value, members: &[Value]) -> Result<Rec, NoMemory>
-    requires owner { IsSized owner.now }
-    requires members { (m : FieldValue) → In m members.now → length (bytes_of m) ≤ MAX_KEY_LEN }
+    requires { (m : FieldValue) → In m members.now → length (bytes_of m) ≤ MAX_KEY_LEN }
     ensures { IfOk result (λ rec. rec ≡ array_rec owner.now members.now) }
 {
     let mut key = Vec::with_capacity(alloc, 1)?;
@@ -80,8 +78,6 @@ fn place_of(member: &Value, members: &[Value]) -> usize
 
 // The ascending members with one more.
 pub fn with_member(alloc: Global, member: &Value, members: &Values) -> Result<Values, NoMemory>
-    requires member { IsSized member.now }
-    requires members { AreSized members.now }
     ensures { IfOk result (λ with. with ≡ with_member member.now members.now) }
 {
     let mut with = members.copy(alloc)?;
@@ -132,7 +128,6 @@ pub fn owner_among(
 ) -> Result<Option<Value>, Stop>
     requires kind { IsKeyKind kind }
     requires some { (r : Record) → In r found.now → 0 < length r.key }
-    requires sized { (r : Record) → In r found.now → AreSized r.key }
     ensures among { IfOk result (IsOwnerAmong kind member.now found.now) }
     ensures damaged { (n : ℕ) → IsErrOf result (Stop.Damaged n) →
         (r : Record) × In r found.now × AreOfNone kind (leaf_body r.fields) }

@@ -1,11 +1,8 @@
 // The records of inverted lists.
 ghost use Rattle.std.specs.Prelude.{◌≡◌, ◌<◌, ◌++◌, length, map, IfOk, OnOk};
 ghost use Rattle.gx_values.specs.declared.records.Rec.{Rec as Record};
-ghost use Rattle.gx_values.specs.declared.values.Value.{Value as FieldValue};
-ghost use Rattle.gx_values.specs.Values.{IsSized};
 ghost use Rattle.gx_ports.specs.LeafMaps.{Extends};
 ghost use Rattle.gx_mapping.specs.Rule.{In};
-ghost use Rattle.gx_links.specs.declared.pairs.Owned.{Owned as Group};
 ghost use Rattle.gx_links.specs.Pairs.{rows_of};
 ghost use Rattle.gx_lists.specs.Inverted.{pair_rec, owned_rec, member_in, owner_in, inverted_rows};
 
@@ -17,8 +14,6 @@ use std::alloc::{AllocError, Global};
 
 // The record of a pair under its owner.
 pub fn pair_rec(alloc: Global, owner: &Value, member: &Value) -> Result<Rec, NoMemory>
-    requires owner { IsSized owner.now }
-    requires member { IsSized member.now }
     ensures { IfOk result (λ rec. rec ≡ pair_rec owner.now member.now) }
 {
     let mut key = Vec::with_capacity(alloc, 2)?;
@@ -32,8 +27,6 @@ pub fn pair_rec(alloc: Global, owner: &Value, member: &Value) -> Result<Rec, NoM
 
 // The record of a member, with its owner.
 pub fn owned_rec(alloc: Global, owner: &Value, member: &Value) -> Result<Rec, NoMemory>
-    requires owner { IsSized owner.now }
-    requires member { IsSized member.now }
     ensures { IfOk result (λ rec. rec ≡ owned_rec owner.now member.now) }
 {
     let mut key = Vec::with_capacity(alloc, 1)?;
@@ -74,8 +67,6 @@ pub fn owner_of(found: Recs) -> Option<Value>
 
 // The rows of owners with their members.
 pub fn inverted_rows(alloc: Global, owners: &Owners) -> Result<Parts, NoMemory>
-    requires { (g : Group) → In g owners.now → (m : FieldValue) → In m g.members →
-        IsSized g.owner × IsSized m }
     ensures { IfOk result (λ rows. rows ≡ rows_of inverted_rows owners.now) }
 {
     let mut rows = Parts(Vec::new(alloc));
@@ -91,7 +82,6 @@ fn add_rows(
     members: &Values,
     rows: &mut Parts,
 ) -> Result<(), NoMemory>
-    requires { (m : FieldValue) → In m members.now → IsSized owner.now × IsSized m }
     ensures { OnOk result (rows.new ≡ rows.old ++ inverted_rows owner.now members.now) }
 {
     for member in &members.0 {

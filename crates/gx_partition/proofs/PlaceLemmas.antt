@@ -9,8 +9,7 @@ use Rattle.gx_values.specs.declared.values.Kind.{Kind}
 use Rattle.gx_values.specs.declared.values.Value.{Value}
 use Rattle.gx_values.specs.declared.records.Form.{Form}
 use Rattle.gx_values.specs.declared.records.Rec.{Rec}
-use Rattle.gx_values.specs.Values.{value_cmp, Fits, AreSized}
-use Rattle.gx_values.proofs.CopyLemmas.{fit_sized}
+use Rattle.gx_values.specs.Values.{value_cmp, Fits}
 use Rattle.gx_values.proofs.OrderLemmas.{value_cmp_total, value_cmp_same}
 use Rattle.gx_mapping.specs.Rule.{IsOf}
 use Rattle.gx_mapping.proofs.FieldLemmas.{values_count}
@@ -67,10 +66,6 @@ parted (x ∷ xs) v sorted (suc i) (suc j) d le lt up =
     parted xs v sorted.1 i j d (omega arith) (omega arith) up
 
 -- ---- records
-
-pub all_sized : (k : Kind) (vs : List Value) → AllByRecursion (Fits k) vs → AreSized vs
-all_sized k [] all = tt
-all_sized k (v ∷ vs) all = (fit_sized k v all.0, all_sized k vs all.1)
 
 pub in_record : (at : Where) (form : Form) (r : Rec) → IsPlace at form → IsOf form r
     → IsInRecord at r

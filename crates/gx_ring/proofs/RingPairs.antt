@@ -7,8 +7,7 @@ use Rattle.std.specs.FinMap as fin
 use Rattle.gx_values.specs.declared.values.Kind.{Kind}
 use Rattle.gx_values.specs.declared.values.Value.{Value}
 use Rattle.gx_values.specs.declared.records.Rec.{Rec}
-use Rattle.gx_values.specs.Values.{value_cmp, Fits, IsSized, no_value}
-use Rattle.gx_values.proofs.CopyLemmas.{fit_sized}
+use Rattle.gx_values.specs.Values.{value_cmp, Fits, no_value}
 use Rattle.gx_values.proofs.OrderLemmas.{value_cmp_total}
 use Rattle.gx_ports.specs.LeafMaps.{LeafMap}
 use Rattle.gx_mapping.specs.declared.parts.Part.{Part}
@@ -102,16 +101,13 @@ module _ {M : Type 0} (rule : M → Rule) (heads nexts : Tree M) (valid : IsRing
         record { key = k.0; fields = f.0; member_fits = k.1; owner_fits = f.1 }
 
     pub key_ready : (r : Rec) → IsOf (tree_form rule nexts) r
-        → (0 < length r.key) × IsSized (chain_pair r).0
+        → 0 < length r.key
     key_ready r fits =
-        let own = chained_of r fits in
-        (subst (λ (vs : List Value). 0 < length vs) (sym own.key) (omega arith), fit_sized (member_kind rule nexts) (chain_pair r).0 own.member_fits)
+        subst (λ (vs : List Value). 0 < length vs) (sym (chained_of r fits).key) (omega arith)
 
     pub fields_ready : (r : Rec) → IsOf (tree_form rule nexts) r
-        → (2 < length r.fields) × IsSized (chain_pair r).1
-    fields_ready r fits =
-        let own = chained_of r fits in
-        (own.fields, fit_sized (owner_kind rule heads) (chain_pair r).1 own.owner_fits)
+        → 2 < length r.fields
+    fields_ready r fits = (chained_of r fits).fields
 
     module _ (A B : List Rec) (fits : (r : Rec) → In r B → IsOf (tree_form rule nexts) r) where
       rise : Ascends part_cmp (two_parts A B)

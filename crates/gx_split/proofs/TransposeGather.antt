@@ -10,7 +10,6 @@ use Rattle.gx_values.specs.declared.values.Value.{Value}
 use Rattle.gx_values.specs.declared.records.Field.{Field}
 use Rattle.gx_values.specs.declared.records.Form.{Form}
 use Rattle.gx_values.specs.Values.{Fits, AreFit, no_field}
-use Rattle.gx_values.proofs.CopyLemmas.{fit_sized}
 use Rattle.gx_mapping.specs.declared.parts.Part.{Part}
 use Rattle.gx_mapping.specs.Rule.{In, AreOfKey, IsGathered}
 use Rattle.gx_mapping.proofs.RuleLemmas.{whole_key, all_data}
@@ -143,9 +142,8 @@ module _ (form : Form) (key : List Value) (ps : List Part)
   -- each part has one value
   pub are_alone : (p : Part) → In p ps → IsAlone p
   are_alone p there =
-      let one = one_value (get_or form.fields p.child no_field) p.rec.fields
-      (req.each p there).fits.fields in
-      record { one = one.0; sized = fit_sized (get_or form.fields p.child no_field).kind (first_value p.rec.fields) one.1 }
+      (one_value (get_or form.fields p.child no_field) p.rec.fields
+      (req.each p there).fits.fields).0
 
   pub one_gathered : (copy vs : List Value) → length ps ≡ length form.fields
       → Some vs ≡ column_values 0 ps → copy ≡ key
@@ -154,7 +152,7 @@ module _ (form : Form) (key : List Value) (ps : List Part)
       let each : (p : Part) → In p ps
       → (p.rec.key ≡ key) × (p.rec.fields ≡ first_value p.rec.fields ∷ []) = λ p there.
       (let of = req.each p there in
-      (whole_key form.keys key p.rec.key req.key_fits of.fits.key of.under, (are_alone p there).one)) in
+      (whole_key form.keys key p.rec.key req.key_fits of.fits.key of.under, are_alone p there)) in
       let fit = columns_fit form.fields 0 ps vs
       (λ p there. (one_value (get_or form.fields p.child no_field) p.rec.fields
       (req.each p there).fits.fields).1) is (omega (arith, count)) in

@@ -1,6 +1,5 @@
 // Values each alone in a part of its own, and back.
 ghost use Rattle.std.specs.Prelude.{◌≡◌, ◌∷◌, [], ◌<◌, ◌≤◌, length, IfOk};
-ghost use Rattle.gx_values.specs.Values.{IsSized, AreSized};
 ghost use Rattle.gx_mapping.specs.declared.parts.Part.{Part as ThePart};
 ghost use Rattle.gx_mapping.specs.Rule.{In};
 ghost use Rattle.gx_split.specs.TransposeRules.{column_part, columns, first_value, column_values, IsAlone};
@@ -12,9 +11,7 @@ use std::alloc::Global;
 /// The values as parts under the key, each alone in the child of its number from 0. `NoMemory`:
 /// there was none for them.
 pub(crate) fn columns(alloc: Global, key: &Values, values: &Values) -> Result<Parts, NoMemory>
-    requires key { AreSized key.now }
-    requires values { AreSized values.now }
-    requires few { length values.now ≤ 65535 }
+    requires { length values.now ≤ 65535 }
     ensures { IfOk result (λ parts. parts ≡ columns key.now 0 values.now) }
 {
     let mut parts = Vec::with_capacity(alloc, values.0.len())?;
@@ -25,8 +22,6 @@ pub(crate) fn columns(alloc: Global, key: &Values, values: &Values) -> Result<Pa
 }
 
 fn column_part(alloc: Global, key: &Values, child: u16, value: &Value) -> Result<Part, NoMemory>
-    requires key { AreSized key.now }
-    requires value { IsSized value.now }
     ensures { IfOk result (λ part. part ≡ column_part key.now child value.now) }
 {
     into_column(alloc, key, child, value.copy(alloc)?)
@@ -34,8 +29,7 @@ fn column_part(alloc: Global, key: &Values, child: u16, value: &Value) -> Result
 
 /// The same of values that needn't be kept.
 pub(crate) fn into_columns(alloc: Global, key: &Values, values: Values) -> Result<Parts, NoMemory>
-    requires key { AreSized key.now }
-    requires few { length values ≤ 65535 }
+    requires { length values ≤ 65535 }
     ensures { IfOk result (λ parts. parts ≡ columns key.now 0 values) }
 {
     let mut parts = Vec::with_capacity(alloc, values.0.len())?;
@@ -47,7 +41,6 @@ pub(crate) fn into_columns(alloc: Global, key: &Values, values: Values) -> Resul
 }
 
 fn into_column(alloc: Global, key: &Values, child: u16, value: Value) -> Result<Part, NoMemory>
-    requires { AreSized key.now }
     ensures { IfOk result (λ part. part ≡ column_part key.now child value) }
 {
     let mut fields = Vec::with_capacity(alloc, 1)?;

@@ -1,7 +1,6 @@
 use Rattle.std.proofs.Common.{rules, ◌≡◌, ◌+◌, ◌∷◌, ◌++◌, [], ◌∙◌, ap, sym, subst, map, drop, append_assoc}
 use Rattle.std.proofs.lemmas.List.{drop_more}
 use Rattle.gx_values.specs.declared.values.Value.{Value}
-use Rattle.gx_values.specs.Values.{IsSized}
 use Rattle.gx_mapping.specs.Rule.{In}
 use Rattle.gx_gather.proofs.Lists.{in_read}
 use Rattle.gx_links.specs.Pairs.{pair_at}
@@ -11,17 +10,15 @@ pub value_at-requires : goal.value_at-requires
 value_at-requires c =
     let items = c.deref-rec-items.result.now in
     let is : items ≡ c.args.records.now = search rules in
-    (c.requires.keys c.rec-item.result (subst (In c.rec-item.result) is
-    (in_read items c.loop-rec.rec-index c.rec-item.result c.rec-item.is
-    c.loop-rec-test.true))).0
+    c.requires.keys c.rec-item.result (subst (In c.rec-item.result) is
+    (in_read items c.loop-rec.rec-index c.rec-item.result c.rec-item.is c.loop-rec-test.true))
 
 pub value_at-requires-in-loop-rec : goal.value_at-requires-in-loop-rec
 value_at-requires-in-loop-rec c =
     let items = c.deref-rec-items.result.now in
     let is : items ≡ c.args.records.now = search rules in
-    (c.requires.fields c.rec-item.result (subst (In c.rec-item.result) is
-    (in_read items c.loop-rec.rec-index c.rec-item.result c.rec-item.is
-    c.loop-rec-test.true))).0
+    c.requires.fields c.rec-item.result (subst (In c.rec-item.result) is
+    (in_read items c.loop-rec.rec-index c.rec-item.result c.rec-item.is c.loop-rec-test.true))
 
 pub loop-rec-preserved : goal.loop-rec-preserved
 loop-rec-preserved c =
@@ -29,13 +26,9 @@ loop-rec-preserved c =
     let i = at.rec-index in
     let items = c.deref-rec-items.result.now in
     let rec = c.rec-item.result in
-    let is : items ≡ c.args.records.now = search rules in
-    let there = subst (In rec) is (in_read items i rec c.rec-item.is c.loop-rec-test.true) in
     let one : c.in_ok-member.member ≡ (pair_at c.args.index rec).0 = c.in_ok-member.ensures
-    (subst IsSized (sym c.value_at.ensures) (c.requires.keys rec there).1)
     ∙ c.value_at.ensures in
     let two : c.in_ok-owner.owner ≡ (pair_at c.args.index rec).1 = c.in_ok-owner.ensures
-    (subst IsSized (sym c.value_at-in-loop-rec.ensures) (c.requires.fields rec there).1)
     ∙ c.value_at-in-loop-rec.ensures in
     let both : ◌≡◌ {A = Value × Value} (c.in_ok-member.member, c.in_ok-owner.owner)
     (pair_at c.args.index rec) = λ j. (one j, two j) in

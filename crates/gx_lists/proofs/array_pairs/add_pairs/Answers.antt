@@ -17,7 +17,7 @@ loop-member-preserved c =
       many = search rules;
       so_far = ap (λ (zs : List (Value × Value)). zs ++ rest) c.in_ok-push.ensures.items
           ∙ append_assoc old ((member, c.in_ok-copy.field-0) ∷ []) rest
-          ∙ ap (λ (o : Value). old ++ (member, o) ∷ rest) (c.in_ok-copy.ensures c.requires)
+          ∙ ap (λ (o : Value). old ++ (member, o) ∷ rest) c.in_ok-copy.ensures
           ∙ ap (λ zs. old ++ map (pair_with owner) zs) (sym steps)
           ∙ at.invariant.so_far;
     }

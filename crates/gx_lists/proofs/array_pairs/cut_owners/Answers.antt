@@ -15,14 +15,6 @@ cut_owner-requires-clause-some c =
     (subst (In c.rec-item.result) is
     (in_read items c.loop-rec.rec-index c.rec-item.result c.rec-item.is c.loop-rec-test.true))
 
-pub cut_owner-requires-clause-sized : goal.cut_owner-requires-clause-sized
-cut_owner-requires-clause-sized c =
-    let items = c.deref-rec-items.result.now in
-    let is : items ≡ c.args.found.now = search rules in
-    c.requires.sized c.rec-item.result
-    (subst (In c.rec-item.result) is
-    (in_read items c.loop-rec.rec-index c.rec-item.result c.rec-item.is c.loop-rec-test.true))
-
 pub returns-in_default : goal.returns-in_default
 returns-in_default c =
     let items = c.deref-rec-items.result.now in

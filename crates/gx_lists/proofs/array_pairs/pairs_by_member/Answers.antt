@@ -1,7 +1,6 @@
-use Rattle.std.proofs.Common.{rules, ◌≡◌, ◌++◌, ◌∷◌, ◌∙◌, List, inr, ap, sym, subst, append_assoc}
+use Rattle.std.proofs.Common.{rules, ◌≡◌, ◌++◌, ◌∷◌, ◌∙◌, List, ap, sym, append_assoc}
 use Rattle.std.specs.Vec.Iter.{into_iter_items}
 use Rattle.gx_values.specs.declared.values.Value.{Value}
-use Rattle.gx_mapping.specs.Rule.{In}
 use Rattle.gx_links.specs.declared.pairs.Owned.{Owned}
 use Rattle.gx_links.specs.Owners.{pairs_under, pairs_of}
 use Rattle.gx_lists.proofs.array_pairs.pairs_by_member.Goals as goal
@@ -11,7 +10,6 @@ loop-owned-init c =
     let given : into_iter_items c.into_iter-owned-iterator.result ≡ c.args.owners = search rules in
     record {
       many = search rules;
-      sized = λ g h. c.requires g (subst (In g) given h);
       so_far = λ i. c.new.ensures.items i ++ pairs_of (given i);
     }
 
@@ -32,7 +30,6 @@ loop-owned-preserved c =
     c.in-Some.ensures.steps.0 in
     record {
       many = search rules;
-      sized = λ g h. at.invariant.sized g (subst (In g) (sym steps) (inr h));
       so_far = more at.pairs c.add_pairs.new.pairs (pairs_of c.args.owners)
           (into_iter_items at.owned-iterator) rest c.in-Some.owned steps
           c.in_ok-add_pairs.ensures at.invariant.so_far;
@@ -46,7 +43,6 @@ loop-owned-preserved-in_ok-add_pairs c =
     c.in-Some.ensures.steps.0 in
     record {
       many = search rules;
-      sized = λ g h. at.invariant.sized g (subst (In g) (sym steps) (inr h));
       so_far = more at.pairs c.add_pairs.new.pairs (pairs_of c.args.owners)
           (into_iter_items at.owned-iterator) rest c.in-Some.owned steps
           c.in_ok-add_pairs.ensures at.invariant.so_far;
@@ -60,7 +56,6 @@ loop-owned-preserved-in_ok-add_pairs-2 c =
     c.in-Some.ensures.steps.0 in
     record {
       many = search rules;
-      sized = λ g h. at.invariant.sized g (subst (In g) (sym steps) (inr h));
       so_far = more at.pairs c.add_pairs.new.pairs (pairs_of c.args.owners)
           (into_iter_items at.owned-iterator) rest c.in-Some.owned steps
           c.in_ok-add_pairs.ensures at.invariant.so_far;

@@ -10,7 +10,7 @@ returns c =
     let xs = c.args.members.now in
     let at : c.place_of-at.result ≡ place_in m xs = search rules in
     let old : c.with.inside.0.items ≡ xs = search rules in
-    let new : c.in_ok-copy.field-0 ≡ m = c.in_ok-copy.ensures c.requires.member in
+    let new : c.in_ok-copy.field-0 ≡ m = c.in_ok-copy.ensures in
     let items : c.insert.new.self.items ≡ insert c.with.inside.0.items c.place_of-at.result
     c.in_ok-copy.field-0 = search rules in
     items ∙ (λ i. take (at i) (old i) ++ new i ∷ drop (at i) (old i)) ∙ with_at m xs

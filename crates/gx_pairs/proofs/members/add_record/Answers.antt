@@ -12,7 +12,7 @@ invariant_of-row g c =
     let sized = fit_sized _ c.args.key.now c.requires.fit in
     let fits = subst (λ o. IfSome o (AreFit (data_fields file))) c.in-Some.is
     c.in_ok-values.ensures.fits in (
-      subst IsSized (sym (c.in_ok-key.ensures sized)) sized,
+      subst IsSized (sym c.in_ok-key.ensures) sized,
       are_sized (data_fields file) c.in-Some.values fits,
     )
 
@@ -22,6 +22,6 @@ invariant_of-row-then-meets_all g c =
     let sized = fit_sized _ c.args.key.now c.requires.fit in
     let fits = subst (λ o. IfSome o (AreFit (data_fields file))) c.in-Some.is
     c.in_ok-values.ensures.fits in (
-      subst IsSized (sym (c.in_ok-key.ensures sized)) sized,
+      subst IsSized (sym c.in_ok-key.ensures) sized,
       are_sized (data_fields file) c.in-Some.values fits,
     )

@@ -5,7 +5,7 @@ pub loop-change-preserved : goal.loop-change-preserved
 loop-change-preserved c =
     let one = sized_change c.args.changes.now c.loop-change.change-index c.change-item.result
     c.requires.changes c.loop-change-test.true c.change-item.is in
-    let same = c.in_ok-value.ensures one in
+    let same = c.in_ok-value.ensures in
     record {
       so_far = changed_more c.args.values c.loop-change.values.items c.set_value.new.values.items
           c.args.changes.now c.loop-change.change-index c.change-item.result c.in_ok-value.value

@@ -3,16 +3,12 @@ use Rattle.std.specs.Prelude.{IfSome}
 use Rattle.std.specs.Option.{option_map}
 use Rattle.gx_values.specs.declared.values.Value.{Value}
 use Rattle.gx_values.specs.Values.{AreFit}
-use Rattle.gx_values.proofs.CopyLemmas.{fit_sized}
-use Rattle.gx_schema.specs.Lookups.{key_kind, data_fields}
+use Rattle.gx_schema.specs.Lookups.{data_fields}
 use Rattle.gx_mapping.specs.Rule.{IsOf}
 use Rattle.gx_typing.specs.Dues.{file_form}
 use Rattle.gx_scan.specs.Files.{rec_of}
 use Rattle.gx_scan.proofs.FileLemmas.{row_fits}
 use Rattle.gx_scan.proofs.records.find_record.Goals as goal
-
-pub record_of-requires : goal.record_of-requires
-record_of-requires g c = fit_sized (key_kind c.args.file.now) c.args.key.now c.requires.key
 
 pub returns : goal.returns
 returns g c =

@@ -1,12 +1,10 @@
-use Rattle.std.proofs.Common.{inl, ◌∷◌, [], ◌∙◌, List, refl, sym, subst}
+use Rattle.std.proofs.Common.{◌∷◌, [], ◌∙◌, List, sym, subst}
 use Rattle.std.specs.Prelude.{IfOk}
 use Rattle.gx_values.specs.declared.values.Value.{Value}
 use Rattle.gx_values.specs.declared.records.Rec.{Rec}
-use Rattle.gx_values.proofs.CopyLemmas.{are_sized}
 use Rattle.gx_mapping.specs.declared.parts.Part.{Part}
 use Rattle.gx_mapping.specs.Rule.{AreOfKey, IsGathered}
 use Rattle.gx_mapping.proofs.RuleLemmas.{one_item}
-use Rattle.gx_encode.specs.Forms.{changed, coded_field}
 use Rattle.gx_encode.specs.Rules.{rule_of, only_part}
 use Rattle.gx_encode.proofs.GatherLemmas.{part_under, part_whole, part_alone}
 use Rattle.gx_encode.proofs.mapping.EncodeMapping.gather.Goals as goal
@@ -19,9 +17,7 @@ record_of-requires c =
     ∙ one_item c.as_slice.result.now p c.in-len1.len_at_least c.in-len1.len_below c.part-item.is
     in
     let of = subst (AreOfKey (rule_of m) c.args._key.now) one c.requires in
-    let fits = (of.each p (inl refl)).fits in
-    let copied = c.in_ok-rec-in-len1.ensures (are_sized m.form.keys p.rec.key fits.key)
-    (are_sized (changed m.field (coded_field m.code) m.form.fields) p.rec.fields fits.fields) in
+    let copied = c.in_ok-rec-in-len1.ensures in
     subst (λ (r : Rec). AreOfKey (rule_of m) r.key (only_part r ∷ [])) (sym copied)
     (part_alone m.form m.field m.code m.sound c.args._key.now p of)
 
@@ -34,9 +30,7 @@ returns-in_ok-rec-in-len1 c =
     ∙ one_item c.as_slice.result.now p c.in-len1.len_at_least c.in-len1.len_below c.part-item.is
     in
     let of = subst (AreOfKey (rule_of m) key) one c.requires in
-    let fits = (of.each p (inl refl)).fits in
-    let copied = c.in_ok-rec-in-len1.ensures (are_sized m.form.keys p.rec.key fits.key)
-    (are_sized (changed m.field (coded_field m.code) m.form.fields) p.rec.fields fits.fields) in
+    let copied = c.in_ok-rec-in-len1.ensures in
     subst (λ (ps : List Part). IfOk c.record_of.result (IsGathered (rule_of m) key ps)) (sym one)
     (subst (λ (q : Part). IfOk c.record_of.result (IsGathered (rule_of m) key (q ∷ [])))
     (part_whole m.form m.field m.code m.sound key p of)

@@ -1,28 +1,18 @@
 use Rattle.std.proofs.Common.{◌∷◌, [], ◌∙◌, ◌++◌, ℕ, List, ap, arith}
-use Rattle.gx_values.proofs.CopyLemmas.{are_sized}
 use Rattle.gx_mapping.specs.declared.parts.Part.{Part}
 use Rattle.gx_mapping.proofs.FieldLemmas.{fit_length}
 use Rattle.gx_index.specs.Rules.{entry_of}
 use Rattle.gx_index.proofs.mapping.IndexMapping.parts.Goals as goal
 
-pub entry-requires-clause-place : goal.entry-requires-clause-place
-entry-requires-clause-place c =
+pub entry-requires : goal.entry-requires
+entry-requires c =
     let m = c.args.self.now in
     omega (arith, c.from.ensures, m.sound.place, fit_length m.form.fields c.args.rec.now.fields c.requires.fields)
 
-pub entry-requires-clause-key : goal.entry-requires-clause-key
-entry-requires-clause-key c = are_sized c.args.self.now.form.keys c.args.rec.now.key c.requires.key
-
-pub entry-requires-clause-fields : goal.entry-requires-clause-fields
-entry-requires-clause-fields c =
-    are_sized c.args.self.now.form.fields c.args.rec.now.fields c.requires.fields
-
 pub returns : goal.returns
 returns c =
-    let m = c.args.self.now in
     let r = c.args.rec.now in
-    let copy = c.in_ok-copy.ensures (are_sized m.form.keys r.key c.requires.key)
-    (are_sized m.form.fields r.fields c.requires.fields) in
+    let copy = c.in_ok-copy.ensures in
     let entry = c.in_ok-entry.ensures ∙ ap (λ (n : ℕ). entry_of n r) c.from.ensures in
     c.in_ok-push-2.ensures.items
     ∙ ap (λ (ps : List Part). ps ++ record { child = 1; rec = c.in_ok-entry.field-0 } ∷ [])

@@ -6,15 +6,11 @@ use Rattle.gx_links.specs.Links.{with_member}
 use Rattle.gx_links.specs.Rows.{node_rows}
 use Rattle.gx_lists.specs.Arrays.{array_rec, array_rows}
 use Rattle.gx_lists.proofs.ArrayLemmas.{in_leaves, rows_set}
-use Rattle.gx_lists.proofs.ArrayChanges.{each_sized, bytes_small, with_fits, none_left, new_fits, old_fits, first_change, first_connected, more_change, more_connected, connect_crowded}
+use Rattle.gx_lists.proofs.ArrayChanges.{bytes_small, with_fits, none_left, new_fits, old_fits, first_change, first_connected, more_change, more_connected, connect_crowded}
 use Rattle.gx_lists.proofs.array.PointerArray.put_among.Goals as goal
 
-pub with_member-requires-clause-members : goal.with_member-requires-clause-members
-with_member-requires-clause-members g c =
-    each_sized c.args.self.now.member c.args.members.now c.requires.members
-
-pub array_rec-requires-clause-members : goal.array_rec-requires-clause-members
-array_rec-requires-clause-members g c = λ m h.
+pub array_rec-requires : goal.array_rec-requires
+array_rec-requires g c = λ m h.
     let list : c.deref.result.now ≡ with_member c.args.member.now c.args.members.now =
     search rules in
     bytes_small c.args.self.now.member m c.requires.valid.member_kind
@@ -66,8 +62,8 @@ returns-then-is_empty g c =
           (c.replace.ensures.replaces.full whole full);
     }
 
-pub array_rec-requires-2-clause-members : goal.array_rec-requires-2-clause-members
-array_rec-requires-2-clause-members g c = λ m h.
+pub array_rec-requires-2 : goal.array_rec-requires-2
+array_rec-requires-2 g c = λ m h.
     let list : c.deref-2.result.now ≡ c.args.members.now = search rules in
     bytes_small c.args.self.now.member m c.requires.valid.member_kind
     (c.requires.members m (subst (In m) list h))

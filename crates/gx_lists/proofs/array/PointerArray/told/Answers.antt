@@ -4,8 +4,8 @@ use Rattle.gx_stack.specs.Seen.{tree_of}
 use Rattle.gx_links.specs.Owners.{member_cmp}
 use Rattle.gx_lists.specs.Arrays.{AreCutOwners}
 use Rattle.gx_lists.specs.ArrayLaws.{key_kind}
-use Rattle.gx_lists.proofs.ArrayLemmas.{key_long, key_sized}
-use Rattle.gx_lists.proofs.ArrayPairs.{owner_sized, told_uncut, told_each_once, told_twice}
+use Rattle.gx_lists.proofs.ArrayLemmas.{key_long}
+use Rattle.gx_lists.proofs.ArrayPairs.{told_uncut, told_each_once, told_twice}
 use Rattle.gx_lists.proofs.array.PointerArray.told.Goals as goal
 
 pub cut_owners-requires-clause-kind : goal.cut_owners-requires-clause-kind
@@ -16,11 +16,6 @@ cut_owners-requires-clause-some g c = λ r h.
     (key_long g.M.Mapping.rule (tree_of c.args.self.now.tree.now) c.args.self.now.member
     c.requires.valid r (c.requires.found r h)).0
 
-pub cut_owners-requires-clause-sized : goal.cut_owners-requires-clause-sized
-cut_owners-requires-clause-sized g c =
-    λ r h. key_sized g.M.Mapping.rule (tree_of c.args.self.now.tree.now) c.args.self.now.member
-    c.requires.valid r (c.requires.found r h)
-
 pub returns-in_default : goal.returns-in_default
 returns-in_default g c =
     let found = c.args.found.now in
@@ -29,15 +24,6 @@ returns-in_default g c =
     told_uncut g.M.Mapping.rule (tree_of c.args.self.now.tree.now) c.args.self.now.member
     c.requires.valid found c.requires.found none.0
     none.1 none.2
-
-pub pairs_by_member-requires : goal.pairs_by_member-requires
-pairs_by_member-requires g c =
-    let found = c.args.found.now in
-    let cut = subst (AreCutOwners c.args.self.now.member found) c.in-Some.is c.in_ok-owners.ensures
-    in
-    owner_sized g.M.Mapping.rule (tree_of c.args.self.now.tree.now) c.args.self.now.member
-    c.requires.valid found c.requires.found
-    c.in-Some.owners cut
 
 pub returns-then-is_each_once : goal.returns-then-is_each_once
 returns-then-is_each_once g c =

@@ -14,8 +14,8 @@ use Rattle.gx_lists.proofs.ArrayLemmas.{in_leaves, rows_set}
 use Rattle.gx_lists.proofs.ArrayChanges.{bytes_small, without_fits, none_left, old_fits, old_there, less_change, last_disconnected, less_disconnected, less_crowded}
 use Rattle.gx_lists.proofs.array.PointerArrayLinkset.disconnect_from.Goals as goal
 
-pub array_rec-requires-clause-members : goal.array_rec-requires-clause-members
-array_rec-requires-clause-members g c = λ m h.
+pub array_rec-requires : goal.array_rec-requires
+array_rec-requires g c = λ m h.
     let found = c.in_ok-members.ensures.found in
     let kind = c.args.self.now.member in
     let ms_is : c.members.new.out ≡ found.found = found.appended
@@ -74,8 +74,8 @@ returns-then-is_empty-clause-disconnected g c = λ link whole can.
     c.in_ok-old.old (g.B.View.working c.replace.new.leaves) was (none_left ws empty) d)
     internal
 
-pub array_rec-requires-2-clause-members : goal.array_rec-requires-2-clause-members
-array_rec-requires-2-clause-members g c = λ m h.
+pub array_rec-requires-2 : goal.array_rec-requires-2
+array_rec-requires-2 g c = λ m h.
     let found = c.in_ok-members.ensures.found in
     let kind = c.args.self.now.member in
     let ms_is : c.members.new.out ≡ found.found = found.appended

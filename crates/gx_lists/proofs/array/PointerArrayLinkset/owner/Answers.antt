@@ -12,7 +12,7 @@ use Rattle.gx_links.specs.Rows.{node_rows}
 use Rattle.gx_lists.specs.Arrays.{array_rows, IsOwnerAmong}
 use Rattle.gx_lists.specs.ArrayLaws.{key_kind}
 use Rattle.gx_lists.proofs.SpanLemmas.{all_inside}
-use Rattle.gx_lists.proofs.ArrayLemmas.{in_leaves, rows_set, array_has_set, key_long, key_sized, owner_found, owner_fits, none_damaged}
+use Rattle.gx_lists.proofs.ArrayLemmas.{in_leaves, rows_set, array_has_set, key_long, owner_found, owner_fits, none_damaged}
 use Rattle.gx_lists.proofs.array.PointerArrayLinkset.owner.Goals as goal
 
 pub select-requires-clause-below : goal.select-requires-clause-below
@@ -44,15 +44,6 @@ owner_among-requires-clause-some g c = λ r h.
     (key_long g.M.Mapping.rule (tree_of c.args.self.now.tree.now) c.args.self.now.member
     c.requires.valid r
     (found.fit r (subst (In r) now h))).0
-
-pub owner_among-requires-clause-sized : goal.owner_among-requires-clause-sized
-owner_among-requires-clause-sized g c = λ r h.
-    let found = c.in_ok-select.ensures.found in
-    let now = found.appended ∙ ap (λ (before : List Rec). before ++ found.found) c.new-found.ensures
-    in
-    key_sized g.M.Mapping.rule (tree_of c.args.self.now.tree.now) c.args.self.now.member
-    c.requires.valid r
-    (found.fit r (subst (In r) now h))
 
 pub returns-clause-found : goal.returns-clause-found
 returns-clause-found g c =

@@ -1,7 +1,5 @@
 use Rattle.std.proofs.Common.{◌∙◌, sym, subst, map}
 use Rattle.std.proofs.lemmas.Result.{IfOk-weaker}
-use Rattle.gx_values.proofs.CopyLemmas.{fit_sized}
-use Rattle.gx_mapping.specs.Rule.{In}
 use Rattle.gx_stack.specs.Tree.{tree_form}
 use Rattle.gx_stack.specs.Seen.{tree_of}
 use Rattle.gx_links.specs.Pairs.{two_parts, ArePairsOfRows}
@@ -21,26 +19,6 @@ pub pairs_at-requires-clause-fields : goal.pairs_at-requires-clause-fields
 pairs_at-requires-clause-fields g c = λ r h. fields_ready g.M.Mapping.rule
     (tree_of c.args.self.now.down.now) (tree_of c.args.self.now.up.now) c.requires.valid r
     (c.requires.up r h)
-
-pub owners_of-requires : goal.owners_of-requires
-owners_of-requires g c = λ p h.
-    let rule = g.M.Mapping.rule in
-    let down = tree_of c.args.self.now.down.now in
-    let up = tree_of c.args.self.now.up.now in
-    let fit = (inverted_read rule down up c.requires.valid c.args.down c.args.up c.requires.up).fit
-    p
-    (subst (In p) c.in_ok-pairs.ensures h) in
-    (fit_sized (member_kind rule up) p.0 fit.0, fit_sized (owner_kind rule down) p.1 fit.1)
-
-pub inverted_rows-requires : goal.inverted_rows-requires
-inverted_rows-requires g c = λ x h m k.
-    let rule = g.M.Mapping.rule in
-    let down = tree_of c.args.self.now.down.now in
-    let up = tree_of c.args.self.now.up.now in
-    let fit = (inverted_read rule down up c.requires.valid c.args.down c.args.up c.requires.up).fit
-    (m, x.owner)
-    (subst (In (m, x.owner)) c.in_ok-pairs.ensures ((c.in_ok-owners.ensures.pairs x h).each m k)) in
-    (fit_sized (owner_kind rule down) x.owner fit.1, fit_sized (member_kind rule up) m fit.0)
 
 pub returns : goal.returns
 returns g c =

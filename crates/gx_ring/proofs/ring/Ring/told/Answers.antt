@@ -1,6 +1,5 @@
 use Rattle.std.proofs.Common.{◌∙◌, sym, subst, map}
 use Rattle.std.proofs.lemmas.Result.{IfOk-weaker}
-use Rattle.gx_values.proofs.CopyLemmas.{fit_sized}
 use Rattle.gx_mapping.specs.Rule.{In}
 use Rattle.gx_stack.specs.Seen.{tree_of}
 use Rattle.gx_links.specs.Pairs.{two_parts, ArePairsOfRows}
@@ -20,15 +19,6 @@ pub pairs_at-requires-clause-fields : goal.pairs_at-requires-clause-fields
 pairs_at-requires-clause-fields g c = λ r h. fields_ready g.M.Mapping.rule
     (tree_of c.args.self.now.heads.now) (tree_of c.args.self.now.chain.now) c.requires.valid r
     (c.requires.chain r h)
-
-pub owners_of-requires : goal.owners_of-requires
-owners_of-requires g c = λ p h.
-    let rule = g.M.Mapping.rule in
-    let heads = tree_of c.args.self.now.heads.now in
-    let nexts = tree_of c.args.self.now.chain.now in
-    let fit = (ring_read rule heads nexts c.requires.valid c.args.heads c.args.chain
-    c.requires.chain).fit p (subst (In p) c.in_ok-pairs.ensures h) in
-    (fit_sized (member_kind rule nexts) p.0 fit.0, fit_sized (owner_kind rule heads) p.1 fit.1)
 
 pub ring_rows-requires : goal.ring_rows-requires
 ring_rows-requires g c = λ x h m k.
