@@ -7,10 +7,10 @@ ghost use Rattle.gx_ports.specs.declared.pages.TheConstants.{OWNERS};
 ghost use Rattle.gx_pages.specs.Owners.{owner_number, IsFreeBetween, IsClear};
 
 use gx_bytes::overwrite;
-use gx_ports::{OWNERS, PAGE_LEN, TABLE_PAGES};
+use gx_ports::{MAX_OWNER, OWNERS, PAGE_LEN, TABLE_PAGES};
 
 /// The owner of a page of the table.
-pub(crate) const TABLE_OWNER: u16 = 65535;
+pub(crate) const TABLE_OWNER: u16 = MAX_OWNER + 1;
 
 /// The number of a page without an owner.
 pub(crate) const FREE: u16 = 0;

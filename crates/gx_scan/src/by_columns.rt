@@ -21,10 +21,11 @@ ghost use Rattle.gx_scan.specs.Search.{IsKeySearch, FindsValues, AddsWithin, Add
 
 use crate::entries::{PLAIN_ROOM, add_met, entries_at, select_at};
 use crate::places::Place;
-use crate::records::{NO_BLOCK, data_fields};
+use crate::records::data_fields;
 use crate::scan::behind_lengths;
 use crate::stored::{read_front, split_stored};
 use gx_commands::Cond;
+use gx_gather::NO_BLOCK;
 use gx_ports::{Entries, Leaves, Stop};
 use gx_rows::Row;
 use gx_schema::FileDef;

@@ -16,9 +16,10 @@ ghost use Rattle.gx_scan.specs.Search.{AddsWithin, AddsAtKey};
 
 use crate::coded::add_rows_at;
 use crate::places::Place;
-use crate::records::{NO_BLOCK, set_key};
+use crate::records::set_key;
 use crate::within::whole_span;
 use gx_commands::Cond;
+use gx_gather::NO_BLOCK;
 use gx_ports::{Entries, Leaves, Stop};
 use gx_rows::Row;
 use gx_schema::FileDef;

@@ -12,8 +12,8 @@ ghost use Rattle.gx_scan.specs.Search.{IsKeySearch, FindsValues, AddsWithin};
 
 use crate::pieced::{add_pieced_rows, values_of_pieces};
 use crate::pieces::Pieces;
-use crate::records::NO_BLOCK;
 use gx_commands::Cond;
+use gx_gather::NO_BLOCK;
 use gx_ports::{Entries, Leaves, Stop};
 use gx_rows::Row;
 use gx_schema::FileDef;

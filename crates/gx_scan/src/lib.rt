@@ -29,6 +29,7 @@ mod within;
 pub use by_index::rows_where;
 pub use by_key::find_values;
 pub use by_records::{into_row, meets_all};
+pub use gx_types::AnyMapping;
 pub use records::find_record;
 pub use searched::searched_node;
 pub use within::{rows_within, whole_span};

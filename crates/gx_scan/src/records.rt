@@ -1,6 +1,6 @@
 // The record at a key of a file.
 ghost use Rattle.std.specs.Prelude.{◌≡◌, ◌<◌, ◌≤◌, length, IfOk, IfSome, Option};
-ghost use Rattle.gx_values.specs.Values.{Fits, IsSized};
+ghost use Rattle.gx_values.specs.Values.{Fits};
 ghost use Rattle.gx_values.specs.Keys.{bytes_of};
 ghost use Rattle.gx_values.specs.declared.records.Rec.{Rec as Record};
 ghost use Rattle.gx_schema.specs.Lookups.{key_kind, data_fields};
@@ -20,9 +20,6 @@ use gx_stack::Node;
 use gx_types::AnyMapping;
 use gx_values::{Field, NoMemory, Rec, Span, Value, Values};
 use std::alloc::Global;
-
-// Records see no blocks: damage that they show is said of block 0.
-pub(crate) const NO_BLOCK: u32 = 0;
 
 /// The fields of a file other than its key.
 pub(crate) fn data_fields(file: &FileDef) -> &[Field]
@@ -64,7 +61,6 @@ pub fn find_record<B: Leaves>(
 
 // The record of a key and other values. `NoMemory`: there was none for the key.
 fn record_of(alloc: Global, key: &Value, values: Values) -> Result<Rec, NoMemory>
-    requires { IsSized key.now }
     ensures { IfOk result (λ made. made ≡ rec_of (key.now, values)) }
 {
     let mut keys = Vec::with_capacity(alloc, 1)?;
