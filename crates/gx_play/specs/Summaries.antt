@@ -2,7 +2,8 @@
 use Rattle.std.specs.Prelude.{ℕ, List, ◌++◌, length, codes}
 use Rattle.std.specs.Fmt.{decimal}
 use Rattle.gx_ports.specs.declared.kinds.LeafSpec.{LeafSpec}
-use Rattle.gx_typing.specs.Leaves.{root_pages, smallest_device}
+use Rattle.gx_store.specs.Device.{smallest_device}
+use Rattle.gx_typing.specs.Leaves.{root_pages}
 use Rattle.gx_play.specs.declared.summary.Summary.{Summary}
 
 -- how many leaves there are, how many pages they have from the start on, and the blocks of the

@@ -3,7 +3,8 @@ ghost use Rattle.std.specs.Prelude.{◌≡◌, ◌≤◌, length};
 ghost use Rattle.gx_play.specs.Summaries.{summary_of};
 ghost use Rattle.gx_ports.specs.declared.kinds.TheConstants.{MAX_LEAVES};
 
-use gx_typing::{Specs, root_pages, smallest_device};
+use gx_store::smallest_device;
+use gx_typing::{Specs, root_pages};
 
 /// What leaves an accepted equation has.
 #[derive(Clone, Copy, Debug)]
@@ -24,6 +25,6 @@ pub fn summarize(specs: &Specs) -> Summary
     Summary {
         leaves: specs.0.len() as u32,
         root_pages: root_pages(specs),
-        smallest_device: smallest_device(specs),
+        smallest_device: smallest_device(&specs.0),
     }
 }

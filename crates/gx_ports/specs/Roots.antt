@@ -1,10 +1,8 @@
 -- The pages that leaves have from the start on.
-use Rattle.std.specs.Prelude.{ℕ, ◌+◌, ◌*◌, List, map, sum}
+use Rattle.std.specs.Prelude.{ℕ, List, map, sum}
 use Rattle.gx_ports.specs.declared.kinds.LeafKind.{LeafKind}
 use Rattle.gx_ports.specs.declared.kinds.LeafKind.TheVariants as leaf
 use Rattle.gx_ports.specs.declared.kinds.LeafSpec.{LeafSpec}
-use Rattle.gx_layout.specs.declared.formatting.TheConstants.{HEAD_BLOCKS}
-use Rattle.gx_ports.specs.declared.pages.TheConstants.{TABLE_PAGES}
 
 -- a hashed leaf has one for each chain
 abbrev pub roots_of_kind : LeafKind → ℕ
@@ -18,7 +16,3 @@ roots_of spec = roots_of_kind spec.kind
 
 abbrev pub root_pages : List LeafSpec → ℕ
 root_pages specs = sum (map roots_of specs)
-
--- the blocks before the pages, and two for each page of the table of owners and for each root page
-abbrev pub smallest_device : List LeafSpec → ℕ
-smallest_device specs = HEAD_BLOCKS + 2 * (TABLE_PAGES + root_pages specs)

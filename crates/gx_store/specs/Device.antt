@@ -1,10 +1,10 @@
 -- What the blocks of a device hold: a database under two texts.
-use Rattle.std.specs.Prelude.{◌≡◌, ◌+◌, ◌≤◌, ◌<◌, ℕ, false, List, [], length, replicate, take, drop, get_or, slice_index_or}
+use Rattle.std.specs.Prelude.{◌≡◌, ◌+◌, ◌*◌, ◌≤◌, ◌<◌, ℕ, false, List, [], length, replicate, take, drop, get_or, slice_index_or}
 use Rattle.std.specs.FinMap.{empty}
 use Rattle.gx_ports.specs.declared.kinds.LeafSpec.{LeafSpec}
 use Rattle.gx_ports.specs.LeafMaps.{LeafMap}
 use Rattle.gx_ports.specs.Heads.{Head}
-use Rattle.gx_ports.specs.Roots.{smallest_device}
+use Rattle.gx_ports.specs.Roots.{root_pages}
 use Rattle.gx_ports.specs.Sheets.{Sheets, Ground}
 use Rattle.gx_layout.specs.Layout.{pages_of, head_of, is_open}
 use Rattle.gx_layout.specs.Recovered.{replayed_pages}
@@ -14,6 +14,10 @@ use Rattle.gx_pages.specs.Owners.{sheets_of}
 use Rattle.gx_leaves.specs.Places.{places_of}
 use Rattle.gx_leaves.specs.Wholeness.{AreLaid, maps_of}
 use Rattle.gx_ports.specs.declared.pages.TheConstants.{TABLE_PAGES}
+
+-- the blocks before the pages, and two for each page of the table of owners and for each root page
+abbrev pub smallest_device : List LeafSpec → ℕ
+smallest_device specs = HEAD_BLOCKS + 2 * (TABLE_PAGES + root_pages specs)
 
 -- there is room for such leaves, and no more than a device may have
 pub record IsSize (specs : List LeafSpec) (blocks : ℕ) : Type 0 where

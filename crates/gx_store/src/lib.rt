@@ -8,5 +8,5 @@ mod unopened;
 
 pub use making::make;
 pub use opening::{open, open_attached};
-pub use store::{FRAMES, Store, close};
+pub use store::{FRAMES, Store, close, smallest_device};
 pub use unopened::Unopened;

@@ -1,22 +1,32 @@
 // A database's leaves on a device, and how large the device may be.
-ghost use Rattle.std.specs.Prelude.{◌≡◌, ◌↔◌, ◌≤◌, ℕ, List, length, IsTrue};
+ghost use Rattle.std.specs.Prelude.{◌≡◌, ◌↔◌, ◌≤◌, ◌<◌, ◌^◌, ℕ, List, length, IsTrue};
 ghost use Rattle.gx_leaves.specs.Paged.{places_in, kept_of, head_of, WasWhole};
 ghost use Rattle.gx_leaves.specs.Places.{specs_of};
-ghost use Rattle.gx_store.specs.Device.{IsSize, IsHeadOf, IsSettled};
+ghost use Rattle.gx_store.specs.Device.{smallest_device, IsSize, IsHeadOf, IsSettled};
 ghost use Rattle.gx_store.specs.Store.{machine_of};
 ghost use Rattle.gx_ports.specs.declared.kinds.TheConstants.{MAX_LEAVES};
 
 use gx_device::Machine;
-use gx_layout::MAX_BLOCKS;
+use gx_layout::{HEAD_BLOCKS, MAX_BLOCKS};
 use gx_leaves::PagedLeaves;
 use gx_pages::Paged;
-use gx_ports::{LeafSpec, smallest_device};
+use gx_ports::{LeafSpec, TABLE_PAGES, root_pages};
 
 /// How many pages of a device are in memory at once.
 pub const FRAMES: u32 = 64;
 
 /// The leaves of a database on a device of a machine.
 pub type Store<M> = PagedLeaves<Paged<M>>;
+
+/// The number of blocks of the smallest device with room for at most `MAX_LEAVES` leaves: those
+/// before the pages, and two for each page of the table of owners and for each root page.
+pub fn smallest_device(specs: &[LeafSpec]) -> u32
+    requires { length specs.now ≤ MAX_LEAVES }
+    ensures value { result ≡ smallest_device specs.now }
+    ensures small { result < 2 ^ 18 }
+{
+    HEAD_BLOCKS + 2 * (TABLE_PAGES + root_pages(specs))
+}
 
 /// Whether a device of so many blocks has room for such leaves, and isn't too large.
 pub(crate) fn is_size(specs: &[LeafSpec], blocks: u32) -> bool

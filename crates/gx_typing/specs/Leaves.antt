@@ -3,7 +3,7 @@ use Rattle.gx_values.specs.Keys.{widths}
 use Rattle.gx_values.specs.declared.records.Form.{Form}
 use Rattle.gx_ports.specs.declared.kinds.LeafKind.{LeafKind}
 use Rattle.gx_ports.specs.declared.kinds.LeafSpec.{LeafSpec}
-pub use Rattle.gx_ports.specs.Roots.{roots_of, root_pages, smallest_device}
+pub use Rattle.gx_ports.specs.Roots.{roots_of, root_pages}
 use Rattle.gx_forms.specs.Fields.{first_kind}
 
 -- a leaf of the kind with the form

@@ -11,5 +11,5 @@ mod whole;
 
 pub use dues::{file_form, link_kinds};
 pub use reasons::{TypeWhy, Untyped};
-pub use typing::{Owners, Specs, Typing, root_pages, smallest_device};
+pub use typing::{Owners, Specs, Typing, root_pages};
 pub use whole::typed;

@@ -1,6 +1,6 @@
 // The leaves of an equation, and the pages that they need from the start on.
 ghost use Rattle.std.specs.Prelude.{◌≡◌, ◌≤◌, ◌<◌, ◌^◌, length};
-ghost use Rattle.gx_typing.specs.Leaves.{root_pages, smallest_device};
+ghost use Rattle.gx_typing.specs.Leaves.{root_pages};
 ghost use Rattle.gx_ports.specs.declared.kinds.TheConstants.{MAX_LEAVES};
 
 use gx_ports::LeafSpec;
@@ -47,13 +47,4 @@ pub fn root_pages(specs: &Specs) -> u32
     ensures small { result < 2 ^ 16 }
 {
     gx_ports::root_pages(&specs.0)
-}
-
-/// The number of blocks of the smallest device that has room for the leaves: 7, and two for each of
-/// the 16 pages of the owner table and for each root page.
-pub fn smallest_device(specs: &Specs) -> u32
-    requires { length specs.now ≤ MAX_LEAVES }
-    ensures { result ≡ smallest_device specs.now }
-{
-    gx_ports::smallest_device(&specs.0)
 }

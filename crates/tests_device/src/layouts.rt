@@ -5,8 +5,9 @@ use crate::databases::{EQUATION, SCHEMA, adopted, blocks_of, count, machine, mak
 use crate::refusals::is_filled;
 use crate::shelf::Shelf;
 use gx_device::Device;
-use gx_ports::Stop;
-use gx_store::{Store, Unopened, close};
+use gx_ports::{LeafKind, LeafSpec, Stop};
+use gx_store::{Store, Unopened, close, smallest_device};
+use gx_values::Kind;
 use std::alloc::Global;
 use std::process::Abort;
 use std::test::Fail;
@@ -181,6 +182,25 @@ fn the_smallest_device_fills(rt: &impl Abort, alloc: Global, frames: u32) -> Res
 fn the_smallest_device_fills_by_eight_frames_and_by_more(rt: HostRuntime) -> Result<(), Fail> {
     the_smallest_device_fills(&rt, rt.alloc(), 8)?;
     the_smallest_device_fills(&rt, rt.alloc(), 64)
+}
+
+const HEAP: LeafSpec = LeafSpec {
+    kind: LeafKind::Heap,
+    first: Kind::Int,
+    key_width: 8,
+};
+
+const HASHED: LeafSpec = LeafSpec {
+    kind: LeafKind::Hash(64),
+    first: Kind::Int,
+    key_width: 8,
+};
+
+// The 7 blocks before the pages, and two for each of the 16 pages of the table and of 65 root pages.
+#[test]
+fn the_smallest_device_counts_root_pages(rt: HostRuntime) -> Result<(), Fail> {
+    assert!(rt; smallest_device(&[HEAP, HASHED]) == 169);
+    Ok(())
 }
 
 // Whether no device of so many blocks is made.

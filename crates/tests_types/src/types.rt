@@ -11,7 +11,7 @@ use gx_actual::actual;
 use gx_mapping::Mapping;
 use gx_stack::Node;
 use gx_types::{AnyMapping, Built, LinkTree};
-use gx_typing::{TypeWhy, Typing, Untyped, root_pages, smallest_device};
+use gx_typing::{TypeWhy, Typing, Untyped, root_pages};
 use gx_values::{Field, Fields, Form, Kind, Name, NoMemory, Rec, Value, Values};
 use std::alloc::Global;
 use std::process::Abort;
@@ -241,7 +241,6 @@ fn counts_pages(rt: HostRuntime) -> Result<(), Fail> {
         b"f = partition(k 1, heap, hash(64))",
     )?;
     assert!(rt; root_pages(&typing.specs) == 65);
-    assert!(rt; smallest_device(&typing.specs) == 169);
     Ok(())
 }
 
