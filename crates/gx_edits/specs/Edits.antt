@@ -12,8 +12,8 @@ use Rattle.gx_ports.specs.Calls.{Keeps, Ends}
 use Rattle.gx_types.specs.declared.built.Built.{Built}
 use Rattle.gx_model.specs.States.{State}
 use Rattle.gx_model.specs.Commands.{next_state, refusal_text, is_linked, refusal_of}
-use Rattle.gx_pairs.specs.declared.refused.Refused.{Refused}
-use Rattle.gx_pairs.specs.Changes.{refusal_for}
+pub use Rattle.gx_pairs.specs.declared.refused.Refused.{Refused}
+pub use Rattle.gx_pairs.specs.Changes.{refusal_for}
 use Rattle.std.specs.Option.{option_map}
 use Rattle.gx_states.specs.Internal.{AreInternal, HaveState, state_entries}
 

@@ -24,8 +24,7 @@ use Rattle.gx_stack.specs.Tree.{Tree}
 use Rattle.gx_types.specs.declared.any.AnyMapping.{AnyMapping}
 use Rattle.gx_types.specs.declared.built.Built.{Built}
 use Rattle.gx_types.specs.Nodes.{tree_at}
-use Rattle.gx_pairs.specs.declared.refused.Refused.{Refused}
-use Rattle.gx_pairs.specs.Changes.{refusal_for}
+use Rattle.gx_edits.specs.Edits.{Refused, refusal_for}
 use Rattle.gx_model.specs.States.{File, State, Row, file_in}
 use Rattle.gx_model.specs.Found.{IsListed, is_chosen, meets_conds, meets_of}
 use Rattle.gx_model.specs.Commands.{Refusal, no_record, next_state, refusal_of, first_refusal, IsAnswerOr, IsListText, lacks_of}

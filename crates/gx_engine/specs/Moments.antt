@@ -7,7 +7,7 @@ use Rattle.gx_commands.specs.declared.command.Command.TheVariants as command
 use Rattle.gx_types.specs.declared.built.Built.{Built}
 use Rattle.gx_model.specs.Commands.{refusal_of}
 use Rattle.gx_model.specs.Play.{Playing, seen_state, is_inside, after_command, IsAnswered}
-use Rattle.gx_states.specs.Internal.{AreInternal}
+pub use Rattle.gx_states.specs.Internal.{AreInternal}
 use Rattle.gx_edits.specs.Edits.{may_bring}
 
 -- what the engine has stands for a moment of the play

@@ -21,7 +21,7 @@ use Rattle.gx_model.specs.Play.{Playing, seen_state, after_command}
 use Rattle.gx_engine.specs.declared.engine.Engine.{Engine}
 use Rattle.gx_engine.specs.declared.engine.StepStop.{StepStop}
 use Rattle.gx_engine.specs.declared.engine.StepStop.TheVariants.{Now, Stopped}
-use Rattle.gx_states.specs.Internal.{AreFor, state_entries}
+pub use Rattle.gx_states.specs.Internal.{AreFor, state_entries}
 use Rattle.gx_answers.specs.Work.{IsBounded}
 use Rattle.gx_engine.specs.Moments.{Stands, IsCarried, MayWantRoom}
 

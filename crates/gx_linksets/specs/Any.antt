@@ -9,8 +9,11 @@ use Rattle.gx_links.specs.Rows.{IsHeldLink, two_nodes}
 use Rattle.gx_lists.specs.Arrays.{one_node, array_rows, array_rule, IsArray}
 use Rattle.gx_lists.specs.Inverted.{inverted_rows, inverted_rule, IsInverted}
 use Rattle.gx_lists.specs.ArrayLaws.{array_laws}
+pub use Rattle.gx_lists.specs.ArrayLaws.{array_row_laws}
 use Rattle.gx_lists.specs.InvertedLaws.{inverted_laws}
+pub use Rattle.gx_lists.specs.InvertedLaws.{inverted_row_laws}
 use Rattle.gx_ring.specs.RingLaws.{ring_laws}
+pub use Rattle.gx_ring.specs.RingLaws.{ring_row_laws}
 use Rattle.gx_ring.specs.Ring.{ring_rows, ring_rule, IsRing}
 use Rattle.gx_linksets.specs.declared.any.AnyLinkset.{AnyLinkset}
 use Rattle.gx_linksets.specs.declared.any.AnyLinkset.TheVariants.{Array, Ring, Inverted}

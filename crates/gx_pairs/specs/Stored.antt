@@ -8,7 +8,7 @@ use Rattle.gx_ports.specs.LeafMaps.{LeafMap, map_at}
 use Rattle.gx_mapping.specs.Rule.{In}
 use Rattle.gx_stack.specs.Tree.{Tree, leaves_of}
 use Rattle.gx_stack.specs.Seen.{tree_of}
-use Rattle.gx_types.specs.declared.any.AnyMapping.{AnyMapping}
+use Rattle.gx_scan.specs.Files.{AnyMapping}
 use Rattle.gx_model.specs.States.{File}
 use Rattle.gx_scan.specs.Files.{IsInternal, IsStorable, IsTreeFor}
 use Rattle.gx_links.specs.Links.{Link, members_of, IsLink}

@@ -7,10 +7,9 @@ ghost use Rattle.gx_pairs.specs.Stored.{file_of, IsStoredFile};
 ghost use Rattle.gx_pairs.specs.Search.{LooksInFile};
 
 use gx_ports::{Leaves, Stop};
-use gx_scan::find_values;
+use gx_scan::{AnyMapping, find_values};
 use gx_schema::FileDef;
 use gx_stack::Node;
-use gx_types::AnyMapping;
 use gx_values::Value;
 use std::alloc::Global;
 

@@ -7,7 +7,7 @@ use Rattle.gx_types.specs.declared.built.Built.{Built}
 use Rattle.gx_model.specs.States.{State}
 use Rattle.gx_model.specs.Play.{start_at}
 use Rattle.gx_engine.specs.declared.engine.Engine.{Engine}
-use Rattle.gx_states.specs.Internal.{AreInternal}
+use Rattle.gx_engine.specs.Moments.{AreInternal}
 use Rattle.gx_engine.specs.Steps.{StandsFor, IsAt, leaves_of}
 use Rattle.gx_play.specs.Plays.{IsHolding, KeepsState}
 

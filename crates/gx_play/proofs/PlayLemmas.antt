@@ -20,7 +20,7 @@ use Rattle.gx_model.specs.Play.{Playing, End, stopped, end_at, is_inside, after_
 use Rattle.gx_model.specs.Runs.{Step, Runs, IsBadLine, IsEnd, AreFirstLines}
 use Rattle.gx_model.proofs.RunLemmas.{run_on}
 use Rattle.gx_engine.specs.declared.engine.Engine.{Engine}
-use Rattle.gx_states.specs.Internal.{AreInternal}
+use Rattle.gx_engine.specs.Moments.{AreInternal}
 use Rattle.gx_engine.specs.Steps.{schema_of, built_of, leaves_of, is_open, is_commit, IsReady, IsAt}
 use Rattle.gx_ports.specs.declared.stop.Stop.TheVariants as stop
 use Rattle.gx_play.specs.declared.play.PlayEnd.{PlayEnd}

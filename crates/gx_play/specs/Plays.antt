@@ -21,9 +21,10 @@ use Rattle.gx_model.specs.States.{State}
 use Rattle.gx_model.specs.Play.{Playing, End, good, stopped, is_inside, after_command, start_at, IsAnswered}
 use Rattle.gx_types.specs.declared.built.Built.{Built}
 use Rattle.gx_model.specs.Runs.{Runs, IsBadLine, IsPlayFrom}
-use Rattle.gx_engine.specs.declared.engine.Engine.{Engine}
-use Rattle.gx_states.specs.Internal.{AreInternal}
-use Rattle.gx_engine.specs.Steps.{IsAt, IsReady, IsShortFor, is_commit, schema_of, built_of, leaves_of}
+pub use Rattle.gx_engine.specs.declared.engine.Engine.{Engine}
+use Rattle.gx_engine.specs.Moments.{AreInternal}
+pub use Rattle.gx_engine.specs.Steps.{AreFor, IsAt, IsReady, schema_of, built_of, stop_of, leaves_of}
+use Rattle.gx_engine.specs.Steps.{IsShortFor, is_commit}
 use Rattle.gx_play.specs.declared.ending.Ending.{Ending}
 use Rattle.gx_play.specs.declared.ending.Ending.TheVariants as ending
 use Rattle.gx_play.specs.Endings.{ending_of}

@@ -12,6 +12,7 @@ mod status;
 mod summary;
 
 pub use ending::{DeviceWhy, Ending, end};
+pub use gx_engine::Engine;
 pub use hearing::hear_all;
 pub use lines::{next_line, placed_command};
 pub use over_leaves::play_over;

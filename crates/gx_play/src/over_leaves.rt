@@ -2,7 +2,7 @@
 ghost use Rattle.std.specs.Prelude.{◌≡◌, [], Ok, length, IsTrue, IfErr};
 ghost use Rattle.gx_schema.specs.WellFormed.{IsWellFormed};
 ghost use Rattle.gx_model.specs.States.{State};
-ghost use Rattle.gx_states.specs.Internal.{AreFor};
+ghost use Rattle.gx_engine.specs.Steps.{AreFor};
 ghost use Rattle.gx_play.specs.Endings.{IsPlayEnding, CountsFault};
 ghost use Rattle.gx_play.specs.Plays.{IsHolding, KeepsState, KeepsOver, IsPlayedAs, IsEndingOf};
 

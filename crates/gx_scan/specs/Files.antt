@@ -11,7 +11,7 @@ use Rattle.gx_values.specs.declared.bytes.TheConstants.{MAX_KEY_LEN}
 use Rattle.gx_mapping.specs.Rule.{In}
 use Rattle.gx_stack.specs.Tree.{Tree, leaves_of, tree_form, IsValid}
 use Rattle.gx_stack.specs.Internal.{IsInternal as IsHeld}
-use Rattle.gx_types.specs.declared.any.AnyMapping.{AnyMapping}
+pub use Rattle.gx_types.specs.declared.any.AnyMapping.{AnyMapping}
 use Rattle.gx_types.specs.Any.{any_rule}
 use Rattle.gx_typing.specs.Dues.{file_form}
 use Rattle.gx_model.specs.States.{File, Row, HasRowsOf}

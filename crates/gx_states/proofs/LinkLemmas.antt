@@ -39,9 +39,7 @@ use Rattle.gx_links.specs.Linksets.{LinksetLaws}
 use Rattle.gx_links.specs.Rows.{two_forms, link_rule, IsHeldLink}
 use Rattle.gx_links.proofs.MemberLemmas.{pair_in}
 use Rattle.gx_links.proofs.RowLemmas.{linkset_laws}
-use Rattle.gx_lists.specs.ArrayLaws.{array_row_laws}
-use Rattle.gx_lists.specs.InvertedLaws.{inverted_row_laws}
-use Rattle.gx_ring.specs.RingLaws.{ring_row_laws}
+use Rattle.gx_linksets.specs.Any.{array_row_laws, inverted_row_laws, ring_row_laws}
 use Rattle.gx_linksets.specs.Stored.{IsStorableLink, rows_of, rounds_of, finds_owner, rule_at, IsHeldAt}
 use Rattle.gx_model.specs.States.{File, State, file_in, link_in, HasRowsOf, IsLinkOf, IsValid, IsRowOf}
 use Rattle.gx_scan.specs.Files.{IsInternal}

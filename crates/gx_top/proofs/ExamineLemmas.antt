@@ -9,7 +9,7 @@ use Rattle.gx_schema.specs.Printing.{schema_text}
 use Rattle.gx_equation.specs.Printing.{equation_text}
 use Rattle.gx_model.specs.States.{State}
 use Rattle.gx_states.specs.Internal.{AreInternal}
-use Rattle.gx_audit.specs.Texts.{inspect_text}
+use Rattle.gx_operations.specs.Examined.{inspect_text}
 use Rattle.gx_store.specs.Device.{Reopens, IsSettled, ReadAlike}
 use Rattle.gx_store.specs.Opening.{AreOpened, IsUnopened}
 use Rattle.gx_store.specs.Store.{Attaches, OfBlocks}

@@ -8,7 +8,7 @@ use Rattle.gx_equation.specs.Trees.{DefinitionTree}
 use Rattle.gx_equation.specs.Printing.{equation_text}
 use Rattle.gx_typing.specs.declared.typing.Typing.{Typing}
 use Rattle.gx_model.specs.States.{State}
-use Rattle.gx_audit.specs.Texts.{inspect_text}
+use Rattle.gx_operations.specs.Examined.{inspect_text}
 use Rattle.gx_store.specs.Device.{ReadAlike, Reopens}
 use Rattle.gx_store.specs.Store.{OfBlocks}
 use Rattle.gx_play.specs.declared.ending.DeviceWhy.{DeviceWhy}

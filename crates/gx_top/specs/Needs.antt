@@ -9,7 +9,7 @@ use Rattle.gx_types.specs.declared.built.Built.{Built}
 use Rattle.gx_model.specs.States.{State}
 use Rattle.gx_model.specs.Play.{seen_state, is_inside, after_command}
 use Rattle.gx_states.specs.Internal.{state_entries}
-use Rattle.gx_engine.specs.Moments.{MayWantRoom}
+use Rattle.gx_play.specs.Played.{MayWantRoom}
 use Rattle.gx_play.specs.Played.{AreFirst}
 
 -- the pages that are enough for a command between these two states

@@ -6,7 +6,7 @@ use Rattle.gx_values.specs.declared.values.Kind.{Kind}
 use Rattle.gx_values.specs.declared.records.Field.{Field}
 use Rattle.gx_values.specs.declared.records.Form.{Form}
 use Rattle.gx_mapping.specs.Rule.{Rule, In}
-use Rattle.gx_gather.proofs.Lists.{in_cases, in_left, in_right}
+use Rattle.gx_laws.proofs.MemberLemmas.{in_cases, in_left, in_right}
 use Rattle.gx_equation.specs.declared.heads.Head.{Head}
 use Rattle.gx_equation.specs.declared.heads.Head.TheVariants as heads
 use Rattle.gx_equation.specs.Trees.{TermTree, Trees, head_of, node, none, kid}

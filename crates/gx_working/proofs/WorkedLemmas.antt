@@ -15,8 +15,8 @@ use Rattle.gx_model.specs.States.{State}
 use Rattle.gx_model.specs.Play.{Playing, End, good, stopped, start_at, is_inside}
 use Rattle.gx_model.specs.Runs.{Runs, IsPlayFrom}
 use Rattle.gx_model.proofs.RunLemmas.{run_on}
-use Rattle.gx_engine.specs.declared.engine.Engine.{Engine}
-use Rattle.gx_engine.specs.Steps.{IsAt, schema_of, built_of, leaves_of}
+use Rattle.gx_play.specs.Plays.{Engine}
+use Rattle.gx_play.specs.Plays.{IsAt, schema_of, built_of, leaves_of}
 use Rattle.gx_play.specs.declared.play.PlayEnd.{PlayEnd}
 use Rattle.gx_play.specs.declared.play.PlayEnd.TheVariants as play_end
 use Rattle.gx_play.specs.Endings.{ending_of}

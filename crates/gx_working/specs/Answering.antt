@@ -3,7 +3,7 @@ use Rattle.std.specs.Prelude.{List, ℕ, [], Result, Ok, Err}
 use Rattle.gx_commands.specs.Lines.{Lines}
 use Rattle.gx_ports.specs.declared.view.View.{Ghosts}
 use Rattle.gx_model.specs.Play.{Playing}
-use Rattle.gx_engine.specs.declared.engine.Engine.{Engine}
+use Rattle.gx_play.specs.Plays.{Engine}
 use Rattle.gx_play.specs.declared.play.PlayEnd.{PlayEnd}
 use Rattle.gx_play.specs.declared.play.Answers.TheVariants as answers
 use Rattle.gx_play.specs.Answering.{beside, with_answers}

@@ -1,6 +1,6 @@
 use Rattle.std.proofs.Common.{sym, subst}
 use Rattle.gx_model.specs.Play.{start_at}
-use Rattle.gx_engine.specs.Steps.{IsAt}
+use Rattle.gx_play.specs.Plays.{IsAt}
 use Rattle.gx_working.proofs.DoneLemmas.{worked_over}
 use Rattle.gx_working.proofs.working.play_work.Goals as goal
 

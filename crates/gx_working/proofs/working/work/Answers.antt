@@ -1,6 +1,6 @@
 use Rattle.std.proofs.Common.{◌≡◌, List, ℕ, ◌+◌, ◌/◌, ◌∷◌, [], ◌++◌, Err, refl, sym, ap, subst, ◌∙◌, append-nil, arith}
 use Rattle.gx_ports.specs.declared.stop.Stop.TheVariants as stop
-use Rattle.gx_engine.specs.Steps.{built_of, leaves_of}
+use Rattle.gx_play.specs.Plays.{built_of, leaves_of}
 use Rattle.gx_model.specs.Play.{start_at, seen_state}
 use Rattle.gx_play.specs.declared.ending.Ending.TheVariants as ending
 use Rattle.gx_play.specs.Endings.{ending_of}
