@@ -11,7 +11,7 @@ use Rattle.gx_ring.specs.declared.records.Behind.{Behind}
 use Rattle.gx_ring.specs.declared.records.Behind.TheVariants as found
 use Rattle.gx_ring.specs.Ring.{chain_rec}
 
--- a value that can be copied, and whose bytes a key has room for
+-- a value whose int has 64 bits, and whose bytes a key has room for
 abbrev pub IsKeyValue : Value → Type 0
 IsKeyValue v = IsSized v × (length (bytes_of v) ≤ MAX_KEY_LEN)
 
