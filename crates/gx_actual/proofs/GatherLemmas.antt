@@ -24,7 +24,10 @@ gathered form key copy fields body part ps req is one read copied =
     let fields_same = ap (λ (b : List ℕ). value.Bytes b ∷ []) read.1 ∙ sym one in (
       record { key = subst (AreFit form.keys) (sym copied) req.key_fits; fields = read.0 },
       copied,
-      (λ i. record { child = sym first i; rec = record { key = (copied ∙ sym under) i; fields = fields_same i } } ∷ []) ∙ sym is,
+      (λ i. record {
+        child = sym first i;
+        rec = record { key = (copied ∙ sym under) i; fields = fields_same i };
+      } ∷ []) ∙ sym is,
     )
 
 -- the one part of a record with this key
@@ -35,6 +38,9 @@ the_part form key part req =
     let first : part.child ≡ 0 = omega (arith, of.child) in
     let under : part.rec.key ≡ key =
     whole_key form.keys key part.rec.key req.key_fits of.fits.key of.under in
-    λ i. record { child = sym first i; rec = record { key = sym under i; fields = part.rec.fields } }
+    λ i. record {
+      child = sym first i;
+      rec = record { key = sym under i; fields = part.rec.fields };
+    }
 
 -- lists of one item

@@ -35,8 +35,12 @@ pub body_width : (fs : List Field) (vs : List Value) → AreFit fs vs
     → length (body_of vs) ≤ field_widths fs
 body_width [] [] h = omega arith
 body_width (f ∷ fs) (v ∷ vs) h =
-    omega
-    (arith, length-append (field_bytes v) (body_of vs), value_width f.kind v h.0, body_width fs vs h.1)
+    omega (
+      arith,
+      length-append (field_bytes v) (body_of vs),
+      value_width f.kind v h.0,
+      body_width fs vs h.1,
+    )
 body_width [] (v ∷ vs) h = absurd h
 body_width (f ∷ fs) [] h = absurd h
 
@@ -61,8 +65,13 @@ same_rec form r s short f g e =
 pub actual_laws : (form : Form) → AreShort form.fields → MappingLaws (actual_rule form)
 actual_laws form short = record {
   fit = λ r p is there. subst (λ (q : Part). (q.child < 1)
-      × IsOf (actual_form form) q.rec) (sym (the_one p (actual_part r) there))
-      (omega arith, record { key = is.key; fields = (body_width form.fields r.fields is.fields, tt) });
+      × IsOf (actual_form form) q.rec) (sym (the_one p (actual_part r) there)) (
+        omega arith,
+        record {
+          key = is.key;
+          fields = (body_width form.fields r.fields is.fields, tt);
+        },
+      );
   in_order = λ r is. sorted_one (actual_part r);
   apart = λ r s p q is_r is_s i j child key.
       ap (λ (x : Part). x.rec.key) (sym (the_one p (actual_part r) i)) ∙ key ∙ ap

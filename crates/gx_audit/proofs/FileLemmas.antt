@@ -51,8 +51,11 @@ module _ (file : FileDef) (keyed : 0 < length file.fields) where
 
   row_fits : (r : Rec) → IsOf (file_form file) r → IsRowOf file (row_of r)
   row_fits r fits =
-      let one = key_of_form file.fields r.key keyed fits.key in
-      (subst (Fits (key_kind file)) (ap (λ (ks : List Value). get_or ks 0 none) (sym one.1)) one.2, fits.fields)
+      let one = key_of_form file.fields r.key keyed fits.key in (
+        subst (Fits (key_kind file)) (ap (λ (ks : List Value). get_or ks 0 none) (sym one.1))
+            one.2,
+        fits.fields,
+      )
 
   all_again : (rs : List Rec) → ((r : Rec) → In r rs → IsOf (file_form file) r)
       → map rec_of (map row_of rs) ≡ rs
@@ -113,4 +116,9 @@ module _ (file : FileDef) (keyed : 0 < length file.fields) (t : Tree AnyMapping)
 
   pub no_keys : IsHeld any_rule t whole maps None → AreKeys file t whole maps None
   no_keys held =
-      λ w has. held w (file_records has.0, subst (λ x. IsSet x (file_records has.0)) (sym form) (set_of file has.0 keyed has.1.fit), has.1.held)
+      λ w has. held w (
+        file_records has.0,
+        subst (λ x. IsSet x (file_records has.0)) (sym form)
+            (set_of file has.0 keyed has.1.fit),
+        has.1.held,
+      )

@@ -81,7 +81,10 @@ module _ (schema : Schema) (built : Built) (leaves : ℕ) (maps : List LeafMap)
     (for : AreFor schema built leaves) where
   files_are : (s : State) → AreInternal schema built maps s
       → AreFiles schema built.files maps s.files
-  files_are s are = record { many = are.valid.files_many; each = λ i lt. file_is schema built maps s i are lt }
+  files_are s are = record {
+    many = are.valid.files_many;
+    each = λ i lt. file_is schema built maps s i are lt;
+  }
 
   links_are : (s : State) → AreInternal schema built maps s
       → AreLinks schema built maps s.files s.links
@@ -89,7 +92,10 @@ module _ (schema : Schema) (built : Built) (leaves : ℕ) (maps : List LeafMap)
     many = are.valid.links_many;
     each =
         λ i lt. let v = are.valid.links i lt in
-        record { valid = record { members = v.members; owners = v.owners; few = v.few }; held = are.links i lt };
+        record {
+          valid = record { members = v.members; owners = v.owners; few = v.few };
+          held = are.links i lt;
+        };
   }
 
   -- the leaves tell the keys of each file

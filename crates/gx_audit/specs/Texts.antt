@@ -31,10 +31,12 @@ leaf_text i name k entries =
     ++ codes " entries " ++ decimal entries ++ codes "\n"
 
 abbrev pub file_count_text : List ℕ → ℕ → List ℕ
-file_count_text name records = codes "file " ++ name ++ codes " records " ++ decimal records ++ codes "\n"
+file_count_text name records = codes "file " ++ name ++ codes " records " ++ decimal records
+    ++ codes "\n"
 
 abbrev pub link_count_text : List ℕ → ℕ → List ℕ
-link_count_text name members = codes "link " ++ name ++ codes " members " ++ decimal members ++ codes "\n"
+link_count_text name members = codes "link " ++ name ++ codes " members " ++ decimal members
+    ++ codes "\n"
 
 -- the lines of the leaf, the file and the link with a number
 abbrev pub leaf_line : Schema → List LeafSpec → List ℕ → List LeafMap → ℕ → List ℕ

@@ -54,8 +54,15 @@ sides branches place d fit below full most before across =
     ] in
     let last : place + 1 < length branches = elim (cases_lt (place + 1) (length branches)) [
       | inl some ↦ some
-      | inr none ↦ absurd (omega
-          (arith, more, short, before, full, ap (sum_by branch_len) (take_all (place + 1) branches none)))
+      | inr none ↦ absurd (omega (
+        arith,
+        more,
+        short,
+        before,
+        full,
+        ap (sum_by branch_len)
+            (take_all (place + 1) branches none),
+      ))
     ] in
     (first, last, omega (arith, whole, across, most))
 

@@ -21,8 +21,8 @@ use gx_order::is_below;
 /// The byte that an inner page begins with.
 pub const KIND: u8 = 0x49;
 
-/// Makes an inner page of one separator, of at most `MAX_SEPARATOR_LEN` bytes, between two children.
-/// The page has 4,096 bytes, of any values.
+/// Makes an inner page of one separator, of at most `MAX_SEPARATOR_LEN` bytes, between two
+/// children. The page has 4,096 bytes, of any values.
 pub fn make_inner(page: &mut [u8], left: u32, key: &[u8], right: u32)
     requires size { length page.old ≡ PAGE_LEN }
     requires short { length key.now ≤ MAX_SEPARATOR_LEN }

@@ -284,7 +284,10 @@ module _ (ground : Ground) (owner root at child steps : ℕ) (key : List ℕ) (t
                 least past size top_is kid_is.mine
                 kid_is.other;
           };
-          bytes_are = elim case [ inl l ↦ ap (bytes_at b) l.1 ∙ here ∙ sym l.2 | inr r ↦ ap (bytes_at b) r.1 ∙ new_fresh ∙ sym r.2 ];
+          bytes_are = elim case [
+            | inl l ↦ ap (bytes_at b) l.1 ∙ here ∙ sym l.2
+            | inr r ↦ ap (bytes_at b) r.1 ∙ new_fresh ∙ sym r.2
+          ];
           others = divided_others ground owner at child page key separator left right a b fresh d
               least past size top_is kid_is.mine
               kid_is.other;
@@ -503,7 +506,11 @@ module _ (ground : Ground) (owner root : ℕ) (key : List ℕ) (tree : BplusTree
   root_come = record {
     steps = 0;
     many = omega arith;
-    search = record { hand = at_root (bytes_at a) (IsOwned owner a) root key tree held.whole held.owns; past = held.past };
+    search = record {
+      hand = at_root (bytes_at a) (IsOwned owner a) root key tree held.whole
+          held.owns;
+      past = held.past;
+    };
     bytes_are = held.bytes_are;
     others = others_itself ground owner a;
   }
@@ -559,7 +566,10 @@ module _ (ground : Ground) (owner root : ℕ) (key : List ℕ) (tree : BplusTree
           past = raised_past ground owner root separator left right a b first second r held.least
               held.past size root_owned;
         };
-        bytes_are = elim case [ inl l ↦ ap (bytes_at b) l.1 ∙ one ∙ sym l.2 | inr l ↦ ap (bytes_at b) l.1 ∙ two ∙ sym l.2 ];
+        bytes_are = elim case [
+          | inl l ↦ ap (bytes_at b) l.1 ∙ one ∙ sym l.2
+          | inr l ↦ ap (bytes_at b) l.1 ∙ two ∙ sym l.2
+        ];
         others = raised_others ground owner root separator left right a b first second r held.least
             held.past size root_owned;
       }

@@ -93,7 +93,13 @@ cut_kids at (more t m kids) (b ∷ l) s c r e stand ordered apart =
       right_are = h.right_are;
       stand_left = (stand.0, h.stand_left);
       stand_right = h.stand_right;
-      ordered_left = (ordered.0, ordered.1, ordered.2, (λ x i. ordered.3 x ((h.entries_are x).1 (inl i))), h.ordered_left);
+      ordered_left = (
+        ordered.0,
+        ordered.1,
+        ordered.2,
+        (λ x i. ordered.3 x ((h.entries_are x).1 (inl i))),
+        h.ordered_left,
+      );
       ordered_right = h.ordered_right;
       apart_left = (apart.0, (λ q i j. apart.1 q i ((h.pages_are q).1 (inl j))), h.apart_left);
       apart_right = h.apart_right;
@@ -157,8 +163,16 @@ halves at new kids l s c r a fresh e stand ordered apart a_out fresh_out other s
       r = node fresh h.right;
       l_page = refl;
       r_page = refl;
-      l_stands = (l_shows, all_stand_same at new h.left (λ q i. same q ((h.pages_are q).1 (inl i))) h.stand_left);
-      r_stands = (r_shows, all_stand_same at new h.right (λ q i. same q ((h.pages_are q).1 (inr i))) h.stand_right);
+      l_stands = (
+        l_shows,
+        all_stand_same at new h.left
+            (λ q i. same q ((h.pages_are q).1 (inl i))) h.stand_left,
+      );
+      r_stands = (
+        r_shows,
+        all_stand_same at new h.right
+            (λ q i. same q ((h.pages_are q).1 (inr i))) h.stand_right,
+      );
       l_ordered = h.ordered_left;
       r_ordered = h.ordered_right;
       l_apart = ((λ i. a_out ((h.pages_are a).1 (inl i))), h.apart_left);

@@ -33,8 +33,14 @@ inserted [] (suc i) e x = ((λ h. h), (λ h. h))
 inserted (y ∷ ys) zero e x = ((λ h. h), (λ h. h))
 inserted (y ∷ ys) (suc i) e x =
     let h = inserted ys i e x in (
-      λ j. elim j [ inl s ↦ inr (inl s) | inr k ↦ elim (h.0 k) [ inl s ↦ inl s | inr l ↦ inr (inr l) ] ],
-      λ j. elim j [ inl s ↦ inr (h.1 (inl s)) | inr k ↦ elim k [ inl s ↦ inl s | inr l ↦ inr (h.1 (inr l)) ] ],
+      λ j. elim j [
+        | inl s ↦ inr (inl s)
+        | inr k ↦ elim (h.0 k) [ inl s ↦ inl s | inr l ↦ inr (inr l) ]
+      ],
+      λ j. elim j [
+        | inl s ↦ inr (h.1 (inl s))
+        | inr k ↦ elim k [ inl s ↦ inl s | inr l ↦ inr (h.1 (inr l)) ]
+      ],
     )
 
 pub insert_up : (es : List Entry) (i : ℕ) (e : Entry) → Ascending es
@@ -170,7 +176,13 @@ middle_is es m d fit below across most =
       elim (cases_lt 0 m) [
         | inl some ↦ some
         | inr none ↦
-            absurd (omega (arith, more, short, across, ap (λ n. sum_by entry_len (take n es)) (let n : m ≡ 0 = omega (arith, none) in n)))
+            absurd (omega (
+              arith,
+              more,
+              short,
+              across,
+              ap (λ n. sum_by entry_len (take n es)) (let n : m ≡ 0 = omega (arith, none) in n),
+            ))
       ],
       omega (arith, more, short, across, most, whole),
     )
@@ -241,8 +253,14 @@ spread_over old left right e i separator shown left_is left_next right_is right_
     (insert_up (entries_of old) i e (entries_up old shown) before behind other) other some more at
     in
     record {
-      left_shown = (record { page = left_is; ascending = ascending_from (entries_of left) p.left_up }, left_next);
-      right_shown = (record { page = right_is; ascending = ascending_from (entries_of right) p.right_up }, right_next);
+      left_shown = (
+        record { page = left_is; ascending = ascending_from (entries_of left) p.left_up },
+        left_next,
+      );
+      right_shown = (
+        record { page = right_is; ascending = ascending_from (entries_of right) p.right_up },
+        right_next,
+      );
       spread = p.spread;
     }
 

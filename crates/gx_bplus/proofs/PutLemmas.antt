@@ -63,7 +63,10 @@ added at new owned now root p e old es fs was is up put elsewhere now_is h =
       ordered = up ascending;
       apart = tt;
       bounds = λ x i. elim ((puts x).0 i) [
-        | inl d ↦ (subst (λ y. IsUpTo h.lo y.key) (sym d) h.from, subst (λ (y : Entry). IsUnder y.key h.hi) (sym d) h.to)
+        | inl d ↦ (
+          subst (λ y. IsUpTo h.lo y.key) (sym d) h.from,
+          subst (λ (y : Entry). IsUnder y.key h.hi) (sym d) h.to,
+        )
         | inr d ↦ h.fits.bounds x (subst (In x) (sym entries_is) d.0)
       ];
       alone = λ q i j. elim i [ inl d ↦ not_p q j d | inr n ↦ absurd n ];
@@ -87,7 +90,8 @@ added at new owned now root p e old es fs was is up put elsewhere now_is h =
           (subst (λ xs. IsPutIn e xs fs) (sym entries_is) puts) w.entries_are;
     }
 
--- The child on the way gave place to two trees, with a separator between: what stands at the page now.
+-- The child on the way gave place to two trees, with a separator between: what stands at the page
+-- now.
 pub record IsParted {steps : ℕ} (at new : ℕ → List ℕ) (owned : ℕ
     → Type 0) (root p : ℕ) (key : List ℕ) (old : BplusTree) (first : ℕ)
     (branches : List Branch) (h : IsAtHand at owned root p key old steps)
@@ -169,7 +173,10 @@ parted at new owned root p key old first branches h n l r s fresh free r_page el
         page_is = refl;
         stands = (shows, w.stand);
         ordered = w.ordered;
-        apart = ((λ i. elim (pages_from p i) [ inl e ↦ not_fresh p n.top_owned e | inr d ↦ n.out d ]), w.apart);
+        apart = (
+          (λ i. elim (pages_from p i) [ inl e ↦ not_fresh p n.top_owned e | inr d ↦ n.out d ]),
+          w.apart,
+        );
         bounds = λ x i. elim ((w.entries_are x).0 i) [
           | inl a ↦ (let b : IsUpTo k.low x.key × IsUnder x.key k.high =
               elim (in_cases x (entries l) (entries r) a) [
@@ -196,7 +203,10 @@ parted at new owned root p key old first branches h n l r s fresh free r_page el
         | inr j ↦ inr
             ((w.pages_are q).1
             (elim j [
-              | inl a ↦ inl (elim a [ inl d ↦ in_left q (pages l) (pages r) d | inr d ↦ in_right q (pages l) (pages r) d ])
+              | inl a ↦ inl (elim a [
+                | inl d ↦ in_left q (pages l) (pages r) d
+                | inr d ↦ in_right q (pages l) (pages r) d
+              ])
               | inr b ↦ inr b
             ]))
       ];
@@ -326,7 +336,10 @@ split at new owned now root p key old first branches f bs ls s c rs fresh cut at
         (λ i. (now_is q).1 (elim i [
           | inl a ↦ elim (w.pages_to q a) [
             | inl e ↦ inr (subst owned (sym e) n.top_owned)
-            | inr b ↦ elim b [ inl d ↦ halves_owned q d | inr d ↦ inr (n.kids_owned q (n.in_others q d)) ]
+            | inr b ↦ elim b [
+              | inl d ↦ halves_owned q d
+              | inr d ↦ inr (n.kids_owned q (n.in_others q d))
+            ]
           ]
           | inr b ↦ inr ((h.owns q).1 (inr b))
         ])),

@@ -109,7 +109,10 @@ drop_sheets ground owner root at child key tree steps page below page' i a b c s
           (λ q. (
             (λ o. let f = (owners q).0 o in
                 ((written_owned at page' a b written owner q).0 f.0, λ e. f.1 (e ∙ sym way))),
-            (λ o. (owners q).1 ((written_owned at page' a b written owner q).1 o.0, λ e. o.1 (e ∙ way))),
+            (λ o. (owners q).1 (
+              (written_owned at page' a b written owner q).1 o.0,
+              λ e. o.1 (e ∙ way),
+            )),
           )) h;
       past = λ q o. reached.search.past q
           ((written_owned at page' a b written owner q).0 ((owners q).0 o).0);
@@ -348,10 +351,14 @@ pub other_is : (first : ℕ) (bs : List Branch) (key : List ℕ) (i : ℕ) → I
     → (i ≡ 0 → get_or (first ∷ map (λ b. b.child) bs) 1 0 ≡ first_without first bs key)
     × ((i ≡ 0 → ⊥) → first ≡ first_without first bs key)
 other_is first [] key i at one = absurd (omega (arith, one))
-other_is first (b ∷ bs) key zero at one =
-    ((λ _. sym (cond-true (is_below key b.separator) b.child first (first_behind b bs key at))), λ d. absurd (d refl))
-other_is first (b ∷ bs) key (suc i) at one =
-    ((λ e. absurd (omega (arith, e))), λ _. sym (cond-false (is_below key b.separator) b.child first (first_before b bs key i at)))
+other_is first (b ∷ bs) key zero at one = (
+  (λ _. sym (cond-true (is_below key b.separator) b.child first (first_behind b bs key at))),
+  λ d. absurd (d refl),
+)
+other_is first (b ∷ bs) key (suc i) at one = (
+  (λ e. absurd (omega (arith, e))),
+  λ _. sym (cond-false (is_below key b.separator) b.child first (first_before b bs key i at)),
+)
 
 pub some_branch : (page : List ℕ) → IsInnerPage page → 1 ≤ length (branches_of page)
 some_branch page inner = let s = (inner_page_of page inner).some in omega (arith, s)

@@ -13,7 +13,8 @@ use Rattle.gx_bplus.specs.Changes.{IsTakenFrom, IsRemoved}
 use Rattle.gx_bplus.proofs.PutLemmas.{beside}
 use Rattle.gx_ports.proofs.KeyLemmas.{key_cases}
 
--- the tree that takes the place of the subtree at hand has its entries but one, and pages among its own
+-- the tree that takes the place of the subtree at hand has its entries but one, and pages among its
+-- own
 pub filled_in : {steps : ℕ} (at new : ℕ → List ℕ) (owned now : ℕ
     → Type 0) (root p : ℕ) (key : List ℕ) (old : BplusTree)
     (h : IsAtHand at owned root p key old steps) (u : BplusTree) → Same h.others at new
@@ -176,7 +177,10 @@ dropped at new owned now root p key old first b bs es at_p at_c taken new_p else
     (λ q i. elsewhere q ((h.owns q).1 (inr i)) (out_p q i) (out_child q i)) fit
     (some_key w.kids w.ordered)
     (λ x. (
-      (λ i. (subst (In x) (sym n.entries_is) ((k.entries_are x).1 (inr (entries_from x i))), beside_kid x (entries_from x i))),
+      (λ i. (
+        subst (In x) (sym n.entries_is) ((k.entries_are x).1 (inr (entries_from x i))),
+        beside_kid x (entries_from x i),
+      )),
       (λ i. (w.entries_are x).1 (inl (elim ((k.entries_are x).0 (subst (In x) n.entries_is i.0)) [
         | inl a ↦ absurd (i.1 (all_taken key es taken x (subst (In x) entries_is a)))
         | inr c ↦ c
@@ -251,8 +255,14 @@ move at new a (node p kids) stands ordered apart free same at_a = record {
   ordered = ordered;
   apart = ((λ i. free (inr i)), apart.1);
   entries_are = refl;
-  pages_are = λ q i. elim i
-      [ inl e ↦ inl e | inr j ↦ inr (inr j, λ e. apart.0 (subst (λ y. In y (kids_pages kids)) e j)) ];
+  pages_are = λ q i. elim i [
+    | inl e ↦ inl e
+    | inr j ↦ inr (
+      inr j,
+      λ e. apart.0
+          (subst (λ y. In y (kids_pages kids)) e j),
+    )
+  ];
   pages_stay = λ q i d. elim i [ inl e ↦ absurd (d e) | inr j ↦ inr j ];
 }
 
@@ -367,7 +377,15 @@ replaced at new owned now root p key old first b es at_p at_c taken new_p elsewh
           (λ f. not_top child child_in (sym f ∙ e)),
           (λ f. not_top (page_of o) o_in (o_page ∙ sym f ∙ e)),
         )
-        | inr d ↦ (n.kids_owned q (n.in_others q (o_pages q d.0)), not_kid q (o_pages q d.0), (λ f. d.1 (f ∙ sym o_page)))
+        | inr d ↦ (
+          n.kids_owned q (n.in_others q (o_pages q d.0)),
+          not_kid q (o_pages q d.0),
+          (λ f. d.1 (f ∙ sym o_page)),
+        )
       ]
-      | inr c ↦ ((h.owns q).1 (inr c), out_of q child c child_in, (λ e. out_of q (page_of o) c o_in (e ∙ sym o_page)))
+      | inr c ↦ (
+        (h.owns q).1 (inr c),
+        out_of q child c child_in,
+        (λ e. out_of q (page_of o) c o_in (e ∙ sym o_page)),
+      )
     ]))

@@ -75,8 +75,13 @@ up_with (b ∷ bs) key s x y c up as_x as_y below above =
           (below_of y b.separator (as_y b.separator (inl refl) ∙ is)) in
           subst (λ cs. Up (separators_in cs))
           (sym (cond-true (is_below key b.separator) (branch s c ∷ b ∷ bs)
-          (b ∷ with_branch bs key (branch s c)) is))
-          ((λ z i. elim i [ inl e ↦ subst (IsBelow s) (sym e) here | inr j ↦ below_below s b.separator z here (up.0 z j) ]), up))
+          (b ∷ with_branch bs key (branch s c)) is)) (
+            (λ z i. elim i [
+              | inl e ↦ subst (IsBelow s) (sym e) here
+              | inr j ↦ below_below s b.separator z here (up.0 z j)
+            ]),
+            up,
+          ))
       | inr is ↦
           (let here : IsBelow b.separator s =
           up_to_below b.separator x s (up_to_of x b.separator (as_x b.separator (inl refl) ∙ is))
@@ -116,8 +121,13 @@ up_insert : (xs : List (List ℕ)) (i : ℕ) (k : List ℕ) → Up xs → i ≤ 
 up_insert [] zero k up le before behind = ((λ y j. absurd j), tt)
 up_insert [] (suc i) k up le before behind = absurd (omega (arith, le))
 up_insert (x ∷ xs) zero k up le before behind =
-    let here : IsBelow k x = behind (omega arith) in
-    ((λ y j. elim j [ inl e ↦ subst (IsBelow k) (sym e) here | inr m ↦ below_below k x y here (up.0 y m) ]), up)
+    let here : IsBelow k x = behind (omega arith) in (
+      (λ y j. elim j [
+        | inl e ↦ subst (IsBelow k) (sym e) here
+        | inr m ↦ below_below k x y here (up.0 y m)
+      ]),
+      up,
+    )
 up_insert (x ∷ xs) (suc i) k up le before behind =
     let here : IsBelow x k = head_below x xs i k up (omega (arith, le)) (before i refl) in (
       (λ y j. elim (in_insert xs i k y j)
@@ -224,7 +234,10 @@ spread_may at owned root p e old first branches es ls rs s w at_p at_c h =
     let entries_is : entries k.kid ≡ es = ap entries kid_is in
     let bounds : (x : Entry) → In x (ls ++ rs) → IsUpTo k.low x.key × IsUnder x.key k.high =
     λ x i. elim ((w.put x).0 i) [
-      | inl d ↦ (subst (λ y. IsUpTo k.low y.key) (sym d) k.from, subst (λ (y : Entry). IsUnder y.key k.high) (sym d) k.to)
+      | inl d ↦ (
+        subst (λ y. IsUpTo k.low y.key) (sym d) k.from,
+        subst (λ (y : Entry). IsUnder y.key k.high) (sym d) k.to,
+      )
       | inr d ↦ k.fits.bounds x (subst (In x) (sym entries_is) d.0)
     ] in
     let x = w.left_some in

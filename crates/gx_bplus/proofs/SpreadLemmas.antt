@@ -42,7 +42,10 @@ spread at new owned now root p e old first branches es ls rs s fresh spreads at_
     let child_owned : owned child = n.kids_owned child (n.in_kids child child_in) in
     let bounds : (x : Entry) → In x (ls ++ rs) → IsUpTo k.low x.key × IsUnder x.key k.high =
     λ x i. elim ((w.put x).0 i) [
-      | inl d ↦ (subst (λ y. IsUpTo k.low y.key) (sym d) k.from, subst (λ (y : Entry). IsUnder y.key k.high) (sym d) k.to)
+      | inl d ↦ (
+        subst (λ y. IsUpTo k.low y.key) (sym d) k.from,
+        subst (λ (y : Entry). IsUnder y.key k.high) (sym d) k.to,
+      )
       | inr d ↦ k.fits.bounds x (subst (In x) (sym entries_is) d.0)
     ] in
     let g = parted at new owned root p e.key old first branches h n (leaf child ls)
@@ -51,7 +54,13 @@ spread at new owned now root p e old first branches es ls rs s fresh spreads at_
     (λ x i. bounds x (in_left x ls rs i)) (λ x i. bounds x (in_right x ls rs i)) w.below w.above
     (λ q i. elim i [ inl d ↦ subst (λ y. In y (pages k.kid)) (sym d) child_in | inr z ↦ absurd z ])
     (λ q i. elim i [ inl d ↦ inl d | inr z ↦ absurd z ])
-    (λ q i j. elim i [ inl d ↦ elim j [ inl f ↦ free (subst owned (sym d ∙ f) child_owned) | inr z ↦ absurd z ] | inr z ↦ absurd z ]) in
+    (λ q i j. elim i [
+      | inl d ↦ elim j [
+        | inl f ↦ free (subst owned (sym d ∙ f) child_owned)
+        | inr z ↦ absurd z
+      ]
+      | inr z ↦ absurd z
+    ]) in
     let out_p : (q : ℕ) → In q h.others
     → q ≢ p = λ q i d. n.top_alone (subst (λ y. In y h.others) d i) in
     let out_child : (q : ℕ) → In q h.others
@@ -67,9 +76,16 @@ spread at new owned now root p e old first branches es ls rs s fresh spreads at_
       (λ i. elim ((g.entries_are x).0 i) [
         | inl a ↦ elim ((w.put x).0 a) [
           | inl d ↦ inl d
-          | inr d ↦ inr (subst (In x) (sym n.entries_is) ((k.entries_are x).1 (inl (subst (In x) (sym entries_is) d.0))), d.1)
+          | inr d ↦ inr (
+            subst (In x) (sym n.entries_is)
+                ((k.entries_are x).1 (inl (subst (In x) (sym entries_is) d.0))),
+            d.1,
+          )
         ]
-        | inr b ↦ inr (subst (In x) (sym n.entries_is) ((k.entries_are x).1 (inr b)), beside_kid x b)
+        | inr b ↦ inr (
+          subst (In x) (sym n.entries_is) ((k.entries_are x).1 (inr b)),
+          beside_kid x b,
+        )
       ]),
       (λ i. (g.entries_are x).1 (elim i [
         | inl d ↦ inl ((w.put x).1 (inl d))
@@ -99,7 +115,10 @@ spread at new owned now root p e old first branches es ls rs s fresh spreads at_
             | inl d ↦ inr (subst owned (sym d) n.top_owned)
             | inr b ↦ elim b [
               | inl d ↦ elim d [
-                | inl f ↦ elim f [ inl z ↦ inr (subst owned (sym z) child_owned) | inr z ↦ absurd z ]
+                | inl f ↦ elim f [
+                  | inl z ↦ inr (subst owned (sym z) child_owned)
+                  | inr z ↦ absurd z
+                ]
                 | inr f ↦ elim f [ inl z ↦ inl z | inr z ↦ absurd z ]
               ]
               | inr d ↦ inr (n.kids_owned q (n.in_others q d))
@@ -142,7 +161,14 @@ root_spread at new owned now root e old es ls rs s f1 f2 spreads at_root free1 f
             | inl d ↦ free1 (subst owned d root_owned)
             | inr j ↦ elim j [ inl d ↦ free2 (subst owned d root_owned) | inr z ↦ absurd z ]
           ]),
-          (tt, (λ q i j. elim i [ inl d ↦ elim j [ inl f ↦ other (sym d ∙ f) | inr z ↦ absurd z ] | inr z ↦ absurd z ]), tt),
+          (
+            tt,
+            (λ q i j. elim i [
+              | inl d ↦ elim j [ inl f ↦ other (sym d ∙ f) | inr z ↦ absurd z ]
+              | inr z ↦ absurd z
+            ]),
+            tt,
+          ),
         );
       };
       owns = λ q. (
@@ -156,7 +182,10 @@ root_spread at new owned now root e old es ls rs s f1 f2 spreads at_root free1 f
         ]),
         (λ i. (now_is q).1 (elim i [
           | inl d ↦ inr (inr (subst owned (sym d) root_owned))
-          | inr j ↦ elim j [ inl d ↦ inl d | inr k ↦ elim k [ inl d ↦ inr (inl d) | inr z ↦ absurd z ] ]
+          | inr j ↦ elim j [
+            | inl d ↦ inl d
+            | inr k ↦ elim k [ inl d ↦ inr (inl d) | inr z ↦ absurd z ]
+          ]
         ])),
       );
       put = subst (λ (t : BplusTree). IsPutIn e (entries t) (ls ++ rs)) (sym is) w.put;
@@ -220,7 +249,10 @@ root_split at new owned now root key old f bs ls s c rs f1 f2 cut shows free1 fr
           | inr k ↦ elim (subst (In q) pages_is ((owns q).0 k)) [
             | inl e ↦ inl e
             | inr d ↦ inr
-                (elim (hv.kids_in q d) [ inl a ↦ in_left q (pages hv.l) (pages hv.r) a | inr a ↦ in_right q (pages hv.l) (pages hv.r) a ])
+                (elim (hv.kids_in q d) [
+                  | inl a ↦ in_left q (pages hv.l) (pages hv.r) a
+                  | inr a ↦ in_right q (pages hv.l) (pages hv.r) a
+                ])
           ]
         ]
       ]),
@@ -253,7 +285,10 @@ root_split at new owned now root key old f bs ls s c rs f1 f2 cut shows free1 fr
       fits = h.fits;
       from = h.from;
       to = h.to;
-      entries_are = λ x. ((λ i. (h.entries_are x).0 ((same x).0 i)), (λ i. (same x).1 ((h.entries_are x).1 i)));
+      entries_are = λ x. (
+        (λ i. (h.entries_are x).0 ((same x).0 i)),
+        (λ i. (same x).1 ((h.entries_are x).1 i)),
+      );
       owns = h.owns;
       path = h.path;
       path_is = h.path_is;

@@ -38,6 +38,10 @@ taken_at (x ∷ xs) (suc j) key up below at =
 pub none_taken : (es : List Entry) (key : List ℕ) → All (λ e. e.key ≢ key) es
     → IsTakenFrom key es es
 none_taken es key other x = (
-  (λ i. (i, let p = place_in x es i in subst (λ (e : Entry). e.key ≢ key) (p.is x) (other p.place x p.below))),
+  (λ i. (
+    i,
+    let p = place_in x es i in subst (λ (e : Entry). e.key ≢ key) (p.is x)
+        (other p.place x p.below),
+  )),
   λ h. h.0,
 )

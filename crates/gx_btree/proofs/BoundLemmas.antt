@@ -14,7 +14,12 @@ pub record IsWithout (x : ℕ) (xs : List ℕ) : Type 0 where
   pub members : (y : ℕ) → In y rest → In y xs × (y ≢ x)
 
 take_out : (x : ℕ) (xs : List ℕ) → AreUnique xs → IsWithout x xs
-take_out x [] u = record { rest = []; shorter = omega arith; unique = tt; members = λ y i. absurd i }
+take_out x [] u = record {
+  rest = [];
+  shorter = omega arith;
+  unique = tt;
+  members = λ y i. absurd i;
+}
 take_out x (z ∷ xs) u = elim (cases_eq z x) [
   | inl e ↦ record {
     rest = xs;
@@ -47,8 +52,11 @@ pub ends : {steps : ℕ} (at : ℕ → List ℕ) (owned : ℕ → Type 0) (root 
     → IsAtHand at owned root p key old steps → ((q : ℕ) → owned q → q < size) → steps < size
 ends at owned root p key old size h within =
     let top = top_in h.subtree in
-    let u : AreUnique (p ∷ h.path) =
-    ((λ i. h.fits.alone p (subst (λ y. In y (pages h.subtree)) h.fits.page_is top) (h.path_in p i)), h.unique) in
+    let u : AreUnique (p ∷ h.path) = (
+      (λ i. h.fits.alone p (subst (λ y. In y (pages h.subtree)) h.fits.page_is top)
+          (h.path_in p i)),
+      h.unique,
+    ) in
     let k = few size (p ∷ h.path) u (λ x i. within x (elim i [
       | inl e ↦ (h.owns x).1 (inl
           (subst (λ y. In y (pages h.subtree)) (h.fits.page_is ∙ sym e) top))

@@ -69,9 +69,16 @@ mutual
   page_seen : (p : ℕ → List ℕ) (t : BplusTree) (q : ℕ) → Stands p t → In q (pages t)
       → IsSeen p (entries t) q
   page_seen p (leaf r es) q stands i =
-      elim i [ inl e ↦ inl (es, subst (λ n. ShowsEntries (p n) es) (sym e) stands, λ x j. j) | inr n ↦ absurd n ]
+      elim i [
+        | inl e ↦ inl (es, subst (λ n. ShowsEntries (p n) es) (sym e) stands, λ x j. j)
+        | inr n ↦ absurd n
+      ]
   page_seen p (node r kids) q stands i = elim i [
-    | inl e ↦ inr (first_of kids, branches_of kids, subst (λ n. ShowsInner (p n) (first_of kids) (branches_of kids)) (sym e) stands.0)
+    | inl e ↦ inr (
+      first_of kids,
+      branches_of kids,
+      subst (λ n. ShowsInner (p n) (first_of kids) (branches_of kids)) (sym e) stands.0,
+    )
     | inr j ↦ kids_seen p kids q stands.1 j
   ]
 

@@ -17,8 +17,12 @@ module _ {S : Type 0} (g : Ghosts S) where
       → EndsFile g less a b r → EndsFile g more a b r
   ends_weaker more less a b r f e = record {
     cause =
-        record
-        { later = e.cause.later; fault = e.cause.fault; counted = e.cause.counted; damaged = λ n is h. e.cause.damaged n is (f h) };
+        record {
+          later = e.cause.later;
+          fault = e.cause.fault;
+          counted = e.cause.counted;
+          damaged = λ n is h. e.cause.damaged n is (f h);
+        };
     home = e.home;
   }
 

@@ -36,7 +36,11 @@ own_separators : (kids : BplusKids) (s : List ℕ) → In s (separators_in (tree
     → In s (kids_separators kids)
 own_separators (last t) s i = absurd i
 own_separators (more t m kids) s i =
-    elim i [ inl e ↦ inl e | inr j ↦ inr (in_right s (separators t) (kids_separators kids) (own_separators kids s j)) ]
+    elim i [
+      | inl e ↦ inl e
+      | inr j ↦ inr
+          (in_right s (separators t) (kids_separators kids) (own_separators kids s j))
+    ]
 
 mutual
   page_separators : (at : ℕ → List ℕ) (t : BplusTree) (q f : ℕ) (bs : List Branch) (s : List ℕ)

@@ -24,7 +24,11 @@ within_bound s x hi h k =
     record {
       under = under_within s x hi h k;
       over = λ y over. elim
-          (below_or_not y s) [ inl l ↦ absurd (not_under_over y hi (under_within s x hi h k y l) over) | inr m ↦ m ];
+          (below_or_not y s) [
+            | inl l ↦ absurd (not_under_over y hi
+                (under_within s x hi h k y l) over)
+            | inr m ↦ m
+          ];
     }
 
 mutual
@@ -55,7 +59,10 @@ above_bound (more t n kids) ordered s above m i =
     let here : IsBelow s n = up_to_below s some.0.key n
     (above some.0 (in_left some.0 (entries t) (kids_entries kids) some.1))
     (ordered.2 some.0 some.1) in
-    elim i [ inl e ↦ subst (IsBelow s) (sym e) here | inr j ↦ below_below s n m here (above_bound kids ordered.4 n ordered.3 m j) ]
+    elim i [
+      | inl e ↦ subst (IsBelow s) (sym e) here
+      | inr j ↦ below_below s n m here (above_bound kids ordered.4 n ordered.3 m j)
+    ]
 
 -- the last child
 hole_last : (at : ℕ → List ℕ) (t : BplusTree) (key lo : List ℕ) (hi : Option (List ℕ))
@@ -70,7 +77,14 @@ hole_last at t key lo hi stand ordered apart bounds from to = record {
   rest = [];
   others = [];
   way = refl;
-  fits = record { page_is = refl; stands = stand; ordered = ordered.0; apart = apart; bounds = bounds; alone = λ q i n. n };
+  fits = record {
+    page_is = refl;
+    stands = stand;
+    ordered = ordered.0;
+    apart = apart;
+    bounds = bounds;
+    alone = λ q i n. n;
+  };
   filled = ordered.1;
   lower = up_to_itself lo;
   higher = within_itself hi;
@@ -302,7 +316,11 @@ hole_behind at t s kids key lo hi stand ordered apart bounds is lo_s h = record 
         first_is = refl;
         branches_are = ap (λ f. branch s f ∷ branches_of r.kids) r.first_is
             ∙ ap (λ bs. branch s (first_of kids) ∷ bs) r.branches_are;
-        stand = (stands_same at new t (λ q i. same q (in_left q (pages t) h.others i)) stand.0, r.stand);
+        stand = (
+          stands_same at new t (λ q i. same q (in_left q (pages t) h.others i))
+              stand.0,
+          r.stand,
+        );
         ordered = (
           ordered.0,
           ordered.1,
@@ -336,7 +354,11 @@ hole_behind at t s kids key lo hi stand ordered apart bounds is lo_s h = record 
             ap (λ f. branch s f ∷ branches_of w.kids) w.first_is
             ∙ ap (λ bs. branch s (first_of kids) ∷ bs) w.branches_are
             ∙ sym (cond-false (is_below key s) _ _ is);
-        stand = (stands_same at new t (λ q i. same q (in_left q (pages t) h.others i)) stand.0, w.stand);
+        stand = (
+          stands_same at new t (λ q i. same q (in_left q (pages t) h.others i))
+              stand.0,
+          w.stand,
+        );
         ordered = (
           ordered.0,
           ordered.1,

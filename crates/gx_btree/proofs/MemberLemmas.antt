@@ -53,15 +53,23 @@ joins_more_left zs xs ys j x = (
 )
 
 pub joins_end : {A : Type 0} (xs : List A) → Joins xs (xs ++ []) []
-joins_end xs x =
-    ((λ i. inl (in_left x xs [] i)), λ h. elim h [ inl a ↦ elim (in_cases x xs [] a) [ inl b ↦ b | inr n ↦ absurd n ] | inr n ↦ absurd n ])
+joins_end xs x = (
+  (λ i. inl (in_left x xs [] i)),
+  λ h. elim h [
+    | inl a ↦ elim (in_cases x xs [] a) [ inl b ↦ b | inr n ↦ absurd n ]
+    | inr n ↦ absurd n
+  ],
+)
 
 -- below a node: one part of what is left over is the node itself and the children beside
 pub joins_below : {A : Type 0} (p : A) (all kid others rest xs : List A) → Joins all kid others
     → Joins xs (p ∷ all) rest → Joins xs kid (p ∷ (others ++ rest))
 joins_below p all kid others rest xs j k x = (
   λ h. elim ((k x).0 h) [
-    | inl a ↦ elim a [ inl c ↦ inr (inl c) | inr d ↦ elim ((j x).0 d) [ inl e ↦ inl e | inr f ↦ inr (inr (in_left x others rest f)) ] ]
+    | inl a ↦ elim a [
+      | inl c ↦ inr (inl c)
+      | inr d ↦ elim ((j x).0 d) [ inl e ↦ inl e | inr f ↦ inr (inr (in_left x others rest f)) ]
+    ]
     | inr b ↦ inr (inr (in_right x others rest b))
   ],
   λ h. elim h [

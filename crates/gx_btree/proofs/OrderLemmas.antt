@@ -75,8 +75,10 @@ below_of a b h = go (cmp a b) refl h where
 
 pub up_to_of : (a b : List ℕ) → is_below a b ≡ false → IsUpTo b a
 up_to_of a b h =
-    elim (below_or_not a b)
-    [ inl l ↦ (let clash : true ≡ false = sym (ap is_lt l) ∙ h in let no : ⊥ = cc in absurd no) | inr k ↦ k ]
+    elim (below_or_not a b) [
+      | inl l ↦ (let clash : true ≡ false = sym (ap is_lt l) ∙ h in let no : ⊥ = cc in absurd no)
+      | inr k ↦ k
+    ]
 
 pub is_below_of : (a b : List ℕ) → IsBelow a b → is_below a b ≡ true
 is_below_of a b h = ap is_lt h

@@ -233,8 +233,13 @@ kids_at : (p : ℕ → List ℕ) (above : ℕ) (low : List ℕ) (high : Option (
     → ((x : Entry) → In x (kids_entries kids) → IsUpTo low x.key × IsUnder x.key high)
     → AreAtParts p (child_parts above low (first_of kids) (branches_of kids)) high (kid_list kids)
 kids_at p above low high (last t) stand ordered bounds = (
-  record
-      { page_is = refl; stands = stand; ordered = ordered.0; filled = λ _. ordered.1; bounds = bounds },
+  record {
+    page_is = refl;
+    stands = stand;
+    ordered = ordered.0;
+    filled = λ _. ordered.1;
+    bounds = bounds;
+  },
   tt,
 )
 kids_at p above low high (more t s kids) stand ordered bounds = (
@@ -400,7 +405,13 @@ module _ (ground : Ground) (owner : ℕ) (sheets : Sheets) (parts : List Part) (
       record {
         trees = rest.trees ++ leaf part.page es ∷ [];
         stand = at_both p parts (part ∷ []) high rest.trees (leaf part.page es ∷ []) rest.stand (
-          record { page_is = refl; stands = shows; ordered = entries_up bytes shown; filled = next.inside.0; bounds = next.inside.1 },
+          record {
+            page_is = refl;
+            stands = shows;
+            ordered = entries_up bytes shown;
+            filled = next.inside.0;
+            bounds = next.inside.1;
+          },
           tt,
         );
         left =
@@ -438,8 +449,12 @@ module _ (ground : Ground) (owner : ℕ) (sheets : Sheets) (parts : List Part) (
       ∙ ap (λ ps. pages_of b.before ++ part.page ∷ ps) (append-nil (kids_pages kids)) in
       let left = subst (AreLeft ground owner sheets seen) pages_are rest.left in
       let here = in_here part.page (pages_of b.before) (kids_pages kids) in (
-        record
-            { owned = left.owned part.page here; past = left.past part.page here; unseen = left.unseen part.page here; inside = tt },
+        record {
+          owned = left.owned part.page here;
+          past = left.past part.page here;
+          unseen = left.unseen part.page here;
+          inside = tt;
+        },
         record {
           trees = b.before ++ kid_list kids;
           stand = at_both p parts (child_parts part.page part.low first bs) high b.before
@@ -554,9 +569,17 @@ module _ (ground : Ground) (place : Place) (sheets : Sheets) (seen : List Bool)
         map_of (entries t),
         record {
           tree = t;
-          whole = record { root_is = o.2.page_is; stands = o.2.stands; ordered = o.2.ordered; apart = tree_apart t left.unique };
+          whole = record {
+            root_is = o.2.page_is;
+            stands = o.2.stands;
+            ordered = o.2.ordered;
+            apart = tree_apart t left.unique;
+          };
           past = left.past;
-          owned = λ q. ((λ i. elim (left.all q i) [ inl is ↦ absurd (none q is) | inr j ↦ j ]), left.owned q);
+          owned = λ q. (
+            (λ i. elim (left.all q i) [ inl is ↦ absurd (none q is) | inr j ↦ j ]),
+            left.owned q,
+          );
           map_is = map_found t o.2.ordered;
         },
       )
@@ -581,7 +604,13 @@ module _ (ground : Ground) (owner : ℕ) (sheets : Sheets) (high : Option (List 
     seen_rest all = record {
       trees = [];
       stand = tt;
-      left = record { unique = tt; unseen = λ q i. absurd i; owned = λ q i. absurd i; past = λ q i. absurd i; all = λ q o. inl (all q o) };
+      left = record {
+        unique = tt;
+        unseen = λ q i. absurd i;
+        owned = λ q i. absurd i;
+        past = λ q i. absurd i;
+        all = λ q o. inl (all q o);
+      };
     }
 
 -- ---- the visits end

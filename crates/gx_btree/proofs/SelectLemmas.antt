@@ -37,7 +37,11 @@ filter_cases p y ys x true e h = (
 )
 filter_cases p y ys x false e h = (
   λ i. let k = h.0 i in (inr k.0, k.1),
-  λ k. elim k.0 [ inl s ↦ (let clash : true ≡ false = sym k.1 ∙ ap p s ∙ e in let never : ⊥ = cc in absurd never) | inr j ↦ h.1 (j, k.1) ],
+  λ k. elim k.0 [
+    | inl s ↦ (let clash : true ≡ false = sym k.1 ∙ ap p s ∙ e in let never : ⊥ = cc in
+        absurd never)
+    | inr j ↦ h.1 (j, k.1)
+  ],
 )
 
 in_filter : (p : Entry → Bool) (xs : List Entry) (x : Entry)
@@ -72,12 +76,17 @@ same_list (x ∷ xs) [] up over to from = absurd (to x (inl refl))
 same_list (x ∷ xs) (y ∷ ys) up over to from =
     let first : x ≡ y = elim (to x (inl refl)) [
       | inl e ↦ e
-      | inr i ↦ elim (from y (inl refl))
-          [ inl e ↦ sym e | inr j ↦ absurd (not_itself x.key (below_below x.key y.key x.key (up.0 y j) (over.0 x i))) ]
+      | inr i ↦ elim (from y (inl refl)) [
+        | inl e ↦ sym e
+        | inr j ↦ absurd (not_itself x.key
+            (below_below x.key y.key x.key (up.0 y j) (over.0 x i)))
+      ]
     ] in
     let rest = same_list xs ys up.1 over.1
-    (λ z i. elim (to z (inr i))
-    [ inl e ↦ absurd (differ x.key z.key (up.0 z i) (ap (λ (w : Entry). w.key) (first ∙ sym e))) | inr j ↦ j ])
+    (λ z i. elim (to z (inr i)) [
+      | inl e ↦ absurd (differ x.key z.key (up.0 z i) (ap (λ (w : Entry). w.key) (first ∙ sym e)))
+      | inr j ↦ j
+    ])
     (λ z i. elim (from z (inr i)) [
       | inl e ↦ absurd
           (differ y.key z.key (over.0 z i) (ap (λ (w : Entry). w.key) (sym first ∙ sym e)))
@@ -248,8 +257,11 @@ given_next lo hi key bound t es o up found =
     under_of x.key bound (second_so (is_inside lo hi x.key) (is_under x.key bound) a.1) in
     elim (below_or_not x.key key) [
       | inl l ↦ in_left x (filter q all) (filter r es)
-          ((in_filter q all x).1
-          (a.0, and_from (is_inside lo hi x.key) (is_below x.key key) inside (is_below_of x.key key l)))
+          ((in_filter q all x).1 (
+            a.0,
+            and_from (is_inside lo hi x.key) (is_below x.key key) inside
+                (is_below_of x.key key l),
+          ))
       | inr l ↦ in_right x (filter q all) (filter r es)
           ((in_filter r es x).1 (
             found.all x a.0 l under,

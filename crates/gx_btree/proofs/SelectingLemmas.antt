@@ -110,8 +110,10 @@ mutual
 append_unique : (xs ys : List ℕ) → AreUnique xs → AreUnique ys → ((x : ℕ) → In x xs → In x ys → ⊥)
     → AreUnique (xs ++ ys)
 append_unique [] ys u v d = v
-append_unique (x ∷ xs) ys u v d =
-    ((λ i. elim (in_cases x xs ys i) [ inl a ↦ u.0 a | inr b ↦ d x (inl refl) b ]), append_unique xs ys u.1 v (λ y i j. d y (inr i) j))
+append_unique (x ∷ xs) ys u v d = (
+  (λ i. elim (in_cases x xs ys i) [ inl a ↦ u.0 a | inr b ↦ d x (inl refl) b ]),
+  append_unique xs ys u.1 v (λ y i j. d y (inr i) j),
+)
 
 mutual
   unique_pages : (t : BplusTree) → Apart t → AreUnique (pages t)
@@ -136,7 +138,11 @@ record IsRest (x : List ℕ) (ys : List (List ℕ)) : Type 0 where
 take_away : (x : List ℕ) (ys : List (List ℕ)) → In x ys → IsRest x ys
 take_away x [] i = absurd i
 take_away x (y ∷ ys) (inl e) =
-    record { rest = ys; shorter = omega arith; others = λ z j. elim j [ inl s ↦ inl (s ∙ sym e) | inr k ↦ inr k ] }
+    record {
+      rest = ys;
+      shorter = omega arith;
+      others = λ z j. elim j [ inl s ↦ inl (s ∙ sym e) | inr k ↦ inr k ];
+    }
 take_away x (y ∷ ys) (inr i) =
     let r = take_away x ys i in
     record {
@@ -144,7 +150,10 @@ take_away x (y ∷ ys) (inr i) =
       shorter =
           (let s = r.shorter in omega (arith, s));
       others =
-          λ z j. elim j [ inl s ↦ inr (inl s) | inr k ↦ elim (r.others z k) [ inl s ↦ inl s | inr l ↦ inr (inr l) ] ];
+          λ z j. elim j [
+            | inl s ↦ inr (inl s)
+            | inr k ↦ elim (r.others z k) [ inl s ↦ inl s | inr l ↦ inr (inr l) ]
+          ];
     }
 
 few_of : (xs ys : List (List ℕ)) → AreDistinct xs → ((x : List ℕ) → In x xs → In x ys)

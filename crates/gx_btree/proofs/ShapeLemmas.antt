@@ -36,11 +36,20 @@ mutual
       → In q (pages t)
       → HasShape (at q)
   tree_shape at (leaf p es) q stands ordered i =
-      elim i [ inl e ↦ subst (λ n. HasShape (at n)) (sym e) (leaf_shape (at p) es stands ordered) | inr n ↦ absurd n ]
+      elim i [
+        | inl e ↦ subst (λ n. HasShape (at n)) (sym e) (leaf_shape (at p) es stands ordered)
+        | inr n ↦ absurd n
+      ]
   tree_shape at (node p kids) q stands ordered i = elim i [
     | inl e ↦ subst (λ n. HasShape (at n)) (sym e)
-        (record
-        { shape = shapes.Inner; shows = record { first = first_of kids; branches = branches_of kids; is = stands.0 } })
+        (record {
+          shape = shapes.Inner;
+          shows = record {
+            first = first_of kids;
+            branches = branches_of kids;
+            is = stands.0;
+          };
+        })
     | inr j ↦ kids_shape at kids q stands.1 ordered j
   ]
 

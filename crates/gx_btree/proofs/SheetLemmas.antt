@@ -125,7 +125,10 @@ anew_others page from to owner ground old new a was f t other d n =
     one_owner new page other to h here in elim t [ inl x ↦ d (e ∙ x) | inr x ↦ n (e ∙ x) ] in
     record {
       owned = λ q. elim (cases_eq q page) [
-        | inl e ↦ (λ h. absurd (no_old (subst (IsOwned other old) e h)), λ h. absurd (no_new (subst (IsOwned other new) e h)))
+        | inl e ↦ (
+          λ h. absurd (no_old (subst (IsOwned other old) e h)),
+          λ h. absurd (no_new (subst (IsOwned other new) e h)),
+        )
         | inr e ↦ (let o = anew_other page to ground old new a other q e in (o.1, o.0))
       ];
       bytes = λ q past is. a.bytes q past;
@@ -166,12 +169,17 @@ pub claimed_owned : (page owner : ℕ) (ground : Ground) (old new : Sheets)
 claimed_owned page owner ground old new c q =
     let here = anew_here page owner ground old new c.owned (get_below old.owners page 0 c.was_free)
     in (
-      λ h. elim (cases_eq q page)
-          [ inl e ↦ inl e | inr e ↦ inr ((anew_other page owner ground old new c.owned owner q e).0 h) ],
+      λ h. elim (cases_eq q page) [
+        | inl e ↦ inl e
+        | inr e ↦ inr
+            ((anew_other page owner ground old new c.owned owner q e).0 h)
+      ],
       λ h. elim h [
         | inl e ↦ subst (IsOwned owner new) (sym e) here
-        | inr i ↦ elim (cases_eq q page)
-            [ inl e ↦ subst (IsOwned owner new) (sym e) here | inr e ↦ (anew_other page owner ground old new c.owned owner q e).1 i ]
+        | inr i ↦ elim (cases_eq q page) [
+          | inl e ↦ subst (IsOwned owner new) (sym e) here
+          | inr e ↦ (anew_other page owner ground old new c.owned owner q e).1 i
+        ]
       ],
     )
 

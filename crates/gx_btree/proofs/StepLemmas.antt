@@ -24,7 +24,12 @@ at_root at owned root key t w owns = record {
     out = λ x i. absurd i;
     fill = λ new u same fit filled. record {
       tree = u;
-      whole = record { root_is = fit.page_is; stands = fit.stands; ordered = fit.ordered; apart = fit.apart };
+      whole = record {
+        root_is = fit.page_is;
+        stands = fit.stands;
+        ordered = fit.ordered;
+        apart = fit.apart;
+      };
       entries_are = joins_none (entries u);
       pages_are = joins_none (pages u);
     };

@@ -48,7 +48,11 @@ next_page ground owner sheets parts part high seen rest =
           let top : In part.page (pages t) = subst (λ q. In q (pages t)) h.page_is (top_in t) in
           let here = among part.page (in_left part.page (pages t) (pages_of ts) top) in
           let shape = tree_shape (bytes_at sheets) t part.page h.stands h.ordered top in (
-            record { past = rest.left.past part.page here; shape = shape.shape; shows = shape.shows },
+            record {
+              past = rest.left.past part.page here;
+              shape = shape.shape;
+              shows = shape.shows;
+            },
             (rest.left.owned part.page here, rest.left.unseen part.page here),
           )
       go (w ∷ ws) [] a among = absurd a
@@ -165,8 +169,10 @@ module _ {S : Type 0} (g : Ghosts S) (place : Place) (start : S) where
         reads = pages_read_themselves g start;
         faults = refl;
         marks = ap length seen ∙ length-replicate ground.size false;
-        below = λ part i. elim (subst (In part) parts i)
-            [ inl e ↦ (let s = ap (λ (w : Part). w.above) e in omega (arith, s, below)) | inr n ↦ absurd n ];
+        below = λ part i. elim (subst (In part) parts i) [
+          | inl e ↦ (let s = ap (λ (w : Part). w.above) e in omega (arith, s, below))
+          | inr n ↦ absurd n
+        ];
         rest = λ told. (
           (λ whole. rest_same ground place.owner sheets (root_part place.root ∷ [])
               visits.parts.items None visits.high visits.seen.items
@@ -178,8 +184,13 @@ module _ {S : Type 0} (g : Ghosts S) (place : Place) (start : S) where
               visits.seen.items parts high refl r) in
               (w.0, record { told = told; file = w.1 })),
         );
-        seen = λ told. record
-            { done = []; unique = tt; many = refl; marked = λ q i. absurd i; below = λ q i. absurd i };
+        seen = λ told. record {
+          done = [];
+          unique = tt;
+          many = refl;
+          marked = λ q i. absurd i;
+          below = λ q i. absurd i;
+        };
       }
 
   module _ {steps : ℕ} (now : S) (visits : Visits) (v : IsVisiting g place start now visits steps)

@@ -88,7 +88,13 @@ module _ {R : Type 0} {written : R → List ℕ} {first : List ℕ → R} {Fits 
       ap₂ (λ (a b : List ℕ). kind ∷ 0 ∷ (a ++ (b ++ body)))
       (sym count_bytes ∙ ap (to_be_bytes w16) (sym same)) (sym number_bytes) in
       let page : IsRecordPage written Fits kind rs number bytes =
-      record { size = whole; number_fits = omega (arith, small 4, small 5, small 6, small 7); body = body; is = parts ∙ top; holds = holds } in
+      record {
+        size = whole;
+        number_fits = omega (arith, small 4, small 5, small 6, small 7);
+        body = body;
+        is = parts ∙ top;
+        holds = holds;
+      } in
       subst (λ (n : ℕ). IsRecordPage written Fits kind rs n bytes) (sym number_is) page
     where
       two_small : (a b : ℕ) → a < 256 → b < 256 → (i : ℕ) → get_or (a ∷ b ∷ []) i 0 < 256
@@ -267,8 +273,12 @@ module _ {R : Type 0} {written : R → List ℕ} {first : List ℕ → R} {Fits 
       ∙ ap₂ (λ (b : List ℕ) (n : ℕ). copy_within b at n (at + len))
       (page_parts kind rs number bytes page i) end_at
       ∙ moved_up (top ++ front) back rest at len here free in
-      let gap_len : length gap ≡ length (written r) = omega
-      (arith, format.sizes r, length-take-le len (back ++ rest) (omega (arith, length-append back rest))) in
+      let gap_len : length gap ≡ length (written r) = omega (
+        arith,
+        format.sizes r,
+        length-take-le len (back ++ rest)
+            (omega (arith, length-append back rest)),
+      ) in
       let put_to : put ≡ (top ++ front) ++ (written r ++ (back ++ drop len rest)) =
       put_is ∙ ap (λ (b : List ℕ). overwritten b at (written r)) moved_to
       ∙ overwritten-same (top ++ front) gap (written r) (back ++ drop len rest) at here gap_len in
@@ -311,8 +321,14 @@ module _ {R : Type 0} {written : R → List ℕ} {first : List ℕ → R} {Fits 
       ∙ ap (λ (b : List ℕ). (top ++ front) ++ b) (append_assoc (written gone) back rest) in
       let behind_at : behind ≡ at + length (written gone) = omega (arith, format.sizes gone) in
       let end_at : end ≡ at + length (written gone) + length back =
-      omega
-      (arith, sum_by-take-drop size rs i, ap (sum_by size) split, sum_by-cons size gone (drop (suc i) rs), length-flat_map format (drop (suc i) rs), format.sizes gone) in
+      omega (
+        arith,
+        sum_by-take-drop size rs i,
+        ap (sum_by size) split,
+        sum_by-cons size gone (drop (suc i) rs),
+        length-flat_map format (drop (suc i) rs),
+        format.sizes gone,
+      ) in
       let left = drop (length back) (written gone ++ (back ++ rest)) in
       let moved_to : moved ≡ (top ++ front) ++ (back ++ left) =
       moved_is ∙ ap₂ (λ (b : List ℕ) (n : ℕ). copy_within b n end at) parts behind_at
@@ -370,8 +386,13 @@ module _ {R : Type 0} {written : R → List ℕ} {first : List ℕ → R} {Fits 
       new_is ∙ ap (λ (b : List ℕ). overwritten b 8 all) top_is
       ∙ overwritten-overwritten bytes 0 8 head all refl (omega (arith, length-flat_map format rs))
       ∙ append_assoc head all rest in
-      record
-      { size = size_is; number_fits = number_fits; body = all ++ rest; is = is; holds = record { fit = fit; rest = rest; is = refl } }
+      record {
+        size = size_is;
+        number_fits = number_fits;
+        body = all ++ rest;
+        is = is;
+        holds = record { fit = fit; rest = rest; is = refl };
+      }
 
   -- a page that counts fewer of its records
   pub page_cut : (kind : ℕ) (rs : List R) (number : ℕ) (bytes : List ℕ)

@@ -120,7 +120,11 @@ module _ {R : Type 0} {written : R → List ℕ} {first : List ℕ → R} {Fits 
         → HoldsRecordCount written Fits (n - 1) behind
     go [] count holds = absurd (omega arith)
     go (r ∷ rs) count holds =
-        record { held = rs; count = omega arith; holds = holds_behind r found rs bytes behind holds fit is }
+        record {
+          held = rs;
+          count = omega arith;
+          holds = holds_behind r found rs bytes behind holds fit is;
+        }
 
   pub length-records : (n : ℕ) (bytes : List ℕ) → length (records written first n bytes) ≡ n
   length-records zero bytes = refl
@@ -160,12 +164,21 @@ module _ {R : Type 0} {written : R → List ℕ} {first : List ℕ → R} {Fits 
   pub holds_take : (i : ℕ) (rs : List R) (bytes : List ℕ) → HoldsRecords written Fits rs bytes
       → HoldsRecords written Fits (take i rs) bytes
   holds_take i rs bytes holds =
-      record { fit = All-take Fits i rs holds.fit; rest = flat_map written (drop i rs) ++ holds.rest; is = holds_parts i rs bytes holds }
+      record {
+        fit = All-take Fits i rs holds.fit;
+        rest = flat_map written (drop i rs)
+            ++ holds.rest;
+        is = holds_parts i rs bytes holds;
+      }
 
   pub count_take : (i : ℕ) (rs : List R) (bytes : List ℕ) → HoldsRecords written Fits rs bytes
       → i ≤ length rs → HoldsRecordCount written Fits i bytes
   count_take i rs bytes holds within =
-      record { held = take i rs; count = length-take-le i rs within; holds = holds_take i rs bytes holds }
+      record {
+        held = take i rs;
+        count = length-take-le i rs within;
+        holds = holds_take i rs bytes holds;
+      }
 
   pub records-take : (i : ℕ) (rs : List R) (bytes : List ℕ) → HoldsRecords written Fits rs bytes
       → i ≤ length rs → records written first i bytes ≡ take i rs
@@ -178,8 +191,12 @@ module _ {R : Type 0} {written : R → List ℕ} {first : List ℕ → R} {Fits 
   holds_drop i start rs bytes holds here =
       let front = flat_map written (take i rs) in
       let back = flat_map written (drop i rs) in
-      record
-      { fit = All-drop Fits i rs holds.fit; rest = holds.rest; is = ap (drop start) (holds_parts i rs bytes holds) ∙ drop_at front (back ++ holds.rest) start (length-flat_map (take i rs) ∙ sym here) }
+      record {
+        fit = All-drop Fits i rs holds.fit;
+        rest = holds.rest;
+        is = ap (drop start) (holds_parts i rs bytes holds)
+            ∙ drop_at front (back ++ holds.rest) start (length-flat_map (take i rs) ∙ sym here);
+      }
 
   pub flat_map-insert : (rs : List R) (i : ℕ) (r : R)
       → flat_map written (insert rs i r)
@@ -262,8 +279,10 @@ module _ {R : Type 0} {written : R → List ℕ} {first : List ℕ → R} {Fits 
       ∙ length-append (flat_map written (take i rs)) (flat_map written (r ∷ []))
       ∙ ap (λ (xs : List ℕ). length (flat_map written (take i rs)) + length xs)
       (append-nil (written r)) in
-      record
-      { ahead = holds_behind format r found (drop (i + 1) rs) rest behind held fit is; passed = omega (arith, passed.passed, len, before) }
+      record {
+        ahead = holds_behind format r found (drop (i + 1) rs) rest behind held fit is;
+        passed = omega (arith, passed.passed, len, before);
+      }
 
   -- where a record is ahead, one is split off
   pub passed_split : {A : Type 0} (lent : A → R) (rs : List R) (i : ℕ) (bytes rest : List ℕ)

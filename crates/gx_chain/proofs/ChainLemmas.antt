@@ -111,7 +111,11 @@ module _ (ground : Ground) (owner : ℕ) (s t : Sheets) (first : ℕ) (pages : L
   linked_anew : (q : ℕ) → IsEntryPage (bytes_at s q)
       → IsEntryPage (bytes_at t q) × (next_at t q ≡ next_at s q)
   linked_anew q page = elim (cases_eq q p) [
-    | inl e ↦ (subst (λ n. IsEntryPage (bytes_at t n)) (sym e) w.is_page, ap (next_at t) e ∙ w.next_is ∙ ap (next_at s) (sym e))
+    | inl e ↦ (
+      subst (λ n. IsEntryPage (bytes_at t n)) (sym e) w.is_page,
+      ap (next_at t) e
+          ∙ w.next_is ∙ ap (next_at s) (sym e),
+    )
     | inr d ↦ (subst IsEntryPage (sym (same_at q d)) page, ap next_of (same_at q d))
   ]
 
@@ -201,9 +205,18 @@ module _ (ground : Ground) (owner : ℕ) (s t : Sheets) (first : ℕ) (pages : L
           among = among;
           here = subst (λ (x : List Entry). Contains x (record { key = k; body = b }))
               (sym w.entries_are)
-              (from k b (inr (old.0, subst (λ (n : ℕ). Contains (entries_at s n) (record { key = k; body = b })) e old.1.here)));
+              (from k b
+              (inr (
+                old.0,
+                subst (λ (n : ℕ). Contains (entries_at s n)
+                    (record { key = k; body = b })) e old.1.here,
+              )));
         }
-        | inr d ↦ record { page = old.1.page; among = old.1.among; here = to_new old.1.page _ d old.1.here }
+        | inr d ↦ record {
+          page = old.1.page;
+          among = old.1.among;
+          here = to_new old.1.page _ d old.1.here;
+        }
       ]
     ],
   )

@@ -59,9 +59,16 @@ pub on_below : (s : Sheets) (pages : ℕ → List ℕ) (n : ℕ) (k b : List ℕ
     → IsOn s (pages_below pages n) k b ↔ IsOnChain s pages n k b
 on_below s pages n k b = (
   λ on. (let r = below_to pages n on.page on.among in
-      record { bucket = r.bucket; below = r.below; on = record { page = on.page; among = r.among; here = on.here } }),
-  λ on. record
-      { page = on.on.page; among = below_from pages n on.bucket on.on.page on.below on.on.among; here = on.on.here },
+      record {
+        bucket = r.bucket;
+        below = r.below;
+        on = record { page = on.page; among = r.among; here = on.here };
+      }),
+  λ on. record {
+    page = on.on.page;
+    among = below_from pages n on.bucket on.on.page on.below on.on.among;
+    here = on.on.here;
+  },
 )
 
 -- what the chains have, the pages in the list have

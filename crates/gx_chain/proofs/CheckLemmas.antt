@@ -74,7 +74,13 @@ distinct_before (y ∷ ys) e x rest d c = elim (contains_cases y x ys c) [
 added_none : (old : List (Vec ℕ)) → HasAddedKeys [] old old
 added_none old = record {
   fresh = λ key is. absurd (contains_none (record { key = key; body = is.0 }) is.1);
-  those = λ key. (λ is. inr is, λ c. elim c [ inl is ↦ absurd (contains_none (record { key = key; body = is.0 }) is.1) | inr is ↦ is ]);
+  those = λ key. (
+    λ is. inr is,
+    λ c. elim c [
+      | inl is ↦ absurd (contains_none (record { key = key; body = is.0 }) is.1)
+      | inr is ↦ is
+    ],
+  );
 }
 
 module _ (done : List Entry) (e : Entry) (old mid : List (Vec ℕ)) (h : HasAddedKeys done old mid)
@@ -108,7 +114,11 @@ module _ (done : List Entry) (e : Entry) (old mid : List (Vec ℕ)) (h : HasAdde
                       (sym (same_key key v.items same ∙ is)) (Contains-push done e),
                 )
                 | inr was ↦ elim ((h.those key).0 was) [
-                  | inl before ↦ inl (before.0, Contains-append_left done (e ∷ []) (record { key = key; body = before.0 }) before.1)
+                  | inl before ↦ inl (
+                    before.0,
+                    Contains-append_left done (e ∷ [])
+                        (record { key = key; body = before.0 }) before.1,
+                  )
                   | inr first ↦ inr first
                 ]
               ],

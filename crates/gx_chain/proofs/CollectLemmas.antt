@@ -49,19 +49,20 @@ module _ (lo hi : List ℕ) where
       → Contains (map leaf_entry (cond t (e ∷ filter (λ (x : Entry). is_inside lo hi x.key) es)
       (filter (λ (x : Entry). is_inside lo hi x.key) es))) (listed k b)
       → (is_inside lo hi k ≡ true) × Contains (e ∷ es) (page_entry k b)) [
-        | true ↦ λ is at. elim (contains_cases (leaf_entry e) (listed k b) (inside_of lo hi es) at) [
-          | inl same ↦
-              (let this : e ≡ page_entry k b = λ i. record {
-                key = ap (λ (x : LeafEntry). x.key) same i;
-                body = ap (λ (x : LeafEntry). x.body) same i;
-              } in (
-                subst (λ (x : Entry). is_inside lo hi x.key ≡ true) this is,
-                subst (λ (x : Entry). Contains (x ∷ es) (page_entry k b))
-                    (sym this) (contains_here (page_entry k b) es),
-              ))
-          | inr later ↦ (let r = to_page es k b later in
-              (r.0, contains_later e (page_entry k b) es r.1))
-        ]
+        | true ↦ λ is at. elim (contains_cases (leaf_entry e) (listed k b)
+            (inside_of lo hi es) at) [
+              | inl same ↦
+                  (let this : e ≡ page_entry k b = λ i. record {
+                    key = ap (λ (x : LeafEntry). x.key) same i;
+                    body = ap (λ (x : LeafEntry). x.body) same i;
+                  } in (
+                    subst (λ (x : Entry). is_inside lo hi x.key ≡ true) this is,
+                    subst (λ (x : Entry). Contains (x ∷ es) (page_entry k b))
+                        (sym this) (contains_here (page_entry k b) es),
+                  ))
+              | inr later ↦ (let r = to_page es k b later in
+                  (r.0, contains_later e (page_entry k b) es r.1))
+            ]
         | false ↦ λ _ at. (let r = to_page es k b at in
             (r.0, contains_later e (page_entry k b) es r.1))
       ] refl c
@@ -99,8 +100,14 @@ module _ (lo hi : List ℕ) where
           | inl here ↦ (let r = to_page (entries_at s p) k b here in
               (r.0, record { page = p; among = contains_here p ps; here = r.1 }))
           | inr later ↦
-              (let r = to_pages ps k b later in
-              (r.0, record { page = r.1.page; among = contains_later p r.1.page ps r.1.among; here = r.1.here }))
+              (let r = to_pages ps k b later in (
+                r.0,
+                record {
+                  page = r.1.page;
+                  among = contains_later p r.1.page ps r.1.among;
+                  here = r.1.here;
+                },
+              ))
         ]
 
     from_pages : (pages : List ℕ) (k b : List ℕ) (q : ℕ) → is_inside lo hi k ≡ true
@@ -155,8 +162,11 @@ key_from : (es : List LeafEntry) (k : List ℕ) → Contains (map key_of es) k
     → (b : List ℕ) × Contains es (listed k b)
 key_from [] k c = absurd (contains_none k c)
 key_from (e ∷ es) k c = elim (contains_cases e.key k (map key_of es) c) [
-  | inl same ↦ (let this : e ≡ listed k e.body = λ i. record { key = same i; body = e.body } in
-      (e.body, subst (λ (x : LeafEntry). Contains (x ∷ es) (listed k e.body)) (sym this) (contains_here (listed k e.body) es)))
+  | inl same ↦ (let this : e ≡ listed k e.body = λ i. record { key = same i; body = e.body } in (
+    e.body,
+    subst (λ (x : LeafEntry). Contains (x ∷ es) (listed k e.body)) (sym this)
+        (contains_here (listed k e.body) es),
+  ))
   | inr later ↦ (let r = key_from es k later in (r.0, contains_later e (listed k r.0) es r.1))
 ]
 

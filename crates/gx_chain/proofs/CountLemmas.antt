@@ -25,7 +25,11 @@ HasTaken x ys =
 take_away : (x : ℕ) (ys : List ℕ) → Contains ys x → HasTaken x ys
 take_away x [] c = absurd (contains_none x c)
 take_away x (y ∷ ys) c = elim (contains_cases y x ys c) [
-  | inl e ↦ (ys, omega arith, λ q d j. elim (contains_cases y q ys j) [ inl f ↦ absurd (d (sym f ∙ e)) | inr k ↦ k ])
+  | inl e ↦ (
+    ys,
+    omega arith,
+    λ q d j. elim (contains_cases y q ys j) [ inl f ↦ absurd (d (sym f ∙ e)) | inr k ↦ k ],
+  )
   | inr i ↦ (let t = take_away x ys i in
       let l = t.1 in (
         y ∷ t.0,
@@ -116,8 +120,13 @@ chain_few ground owner sheets first (p ∷ ps) m chain map_is =
     let h = keys_few sheets ps m (pairs_tail p ps chain.fit.once)
     (λ q c. (let f = first_of (entries_at sheets q)
     (chain.fit.filled q (contains_later p q ps c)
-    (λ e. pairs_head p ps chain.fit.once (subst (Contains ps) (e ∙ chain.linked.0) c))) in
-    (f.0, f.1, f.2, map_is f.0 f.1 (record { page = q; among = contains_later p q ps c; here = f.2 }))))
+    (λ e. pairs_head p ps chain.fit.once (subst (Contains ps) (e ∙ chain.linked.0) c))) in (
+      f.0,
+      f.1,
+      f.2,
+      map_is f.0 f.1
+          (record { page = q; among = contains_later p q ps c; here = f.2 }),
+    )))
     (λ q r k b c in_q in_r. chain.fit.apart q r k b c (contains_later p q ps in_q)
     (contains_later p r ps in_r)) in
     omega (arith, h)

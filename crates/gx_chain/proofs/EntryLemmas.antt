@@ -17,8 +17,10 @@ module _ (es : List Entry) (i : ℕ) (key : List ℕ) (distinct : AreDistinct es
   less_at e k below is =
       let short = length-remove es i in_i in
       elim (cases_lt k i) [
-        | inl lt ↦ (let read = sym (get_or-remove_below es i e k lt in_i) ∙ is in
-            (λ same. distinct k i e lt in_i (ap (λ (x : Entry). x.key) read ∙ same ∙ sym (there e)), (k, omega (arith, lt, in_i), read)))
+        | inl lt ↦ (let read = sym (get_or-remove_below es i e k lt in_i) ∙ is in (
+          λ same. distinct k i e lt in_i (ap (λ (x : Entry). x.key) read ∙ same ∙ sym (there e)),
+          (k, omega (arith, lt, in_i), read),
+        ))
         | inr ge ↦ (let read = sym (get_or-remove_above es i e k ge in_i) ∙ is in
             let inside : k + 1 < length es = omega (arith, short, below) in (
               λ same. distinct i (k + 1) e (omega (arith, ge)) inside (there e ∙ sym same

@@ -22,7 +22,12 @@ module _ {X : Type 0} (key body : X → List ℕ) where
       (λ t. eq_by_cmp key_cmp k (key e) ≡ t
       → cond t (Some (body e)) (fin.find key_cmp k (pairs es)) ≡ Some b
       → (x : X) × Contains (e ∷ es) x × (key x ≡ k) × (body x ≡ b)) [
-        | true ↦ λ same at. (e, contains_here e es, sym (same_key k (key e) same), same_Some (body e) b at)
+        | true ↦ λ same at. (
+          e,
+          contains_here e es,
+          sym (same_key k (key e) same),
+          same_Some (body e) b at,
+        )
         | false ↦ λ _ at. (let f = found_from es k b at in
             (f.0, contains_later e f.0 es f.1, f.2, f.3))
       ] refl is

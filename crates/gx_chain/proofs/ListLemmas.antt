@@ -133,13 +133,21 @@ record IsWithout (x : ℕ) (xs : List ℕ) : Type 0 where
   members : (y : ℕ) → Contains rest y → Contains xs y × (y ≢ x)
 
 take_out : (x : ℕ) (xs : List ℕ) → AllPairs (λ a b. a ≢ b) xs → IsWithout x xs
-take_out x [] u = record { rest = []; shorter = omega arith; once = u; members = λ y i. absurd (contains_none y i) }
+take_out x [] u = record {
+  rest = [];
+  shorter = omega arith;
+  once = u;
+  members = λ y i. absurd (contains_none y i);
+}
 take_out x (z ∷ xs) u = elim (cases_eq z x) [
   | inl e ↦ record {
     rest = xs;
     shorter = omega arith;
     once = pairs_tail z xs u;
-    members = λ y i. (contains_later z y xs i, λ f. pairs_head z xs u (subst (Contains xs) (f ∙ sym e) i));
+    members = λ y i. (
+      contains_later z y xs i,
+      λ f. pairs_head z xs u (subst (Contains xs) (f ∙ sym e) i),
+    );
   }
   | inr d ↦ (let w = take_out x xs (pairs_tail z xs u) in record {
     rest = z ∷ w.rest;

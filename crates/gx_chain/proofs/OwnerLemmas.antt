@@ -76,7 +76,10 @@ module _ (ground : Ground) (owner : ℕ) (s t : Sheets) (before now : List ℕ) 
 
 others_same : (ground : Ground) (owner : ℕ) (s t : Sheets) → t ≡ s → OthersStay ground owner s t
 others_same ground owner s t same other d z = record {
-  owned = λ q. (λ o. ap (λ x. slice_get x.owners q) same ∙ o, λ o. ap (λ x. slice_get x.owners q) (sym same) ∙ o);
+  owned = λ q. (
+    λ o. ap (λ x. slice_get x.owners q) same ∙ o,
+    λ o. ap (λ x. slice_get x.owners q) (sym same) ∙ o,
+  );
   bytes = λ q past o. ap (λ x. slice_get x.bytes q) same;
 }
 

@@ -58,4 +58,7 @@ module _ (map : LeafMap) (key : List ℕ) (IsThere : List ℕ → List ℕ → T
 
 -- nothing is put
 pub none_put : {A B : Type 0} → A ↔ B → A ↔ (⊥ ⊎ B)
-none_put same = (λ a. inr (same.0 a), λ put. elim put [ inl never ↦ absurd never | inr old ↦ same.1 old ])
+none_put same = (
+  λ a. inr (same.0 a),
+  λ put. elim put [ inl never ↦ absurd never | inr old ↦ same.1 old ],
+)

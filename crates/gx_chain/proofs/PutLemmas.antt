@@ -76,8 +76,15 @@ module _ (ground : Ground) (owner first : ℕ) (key : List ℕ) (s t : Sheets) (
         chain =
             rewritten_chain ground owner s t first pages p (remove es taken.place) chain among w
             full
-            (λ k b c. inl (b, (less_to es taken.place key distinct taken.within taken.there (record { key = k; body = b }) c).1));
-        entries = λ k b. (λ o. elim ((on k b).0 o) [ inl never ↦ absurd never | inr r ↦ r ], λ o. (on k b).1 (inr o));
+            (λ k b c. inl (
+              b,
+              (less_to es taken.place key distinct taken.within taken.there
+                  (record { key = k; body = b }) c).1,
+            ));
+        entries = λ k b. (
+          λ o. elim ((on k b).0 o) [ inl never ↦ absurd never | inr r ↦ r ],
+          λ o. (on k b).1 (inr o),
+        );
         owners = w.owners;
         same = λ q lack. bytes_same s t q
             (w.others q (λ e. no_entry (entries_at s p) key held.0
@@ -132,7 +139,11 @@ put_here ground owner first key body s t pages p es chain among ex w =
           rewritten_chain ground owner s t first pages p es chain among w
           (λ _ none. inserted (remove old ex.place) ex.place e within (sym ex.is ∙ none))
           (λ k b c. elim (to k b c) [
-            | inl same ↦ inl (held.0, subst (λ (n : List ℕ). Contains old (record { key = n; body = held.0 })) (sym same.0) held.1)
+            | inl same ↦ inl (
+              held.0,
+              subst (λ (n : List ℕ). Contains old (record { key = n; body = held.0 }))
+                  (sym same.0) held.1,
+            )
             | inr less ↦ inl (b, less.1)
           ]);
       entries =
@@ -176,7 +187,10 @@ module _ (ground : Ground) (owner first : ℕ) (key body : List ℕ) (s u t : Sh
       → ((k ≡ key) × (b ≡ body))
       ⊎ ((k ≢ key) × Contains old (record { key = k; body = b })) =
       λ k b c. elim (more_to old (length old) e (record { key = k; body = b }) c) [
-        | inl same ↦ inl (sym (ap (λ (x : Entry). x.key) same), sym (ap (λ (x : Entry). x.body) same))
+        | inl same ↦ inl (
+          sym (ap (λ (x : Entry). x.key) same),
+          sym (ap (λ (x : Entry). x.body) same),
+        )
         | inr there ↦ inr (other_key p k b among there, there)
       ] in
       let on = rewritten_on ground owner u t first pages p es d.chain among w (λ k b. (k ≡ key)
@@ -401,8 +415,11 @@ module _ (ground : Ground) (owner first : ℕ) (s u : Sheets) (pages : List ℕ)
             λ q past off out. bytes_stay q (λ e. off (subst (Contains pages) (sym e) last_in))
             (λ e. out (subst (Contains (pages ++ fresh ∷ [])) (sym e) (Contains-push pages fresh)))
             ∙ d.beside q off ∙ claimed.owned.bytes q past;
-        came = λ q c. elim (Contains-push_cases pages fresh q c)
-            [ inl old ↦ inl old | inr e ↦ inr (subst (λ n. slice_get s.owners n ≡ Some 0) e claimed.was_free) ];
+        came = λ q c. elim (Contains-push_cases pages fresh q c) [
+          | inl old ↦ inl old
+          | inr e ↦ inr
+              (subst (λ n. slice_get s.owners n ≡ Some 0) e claimed.was_free)
+        ];
         left = λ q c. inl (Contains-append_left pages (fresh ∷ []) q c);
       };
     }

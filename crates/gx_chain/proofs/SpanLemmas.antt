@@ -208,7 +208,11 @@ module _ (ground : Ground) (owner : ℕ) (s : Sheets) (first_of : ℕ → ℕ) (
           }),
       λ on. (let r = between_to on.page on.among in
           (map_is key body).1
-          (record { bucket = r.bucket; below = r.below; on = record { page = on.page; among = r.among; here = on.here } })),
+          (record {
+            bucket = r.bucket;
+            below = r.below;
+            on = record { page = on.page; among = r.among; here = on.here };
+          })),
     )
 
     pub between_gathered : (found : List LeafEntry) → found ≡ inside_on s lo hi those

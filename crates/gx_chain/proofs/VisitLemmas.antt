@@ -32,7 +32,10 @@ visited_none ground owner sheets first before visits same none = record {
   fit = fit_none ground owner sheets first;
   seen = λ q. (
     λ is. inl (ap (λ (x : List Bool). slice_get x q) (sym same) ∙ is),
-    λ c. elim c [ inl is ↦ ap (λ (x : List Bool). slice_get x q) same ∙ is | inr among ↦ absurd (contains_none q among) ],
+    λ c. elim c [
+      | inl is ↦ ap (λ (x : List Bool). slice_get x q) same ∙ is
+      | inr among ↦ absurd (contains_none q among)
+    ],
   );
   keys = λ key. (
     λ is. absurd (false≢true (ap (λ (x : List (Vec ℕ)). has_key x key) (sym none) ∙ is)),
@@ -75,13 +78,20 @@ module _ (ground : Ground) (owner : ℕ) (sheets : Sheets) (first : ℕ) (before
       apart = λ q r k b c in_q in_r at_q at_r. elim (Contains-push_cases front number q in_q) [
         | inl before ↦ elim (Contains-push_cases front number r in_r) [
           | inl before_too ↦ v.fit.apart q r k b c before before_too at_q at_r
-          | inr same ↦ absurd (added.fresh k
-              (c, subst (λ n. Contains (entries_at sheets n) (record { key = k; body = c })) (sym same) at_r)
+          | inr same ↦ absurd (added.fresh k (
+            c,
+            subst (λ n. Contains (entries_at sheets n) (record { key = k; body = c }))
+                (sym same) at_r,
+          )
               ((v.keys k).1 (b, record { page = q; among = before; here = at_q })))
         ]
         | inr same ↦ elim (Contains-push_cases front number r in_r) [
           | inl before ↦
-              absurd (added.fresh k (b, subst (λ n. Contains (entries_at sheets n) (record { key = k; body = b })) (sym same) at_q)
+              absurd (added.fresh k (
+                b,
+                subst (λ n. Contains (entries_at sheets n) (record { key = k; body = b }))
+                    (sym same) at_q,
+              )
               ((v.keys k).1 (c, record { page = r; among = before; here = at_r })))
           | inr same_too ↦ sym same ∙ same_too
         ]
@@ -116,15 +126,33 @@ module _ (ground : Ground) (owner : ℕ) (sheets : Sheets) (first : ℕ) (before
       λ is. elim ((added.those key).0 is) [
         | inl of ↦ (of.0, record { page = number; among = Contains-push front number; here = of.1 })
         | inr was ↦
-            (let on = (v.keys key).0 was in
-            (on.0, record { page = on.1.page; among = Contains-append_left front (number ∷ []) on.1.page on.1.among; here = on.1.here }))
+            (let on = (v.keys key).0 was in (
+              on.0,
+              record {
+                page = on.1.page;
+                among = Contains-append_left front
+                    (number ∷ []) on.1.page on.1.among;
+                here = on.1.here;
+              },
+            ))
       ],
       λ on. elim (Contains-push_cases front number on.1.page on.1.among) [
         | inl before ↦ (added.those key).1
-            (inr ((v.keys key).1 (on.0, record { page = on.1.page; among = before; here = on.1.here })))
+            (inr ((v.keys key).1 (
+              on.0,
+              record {
+                page = on.1.page;
+                among = before;
+                here = on.1.here;
+              },
+            )))
         | inr same ↦
             (added.those key).1
-            (inl (on.0, subst (λ n. Contains (entries_at sheets n) (record { key = key; body = on.0 })) (sym same) on.1.here))
+            (inl (
+              on.0,
+              subst (λ n. Contains (entries_at sheets n)
+                  (record { key = key; body = on.0 })) (sym same) on.1.here,
+            ))
       ],
     );
   }

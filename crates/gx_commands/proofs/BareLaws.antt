@@ -63,8 +63,10 @@ behind_bare : (run rest : List ℕ) → IsLineWord (Bare run) → EndsWord rest
     → HasWords rest ↔ HasWords (run ++ rest)
 behind_bare run rest word ends =
     let first = first_again (run ++ rest) (Bare run) rest
-    (record { blanks = []; parts = refl; are_blanks = tt; is_word = word; ends = ends }) in
-    ((λ h. words_before (run ++ rest) (Bare run, rest) first h), (λ h. words_after (run ++ rest) (Bare run, rest) first h))
+    (record { blanks = []; parts = refl; are_blanks = tt; is_word = word; ends = ends }) in (
+      (λ h. words_before (run ++ rest) (Bare run, rest) first h),
+      (λ h. words_after (run ++ rest) (Bare run, rest) first h),
+    )
 
 -- ---- many of them
 

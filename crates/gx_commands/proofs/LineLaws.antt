@@ -34,8 +34,13 @@ ended_at byte text None at first e = cc
 ended_at byte text (Some k) at first e =
     let same : k ≡ at = ap (λ o. unwrap_or o 0) e in
     subst (λ n. AllByRecursion (λ b. (b == byte) ≡ false) (take n text)
-    × ((n ≤ length text) × (slice_index text n ≡ byte))) same
-    (none_before byte text k (λ j lt _. first.0.before j (omega arith) lt), (let below : k < length text = first.0.high in omega arith, eqb-true (slice_index text k) byte first.1))
+    × ((n ≤ length text) × (slice_index text n ≡ byte))) same (
+      none_before byte text k (λ j lt _. first.0.before j (omega arith) lt),
+      (
+        let below : k < length text = first.0.high in omega arith,
+        eqb-true (slice_index text k) byte first.1,
+      ),
+    )
 
 -- and of one that found none
 pub not_ended : (byte : ℕ) (text : List ℕ) (found : Option ℕ) (n : ℕ)
@@ -264,12 +269,20 @@ byte_before : (b : ℕ) (bs : List ℕ) (ended : List (List ℕ)) (rest : List �
 byte_before b bs [] rest other h =
     record { joined = ap (λ (t : List ℕ). b ∷ t) h.joined; lines = tt; behind = (other, h.behind) }
 byte_before b bs (line ∷ lines) rest other h =
-    record { joined = ap (λ (t : List ℕ). b ∷ t) h.joined; lines = ((other, h.lines.0), h.lines.1); behind = h.behind }
+    record {
+      joined = ap (λ (t : List ℕ). b ∷ t) h.joined;
+      lines = ((other, h.lines.0), h.lines.1);
+      behind = h.behind;
+    }
 
 lf_before : (b : ℕ) (bs : List ℕ) (parts : Parts) → b ≡ 10 → ArePartsOf bs parts
     → ArePartsOf (b ∷ bs) (with_ended [] parts)
 lf_before b bs parts lf h =
-    record { joined = ap (λ (t : List ℕ). 10 ∷ t) h.joined ∙ ap (λ (n : ℕ). n ∷ bs) (sym lf); lines = (tt, h.lines); behind = h.behind }
+    record {
+      joined = ap (λ (t : List ℕ). 10 ∷ t) h.joined ∙ ap (λ (n : ℕ). n ∷ bs) (sym lf);
+      lines = (tt, h.lines);
+      behind = h.behind;
+    }
 
 pub parts_joined : (script : List ℕ) → ArePartsOf script (parts_of script)
 parts_joined [] = record { joined = refl; lines = tt; behind = tt }

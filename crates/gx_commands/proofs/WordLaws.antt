@@ -40,7 +40,12 @@ pub record Blanks (line rest : List ℕ) : Type 0 where
 blanks_step : (t : Bool) (b : ℕ) (bs : List ℕ) → is_line_blank b ≡ t → Blanks bs (past_blanks bs)
     → Blanks (b ∷ bs) (cond t (past_blanks bs) (b ∷ bs))
 blanks_step true b bs is h =
-    record { blanks = b ∷ h.blanks; parts = ap (λ (ys : List ℕ). b ∷ ys) h.parts; are_blanks = (is, h.are_blanks); first = h.first }
+    record {
+      blanks = b ∷ h.blanks;
+      parts = ap (λ (ys : List ℕ). b ∷ ys) h.parts;
+      are_blanks = (is, h.are_blanks);
+      first = h.first;
+    }
 blanks_step false b bs is h = record { blanks = []; parts = refl; are_blanks = tt; first = is }
 
 pub blanks_of : (line : List ℕ) → Blanks line (past_blanks line)
@@ -146,7 +151,10 @@ bare_word b bs n other inside all = let k : 1 + n ≡ suc n = omega arith in
     rw k (other, (inside, all))
 
 bare_split : (b : ℕ) (bs : List ℕ) → eqb b 34 ≡ false → is_line_blank b ≡ false
-    → Splits (b ∷ bs) (Bare (take (prefix_len is_inside (b ∷ bs)) (b ∷ bs)), drop (prefix_len is_inside (b ∷ bs)) (b ∷ bs))
+    → Splits (b ∷ bs) (
+      Bare (take (prefix_len is_inside (b ∷ bs)) (b ∷ bs)),
+      drop (prefix_len is_inside (b ∷ bs)) (b ∷ bs),
+    )
 bare_split b bs other inside =
     let n = prefix_len is_inside (b ∷ bs) in
     let run = run_of (b ∷ bs) in
@@ -167,7 +175,11 @@ quoted_split b bs (Some y) x is e h =
     (λ ends k.
     let q = quoted_found bs y.0 y.1 e in
     subst (Splits (b ∷ bs)) (same_Some (Quoted y.0, y.1) x k)
-    (record { parts = ap (λ (n : ℕ). n ∷ bs) is ∙ q.parts; is_word = q.is_token; ends = ends_is y.1 ends }))
+    (record {
+      parts = ap (λ (n : ℕ). n ∷ bs) is ∙ q.parts;
+      is_word = q.is_token;
+      ends = ends_is y.1 ends;
+    }))
     (λ _ k. absurd cc)
     h
 
@@ -175,8 +187,10 @@ pub split_found : (text : List ℕ) (x : Word × List ℕ) → NoBlankFirst text
     → Splits text x
 split_found [] x free e = absurd cc
 split_found (b ∷ bs) x free e =
-    let bare : Word × List ℕ =
-    (Bare (take (prefix_len is_inside (b ∷ bs)) (b ∷ bs)), drop (prefix_len is_inside (b ∷ bs)) (b ∷ bs)) in
+    let bare : Word × List ℕ = (
+      Bare (take (prefix_len is_inside (b ∷ bs)) (b ∷ bs)),
+      drop (prefix_len is_inside (b ∷ bs)) (b ∷ bs),
+    ) in
     cond_both (eqb b 34) (quoted_word (split_quoted bs)) (Some bare)
     (λ (r : Option (Word × List ℕ)). r ≡ Some x → Splits (b ∷ bs) x)
     (λ is h. quoted_split b bs (split_quoted bs) x (eqb-true b 34 is) refl h)
@@ -189,7 +203,13 @@ unfolding first_word
 first_found line x e =
     let b = blanks_of line in
     let s = split_found (past_blanks line) x b.first e in
-    record { blanks = b.blanks; parts = b.parts ∙ ap (λ (ys : List ℕ). b.blanks ++ ys) s.parts; are_blanks = b.are_blanks; is_word = s.is_word; ends = s.ends }
+    record {
+      blanks = b.blanks;
+      parts = b.parts ∙ ap (λ (ys : List ℕ). b.blanks ++ ys) s.parts;
+      are_blanks = b.are_blanks;
+      is_word = s.is_word;
+      ends = s.ends;
+    }
 
 -- each word has a byte
 pub spelling_length : (w : Word) → IsLineWord w → 0 < length (spelling w)
@@ -200,4 +220,10 @@ spelling_length (Quoted text) h = omega arith
 pub first_shorter : (line : List ℕ) (w : Word) (rest : List ℕ) → FirstWord line w rest
     → length rest < length line
 first_shorter line w rest f =
-    omega (arith, ap length f.parts, length-append f.blanks (spelling w ++ rest), length-append (spelling w) rest, spelling_length w f.is_word)
+    omega (
+      arith,
+      ap length f.parts,
+      length-append f.blanks (spelling w ++ rest),
+      length-append (spelling w) rest,
+      spelling_length w f.is_word,
+    )

@@ -27,8 +27,10 @@ abbrev pub split_word : List ℕ → Option (Word × List ℕ)
 split_word [] = None
 split_word (b ∷ bs) =
     if b == 34 then quoted_word (split_quoted bs)
-    else Some
-    (Bare (take (prefix_len (λ c. not (is_line_blank c)) (b ∷ bs)) (b ∷ bs)), drop (prefix_len (λ c. not (is_line_blank c)) (b ∷ bs)) (b ∷ bs))
+    else Some (
+      Bare (take (prefix_len (λ c. not (is_line_blank c)) (b ∷ bs)) (b ∷ bs)),
+      drop (prefix_len (λ c. not (is_line_blank c)) (b ∷ bs)) (b ∷ bs),
+    )
 
 -- the first word of a line, and what follows it
 unfoldable pub first_word : List ℕ → Option (Word × List ℕ)

@@ -7,7 +7,12 @@ use Rattle.gx_device.specs.Crash.{Image, EachImage, Through, LeavesOnly, Outside
 
 -- no call
 pub started : (Q : Moment → Type 0) (old : Content) → Q old.now → Through Q old old
-started Q old here = record { between = []; past = sym (append-nil old.past); each = All-nil Q; now = here }
+started Q old here = record {
+  between = [];
+  past = sym (append-nil old.past);
+  each = All-nil Q;
+  now = here;
+}
 
 -- one run after another
 pub joined : (Q : Moment → Type 0) (old mid new : Content) → Through Q old mid → Through Q mid new
@@ -48,7 +53,13 @@ weakened Q R f old new run = record {
 
 -- the same, from a fact on where it began
 pub outside_same : (free : ℕ → Type 0) (m : Moment) → Outside free m m
-outside_same free m = record { count = refl; said = refl; shelf = refl; blocks = λ n taken. refl; pending = λ n taken. refl }
+outside_same free m = record {
+  count = refl;
+  said = refl;
+  shelf = refl;
+  blocks = λ n taken. refl;
+  pending = λ n taken. refl;
+}
 
 pub outside_twice : (free : ℕ → Type 0) (a b c : Moment) → Outside free a b → Outside free b c
     → Outside free a c
@@ -116,7 +127,8 @@ synced P old new s leaves = ticked (EachImage P) old new s.time leaves
     (no_more old.now new.now (ap (λ (l : List (List ℕ)). length l) s.blocks) s.said s.shelf
     (λ n. ap (λ (l : List (List ℕ)). get_or l n []) s.blocks) s.kept P leaves)
 
--- a run outside of free blocks that keeps a fact from which the images follow, and the fact at its end
+-- a run outside of free blocks that keeps a fact from which the images follow, and the fact at its
+-- end
 pub guarded : (free : ℕ → Type 0) (F : Moment → Type 0) (P : Image → Type 0) (old new : Content)
     → ((m : Moment) → Outside free old.now m → F m) → ((m : Moment) → F m → EachImage P m)
     → Through (Outside free old.now) old new

@@ -24,8 +24,13 @@ bytes_in other = []
 
 abbrev pub piece_part : List Value → ℕ → List ℕ → Part
 piece_part key j piece =
-    record
-    { child = 0; rec = record { key = key ++ value.Int (pos j) ∷ []; fields = value.Bytes piece ∷ [] } }
+    record {
+      child = 0;
+      rec = record {
+        key = key ++ value.Int (pos j) ∷ [];
+        fields = value.Bytes piece ∷ [];
+      };
+    }
 
 -- pieces under their numbers, from j on
 abbrev pub numbered : List Value → ℕ → List (List ℕ) → List Part

@@ -132,9 +132,16 @@ module _ (form : Form) (i : ℕ) (c : Code) (sound : IsEncode form i c) (key : L
       let under = whole_key form.keys key p.rec.key req.key_fits of.fits.key of.under in
       let again = ap (changed i (coded c)) is
       ∙ coded_again c i form.fields p.rec.fields v sound.place sound.kind part_fits read.1 in (
-        record { key = subst (AreFit form.keys) (sym copied) req.key_fits; fields = subst (AreFit form.fields) (sym is) (decoded_fit c i form.fields p.rec.fields v sound.place read.0 part_fits) },
+        record {
+          key = subst (AreFit form.keys) (sym copied) req.key_fits;
+          fields = subst (AreFit form.fields) (sym is)
+              (decoded_fit c i form.fields p.rec.fields v sound.place read.0 part_fits);
+        },
         copied,
-        (λ j. record { child = sym child j; rec = record { key = (copied ∙ sym under) j; fields = again j } } ∷ []),
+        (λ j. record {
+          child = sym child j;
+          rec = record { key = (copied ∙ sym under) j; fields = again j };
+        } ∷ []),
       )
 
   pub none_gathered : IsRead (code_of c) (get_or form.fields i no_field).kind
@@ -160,7 +167,11 @@ short_all (r ∷ runs) n le few =
 pub none_text : (most : ℕ) (bytes : List ℕ) → most ≤ 200 → IsUnrle most bytes None
     → IsRead (code_of code.Rle) (kind.Text most) bytes None
 none_text most bytes few none (value.Text text) fits e =
-    none text (record { fits = fits; short = short_all (runs_of text) most (subst (λ (n : ℕ). n ≤ most) (ap length (sym (runs_joined text))) fits.0) few }) e
+    none text (record {
+      fits = fits;
+      short = short_all (runs_of text) most
+          (subst (λ (n : ℕ). n ≤ most) (ap length (sym (runs_joined text))) fits.0) few;
+    }) e
 none_text most bytes few none (value.Int n) fits e = absurd fits
 none_text most bytes few none (value.Bytes b) fits e = absurd fits
 

@@ -58,7 +58,13 @@ next_is : (previous : Option ℕ) (count b room : ℕ) → is_next previous coun
 next_is previous count b room e =
     let t = five (is_same previous b) (nat_le 1 count) (nat_le count 200) (nat_le count room)
     (is_printable b) e in
-    record { apart = differs previous b t.0; some = at_most_from_nat_le 1 count t.1; short = at_most_from_nat_le count 200 t.2; few = at_most_from_nat_le count room t.3; printable = t.4 }
+    record {
+      apart = differs previous b t.0;
+      some = at_most_from_nat_le 1 count t.1;
+      short = at_most_from_nat_le count 200 t.2;
+      few = at_most_from_nat_le count room t.3;
+      printable = t.4;
+    }
 
 is_next_by : (previous : Option ℕ) (count b room : ℕ) → IsNext previous count b room
     → is_next previous count b room ≡ true
@@ -91,7 +97,14 @@ run_more longest bytes previous text more pushed count b now e is =
     let runs : runs_of pushed ≡ runs_of text ++ (count, b) ∷ [] = ap runs_of text_is
     ∙ run_behind text k.0 b apart ∙ ap (λ (c : ℕ). runs_of text ++ (c, b) ∷ []) (sym k.1) in
     record {
-      few = omega (arith, ap length is, length-append text (replicate count b), length-replicate count b, room, few);
+      few = omega (
+        arith,
+        ap length is,
+        length-append text (replicate count b),
+        length-replicate count b,
+        room,
+        few,
+      );
       printable = ap (list_all is_printable) is ∙ printable_append text (replicate count b)
           ∙ (λ i. now.printable i && printable_run count b n.printable i);
       short = subst AreShort (sym runs) (short_behind (runs_of text) (count, b) now.short n.short);
@@ -105,8 +118,11 @@ run_more longest bytes previous text more pushed count b now e is =
 
 pub all_read : (longest : ℕ) (bytes : List ℕ) (previous : Option ℕ) (text : List ℕ)
     → IsReading longest bytes previous text [] → IsUnrle longest bytes (Some text)
-all_read longest bytes previous text now =
-    (record { fits = (now.few, now.printable); short = now.short }, sym (append-nil (rle text)) ∙ now.so_far)
+all_read longest bytes previous text now = (
+  record { fits = (now.few, now.printable); short = now.short },
+  sym (append-nil (rle text))
+      ∙ now.so_far,
+)
 
 pub odd_read : (longest : ℕ) (bytes : List ℕ) (previous : Option ℕ) (text : List ℕ) (b : ℕ)
     → IsReading longest bytes previous text (b ∷ []) → IsUnrle longest bytes None
@@ -160,7 +176,14 @@ not_next longest bytes previous text more count b now e other coded same =
     let few = coded.fits.0 in
     let sizes = ap length whole in
     let room : count ≤ longest - length text =
-    omega (arith, few, sizes, length-append text (replicate count b ++ joined run.more), length-append (replicate count b) (joined run.more), length-replicate count b) in
+    omega (
+      arith,
+      few,
+      sizes,
+      length-append text (replicate count b ++ joined run.more),
+      length-append (replicate count b) (joined run.more),
+      length-replicate count b,
+    ) in
     let printable = both (list_all is_printable text)
     (list_all is_printable (replicate count b ++ joined run.more))
     (sym (ap (list_all is_printable) whole
@@ -169,7 +192,13 @@ not_next longest bytes previous text more count b now e other coded same =
     (ap (λ (c : ℕ). list_all is_printable (replicate c b ++ joined run.more)) (sym k.1)
     ∙ printable.1) in
     let next : IsNext previous count b (longest - length text) =
-    record { apart = λ p. at.1 (sym now.last ∙ p); some = at.0; short = short_at (runs_of text) run.more (count, b) (subst AreShort run.is coded.short); few = room; printable = b_printable } in
+    record {
+      apart = λ p. at.1 (sym now.last ∙ p);
+      some = at.0;
+      short = short_at (runs_of text) run.more (count, b) (subst AreShort run.is coded.short);
+      few = room;
+      printable = b_printable;
+    } in
     true_false (sym (is_next_by previous count b (longest - length text) next) ∙ e)
   where
     true_false : true ≡ false → ⊥

@@ -182,8 +182,12 @@ carrier : (form : Form) (i : ℕ) (c : Code) (name : List ℕ) (child : ℕ)
 carrier form i c name child carries =
     let o = is_other form i name (is_field form.fields name)
     (nat_eq (first_in form.fields name) i) refl refl carries in
-    record
-    { rest = refl; keys = refl; kind = other_kind c i form.fields name o.apart; each = λ r is. carried_by form i c name r o is }
+    record {
+      rest = refl;
+      keys = refl;
+      kind = other_kind c i form.fields name o.apart;
+      each = λ r is. carried_by form i c name r o is;
+    }
 
 -- ---- the laws
 
@@ -200,8 +204,13 @@ pub encode_laws : (form : Form) (i : ℕ) (c : Code) → IsEncode form i c
     → MappingLaws (encode_rule form i c)
 encode_laws form i c sound = record {
   fit = λ r p is there. subst (λ (q : Part). (q.child < 1)
-      × IsOf (encode_form i c form) q.rec) (sym (the_one p (encode_part i c r) there))
-      (omega arith, record { key = is.key; fields = changed_fit c i form.fields r.fields sound.place sound.kind is.fields });
+      × IsOf (encode_form i c form) q.rec) (sym (the_one p (encode_part i c r) there)) (
+        omega arith,
+        record {
+          key = is.key;
+          fields = changed_fit c i form.fields r.fields sound.place sound.kind is.fields;
+        },
+      );
   in_order = λ r is. sorted_one (encode_part i c r);
   apart = λ r s p q is_r is_s a b child key.
       ap (λ (x : Part). x.rec.key) (sym (the_one p (encode_part i c r) a)) ∙ key ∙ ap
@@ -212,8 +221,11 @@ encode_laws form i c sound = record {
       (ap (λ (ps : List Part). get_or ps 0 (encode_part i c r)) e);
   keys_lead = λ child lt rest. ([], sym (append-nil form.keys));
   key_leads =
-      λ r p is there rest.
-      ([], ap (λ (x : Part). x.rec.key) (the_one p (encode_part i c r) there) ∙ sym (append-nil r.key));
+      λ r p is there rest. (
+        [],
+        ap (λ (x : Part). x.rec.key) (the_one p (encode_part i c r) there)
+            ∙ sym (append-nil r.key),
+      );
   skipped = λ r p span is there skips. cc;
   carried = λ name child lt carries. carrier form i c name child carries;
   indexed = λ name child is. cc;

@@ -109,8 +109,11 @@ shortest_extended (suc k) bytes =
 
 pub length_extended : (n : ℕ) (bytes : List ℕ) → length bytes ≤ n → length (extended n bytes) ≡ n
 length_extended n bytes le =
-    omega
-    (arith, length-append (replicate (n - length bytes) (sign_of bytes)) bytes, length-replicate (n - length bytes) (sign_of bytes))
+    omega (
+      arith,
+      length-append (replicate (n - length bytes) (sign_of bytes)) bytes,
+      length-replicate (n - length bytes) (sign_of bytes),
+    )
 
 -- ---- ints
 

@@ -36,10 +36,17 @@ with_longest b (run ∷ runs) are = by_test (nat_eq b run.1) refl
   where
     by_test : (t : Bool) → t ≡ nat_eq b run.1
         → AreLongest None (cond t ((suc run.0, b) ∷ runs) ((1, b) ∷ run ∷ runs))
-    by_test true is =
-        (omega arith, no_some b, subst (λ (x : ℕ). AreLongest (Some x) runs) (sym (equal_from_nat_eq b run.1 (sym is))) are.2)
-    by_test false is =
-        (omega arith, no_some b, (are.0, (λ e. other b run.1 (sym is) (some_same b run.1 e)), are.2))
+    by_test true is = (
+      omega arith,
+      no_some b,
+      subst (λ (x : ℕ). AreLongest (Some x) runs)
+          (sym (equal_from_nat_eq b run.1 (sym is))) are.2,
+    )
+    by_test false is = (
+      omega arith,
+      no_some b,
+      (are.0, (λ e. other b run.1 (sym is) (some_same b run.1 e)), are.2),
+    )
 
 pub runs_joined : (text : List ℕ) → joined (runs_of text) ≡ text
 runs_joined [] = refl

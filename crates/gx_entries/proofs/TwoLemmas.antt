@@ -279,7 +279,11 @@ module _ (node : Node AnyMapping) (l : LayerNode AnyMapping) (is : node ≡ node
         stored false e =
             inl (λ i. record {
               child = 1;
-              rec = record { key = has.0; fields = same_Some vs (chosen (map not x.mask) fields) e i };
+              rec = record {
+                key = has.0;
+                fields = same_Some vs
+                    (chosen (map not x.mask) fields) e i;
+              };
             })
 
     pub node_bodies : (q : Node AnyMapping) (rest : Option (List Value)) (body : List ℕ)

@@ -59,8 +59,11 @@ ItemAgain {X} item Text = (x : X) (bytes rest : List ℕ) → Text x bytes rest
     → (want item bytes ≡ Ok (x, rest)) × (want (or_comma item) bytes ≡ Ok (Some x, rest))
 
 name_item : ItemAgain a_word NameText
-name_item name bytes rest h =
-    (name_again name bytes rest h, want_again (or_comma a_word) bytes rest (Word name) (Some name) h refl)
+name_item name bytes rest h = (
+  name_again name bytes rest h,
+  want_again (or_comma a_word) bytes rest (Word name)
+      (Some name) h refl,
+)
 
 bound_item : ItemAgain a_bound BoundText
 bound_item (value.Int z) bytes rest t =
@@ -70,12 +73,18 @@ bound_item (value.Int z) bytes rest t =
     let is : signed_number text ≡ Some z =
     cond-true (is_number text) _ _ (is_number-true text number)
     ∙ (ap signed_in_range t.1.1 ∙ in_range_again z t.0) in
-    let means = ap int_bound is in
-    (want_again a_bound bytes rest (Number text) (value.Int z) first means, want_again (or_comma a_bound) bytes rest (Number text) (Some (value.Int z)) first (ap (map_ok (λ v. Some v)) means))
+    let means = ap int_bound is in (
+      want_again a_bound bytes rest (Number text) (value.Int z) first means,
+      want_again (or_comma a_bound) bytes rest (Number text) (Some (value.Int z)) first
+          (ap (map_ok (λ v. Some v)) means),
+    )
 bound_item (value.Text w) bytes rest t =
     let means : a_bound (Quoted (doubled w)) ≡ Ok (value.Text w) =
-    ap (λ (v : List ℕ). Ok (value.Text v)) (unquoted-doubled w) in
-    (want_again a_bound bytes rest (Quoted (doubled w)) (value.Text w) t means, want_again (or_comma a_bound) bytes rest (Quoted (doubled w)) (Some (value.Text w)) t (ap (map_ok (λ v. Some v)) means))
+    ap (λ (v : List ℕ). Ok (value.Text v)) (unquoted-doubled w) in (
+      want_again a_bound bytes rest (Quoted (doubled w)) (value.Text w) t means,
+      want_again (or_comma a_bound) bytes rest (Quoted (doubled w)) (Some (value.Text w)) t
+          (ap (map_ok (λ v. Some v)) means),
+    )
 bound_item (value.Bytes w) bytes rest t = absurd t
 
 more_again : {X : Type 0} (item : Lexeme → Result X Why) (Text : X → List ℕ → List ℕ → Type 0)
@@ -139,7 +148,12 @@ encode_again : (name : List ℕ) (c : Code) (bytes rest : List ℕ)
     → encode_at bytes ≡ Ok (heads.Encode name c, rest)
 unfolding encode_at
 encode_again name c bytes rest t =
-    rw (open_again bytes t.0 t.1, name_again name t.0 t.2.0 t.2.1, code_again c t.2.0 t.2.2.0 t.2.2.1, comma_again t.2.2.0 rest t.2.2.2) refl
+    rw (
+      open_again bytes t.0 t.1,
+      name_again name t.0 t.2.0 t.2.1,
+      code_again c t.2.0 t.2.2.0 t.2.2.1,
+      comma_again t.2.2.0 rest t.2.2.2,
+    ) refl
 
 segment_again : (names : List (List ℕ)) (bytes rest : List ℕ)
     → (the Open ⨾ ItemsText NameText names) bytes rest
@@ -148,7 +162,12 @@ unfolding segment_at
 segment_again [] bytes rest t = absurd t.2
 segment_again (n ∷ ns) bytes rest t =
     let u = t.2 in
-    rw (open_again bytes t.0 t.1, name_again n t.0 u.0 u.1, more_again a_word NameText name_item the_word ns (n ∷ []) u.0 rest (suc (length u.0)) (omega arith) u.2) refl
+    rw (
+      open_again bytes t.0 t.1,
+      name_again n t.0 u.0 u.1,
+      more_again a_word NameText name_item the_word ns (n ∷ []) u.0 rest (suc (length u.0))
+          (omega arith) u.2,
+    ) refl
 
 partition_again : (name : List ℕ) (bounds : List Value) (bytes rest : List ℕ)
     → (the Open ⨾ NameText name ⨾ ItemsText BoundText bounds) bytes rest
@@ -157,7 +176,13 @@ unfolding partition_at
 partition_again name [] bytes rest t = absurd t.2.2
 partition_again name (b ∷ bs) bytes rest t =
     let u = t.2.2 in
-    rw (open_again bytes t.0 t.1, name_again name t.0 t.2.0 t.2.1, (bound_item b t.2.0 u.0 u.1).0, more_again a_bound BoundText bound_item bound_text_shorter bs (b ∷ []) u.0 rest (suc (length u.0)) (omega arith) u.2) refl
+    rw (
+      open_again bytes t.0 t.1,
+      name_again name t.0 t.2.0 t.2.1,
+      (bound_item b t.2.0 u.0 u.1).0,
+      more_again a_bound BoundText bound_item bound_text_shorter bs (b ∷ []) u.0 rest
+          (suc (length u.0)) (omega arith) u.2,
+    ) refl
 
 divide_again : (n : ℕ) (bytes rest : List ℕ) → (the Open ⨾ SizeText 16000 n ⨾ the Comma) bytes rest
     → divide_at bytes ≡ Ok (heads.Divide n, rest)
@@ -226,7 +251,11 @@ kids_again term Text read short (u ∷ []) before places after bytes rest (suc f
     rw (read u places after bytes t.0 t.1, ends_again t.0 rest t.2) refl
 kids_again term Text read short (u ∷ v ∷ vs) before places after bytes rest (suc fuel) lt (mid, t) =
     let less : length t.2.0 < fuel =
-    omega (arith, short u places mid bytes t.0 t.1, first_shorter t.0 Comma t.2.0 (λ e. absurd cc) t.2.1) in
+    omega (
+      arith,
+      short u places mid bytes t.0 t.1,
+      first_shorter t.0 Comma t.2.0 (λ e. absurd cc) t.2.1,
+    ) in
     let one : kids_at term (suc fuel) before places bytes ≡ kids_at term fuel
     (before ++ u ∷ []) mid t.2.0 =
     rw (read u places mid bytes t.0 t.1, goes_on_again t.0 t.2.0 t.2.1) refl in
@@ -251,7 +280,12 @@ two_again term Text read [] places after bytes rest n t = absurd t
 two_again term Text read (u ∷ []) places after bytes rest n t = absurd (omega (arith, n))
 two_again term Text read (u ∷ v ∷ []) places after bytes rest n (mid, t) =
     let w = t.2.2 in
-    rw (read u places mid bytes t.0 t.1, comma_again t.0 t.2.0 t.2.1, read v mid after t.2.0 w.0 w.1, close_again w.0 rest w.2) refl
+    rw (
+      read u places mid bytes t.0 t.1,
+      comma_again t.0 t.2.0 t.2.1,
+      read v mid after t.2.0 w.0 w.1,
+      close_again w.0 rest w.2,
+    ) refl
 two_again term Text read (u ∷ v ∷ w ∷ ws) places after bytes rest n t = absurd (omega (arith, n))
 
 pub behind_again : (term : Reader) (Text : TextOf) → IsRead term Text → Shortens Text
@@ -276,7 +310,13 @@ pub term_again : (levels : ℕ) → IsRead (term_at levels) (TermText levels)
 unfolding term_at term_behind
 term_again zero t before after bytes rest h = absurd h
 term_again (suc levels) (node top kids) before after bytes rest h =
-    rw (head_again levels top bytes h.0 h.1, behind_again (term_at levels) (TermText levels) (term_again levels) (term_shorter levels) (arity top) (list_of kids) (before ++ left_of bytes ∷ []) after h.0 rest h.2, from_list kids) refl
+    rw (
+      head_again levels top bytes h.0 h.1,
+      behind_again (term_at levels) (TermText levels)
+          (term_again levels) (term_shorter levels) (arity top) (list_of kids)
+          (before ++ left_of bytes ∷ []) after h.0 rest h.2,
+      from_list kids,
+    ) refl
 
 -- ---- sides
 
@@ -322,7 +362,11 @@ link_again : (l : Linkset) (ts : List TermTree) (places after bytes rest : List 
     → link_side_at l places bytes ≡ Ok ((link_side l ts, after), rest)
 unfolding link_side_at
 link_again l ts places after bytes rest h =
-    rw (open_again bytes h.0 h.1, behind_again (term_at 15) (TermText 15) (term_again 15) (term_shorter 15) (linkset_arity l) ts places after h.0 rest h.2) refl
+    rw (
+      open_again bytes h.0 h.1,
+      behind_again (term_at 15) (TermText 15) (term_again 15)
+          (term_shorter 15) (linkset_arity l) ts places after h.0 rest h.2,
+    ) refl
 
 pub side_again : (s : SideTree) (before after bytes rest : List ℕ)
     → SideText s before after bytes rest → side_at before bytes ≡ Ok ((s, after), rest)
@@ -356,7 +400,10 @@ definitions_again (d ∷ ds) before places after bytes rest (suc fuel) lt (mid, 
     let less : length h.0 < fuel = omega (arith, definition_shorter d places mid bytes h.0 one) in
     let step : definitions_at (suc fuel) before places bytes ≡ definitions_at fuel
     (before ++ d ∷ []) mid h.0 =
-    rw (want_again a_start bytes one.0 (Word d.name) (Some d.name) one.1 refl, definition_again d (places ++ left_of bytes ∷ []) mid one.0 h.0 one.2) refl in
+    rw (
+      want_again a_start bytes one.0 (Word d.name) (Some d.name) one.1 refl,
+      definition_again d (places ++ left_of bytes ∷ []) mid one.0 h.0 one.2,
+    ) refl in
     step ∙ definitions_again ds (before ++ d ∷ []) mid after h.0 rest fuel less h.2
     ∙ ap (λ (all : List DefinitionTree). Ok (all, after)) (append_assoc before (d ∷ []) ds)
 
@@ -366,7 +413,11 @@ unfolding equation_at
 all_again [] places bytes rest some h = absurd (omega arith)
 all_again (d ∷ ds) places bytes rest some (mid, h) =
     let one = h.1 in
-    rw (name_again d.name bytes one.0 one.1, definition_again d (left_of bytes ∷ []) mid one.0 h.0 one.2, definitions_again ds (d ∷ []) mid places h.0 rest (suc (length h.0)) (omega arith) h.2) refl
+    rw (
+      name_again d.name bytes one.0 one.1,
+      definition_again d (left_of bytes ∷ []) mid one.0 h.0 one.2,
+      definitions_again ds (d ∷ []) mid places h.0 rest (suc (length h.0)) (omega arith) h.2,
+    ) refl
 
 pub equation_again : (ds : List DefinitionTree) (places bytes : List ℕ)
     → EquationText ds places bytes → equation_at bytes ≡ Ok (ds, places)

@@ -106,11 +106,18 @@ named_fault : (fuel : ℕ) (bytes : List ℕ) (o : Result (Unit {0} × List ℕ)
     → NamedFault (λ b. pass_named b >>= λ d. pass_definitions fuel d.1) bytes f
 named_fault fuel bytes (Err d) f t more e =
     let same : d ≡ f = cc in
-    subst (NamedFault (λ b. pass_named b >>= λ d. pass_definitions fuel d.1) bytes) same
-    (t.0, first_fault pass_named (λ d. pass_definitions fuel d.1) bytes d t.0 t.1, named_end t.0 t.2)
+    subst (NamedFault (λ b. pass_named b >>= λ d. pass_definitions fuel d.1) bytes) same (
+      t.0,
+      first_fault pass_named (λ d. pass_definitions fuel d.1) bytes d t.0 t.1,
+      named_end t.0 t.2,
+    )
 named_fault fuel bytes (Ok y) f t more e =
-    let g = more y.1 e in
-    (t.taken ++ g.0, later_fault pass_named NamedShape (λ _. pass_definitions fuel) bytes y f g.0 t g.1, named_more bytes y g.0 t g.2)
+    let g = more y.1 e in (
+      t.taken ++ g.0,
+      later_fault pass_named NamedShape
+          (λ _. pass_definitions fuel) bytes y f g.0 t g.1,
+      named_more bytes y g.0 t g.2,
+    )
 
 -- a name stands before it
 front_name : (bytes name rest : List ℕ) (before : List Lexeme)
@@ -129,13 +136,21 @@ start_fault : (fuel : ℕ) (bytes : List ℕ) (s : Result (Option (List ℕ) × 
     → FaultInFront (λ b. want a_start b >>= λ x. behind_start fuel x.0 x.1) bytes f
 start_fault fuel bytes (Err d) f is more e =
     let same : d ≡ f = cc in
-    subst (FaultInFront (λ b. want a_start b >>= λ x. behind_start fuel x.0 x.1) bytes) same
-    ([], first_fault (want a_start) (λ x. behind_start fuel x.0 x.1) bytes d [] (want_fault a_start bytes d start_reason is), front_end)
+    subst (FaultInFront (λ b. want a_start b >>= λ x. behind_start fuel x.0 x.1) bytes) same (
+      [],
+      first_fault (want a_start) (λ x. behind_start fuel x.0 x.1) bytes d []
+          (want_fault a_start bytes d start_reason is),
+      front_end,
+    )
 start_fault fuel bytes (Ok (None, rest)) f is more e = absurd cc
 start_fault fuel bytes (Ok (Some name, rest)) f is more e =
     let t = start_takes bytes name rest is in
-    let g = named_fault fuel rest (pass_named rest) f (local_named rest) more e in
-    (t.taken ++ g.0, later_fault (want a_start) StartShape (behind_start fuel) bytes (Some name, rest) f g.0 t g.1, front_name bytes name rest g.0 t g.2)
+    let g = named_fault fuel rest (pass_named rest) f (local_named rest) more e in (
+      t.taken ++ g.0,
+      later_fault (want a_start) StartShape (behind_start fuel) bytes
+          (Some name, rest) f g.0 t g.1,
+      front_name bytes name rest g.0 t g.2,
+    )
 
 abbrev no_more_reader : List ℕ → Result (Unit {0} × List ℕ) Fault
 no_more_reader = want (λ _. Err why.Count)
@@ -146,8 +161,12 @@ no_more_fault : (bytes : List ℕ) (f : Fault) (r : Result (Unit {0} × List ℕ
 no_more_fault bytes f (Ok y) is e = absurd cc
 no_more_fault bytes f (Err d) is e =
     let same : d ≡ f = cc in
-    subst (FaultInFront (pass_definitions 0) bytes) same
-    ([], first_fault no_more_reader (λ x. Ok x.0) bytes d [] (want_fault (λ _. Err why.Count) bytes d (λ t. tt) is), front_end)
+    subst (FaultInFront (pass_definitions 0) bytes) same (
+      [],
+      first_fault no_more_reader (λ x. Ok x.0) bytes d []
+          (want_fault (λ _. Err why.Count) bytes d (λ t. tt) is),
+      front_end,
+    )
 
 definitions_fault : (fuel : ℕ) (bytes : List ℕ) (f : Fault) → pass_definitions fuel bytes ≡ Err f
     → FaultInFront (pass_definitions fuel) bytes f
@@ -189,14 +208,21 @@ first_by : (bytes : List ℕ) (o : Result (Unit {0} × List ℕ) Fault) (f : Fau
     → WholeFault bytes f
 first_by bytes (Err d) f t e =
     let same : d ≡ f = cc in
-    subst (WholeFault bytes) same
-    (t.0, first_fault pass_first (λ d. pass_definitions (suc (length d.1)) d.1) bytes d t.0 t.1, whole_end t.0 t.2)
+    subst (WholeFault bytes) same (
+      t.0,
+      first_fault pass_first (λ d. pass_definitions (suc (length d.1)) d.1) bytes d t.0 t.1,
+      whole_end t.0 t.2,
+    )
 first_by bytes (Ok y) f t e =
     let fuel = suc (length y.1) in
     let g = definitions_fault fuel y.1 f e in
     let said = said_of (pass_definitions fuel y.1) f (says_definitions fuel y.1 (omega arith)) e in
-    let behind = fault_fuel pass_definitions definitions_settle y.1 f g.0 said g.1 in
-    (t.taken ++ g.0, later_fault pass_first FirstShape (λ _ b. pass_definitions (suc (length b)) b) bytes y f g.0 t behind, whole_more bytes y g.0 t g.2)
+    let behind = fault_fuel pass_definitions definitions_settle y.1 f g.0 said g.1 in (
+      t.taken ++ g.0,
+      later_fault pass_first FirstShape
+          (λ _ b. pass_definitions (suc (length b)) b) bytes y f g.0 t behind,
+      whole_more bytes y g.0 t g.2,
+    )
 
 whole_fault : (bytes : List ℕ) (f : Fault) → pass_equation bytes ≡ Err f → WholeFault bytes f
 whole_fault bytes f e = first_by bytes (pass_first bytes) f (local_first bytes) e

@@ -83,10 +83,19 @@ items_step : {X : Type 0} (item : Lexeme → Result X Why) (Text : X → List �
     → MoreFound Text before bytes y
 items_step item Text each before bytes t None rest others y again is first h =
     let p = done_is (before, rest) y h in
-    record { more = []; all = sym (ap (λ z. z.0) p) ∙ sym (append-nil before); text = subst (λ (r : List ℕ). the Comma bytes r) (ap (λ z. z.1) p) (subst (λ (u : Lexeme). the u bytes rest) is first) }
+    record {
+      more = [];
+      all = sym (ap (λ z. z.0) p) ∙ sym (append-nil before);
+      text = subst (λ (r : List ℕ). the Comma bytes r) (ap (λ z. z.1) p)
+          (subst (λ (u : Lexeme). the u bytes rest) is first);
+    }
 items_step item Text each before bytes t (Some x) rest others y again is first h =
     let r = again x h in
-    record { more = x ∷ r.more; all = r.all ∙ append_assoc before (x ∷ []) r.more; text = (rest, each t x bytes rest is first, r.text) }
+    record {
+      more = x ∷ r.more;
+      all = r.all ∙ append_assoc before (x ∷ []) r.more;
+      text = (rest, each t x bytes rest is first, r.text);
+    }
 
 pub more_found : {X : Type 0} (item : Lexeme → Result X Why) (Text : X → List ℕ → List ℕ → Type 0)
     → TokenFinds item Text
@@ -213,9 +222,11 @@ bound_token End x bytes rest e h = absurd cc
 pub code_is : (word : List ℕ) (c : Code) → code_of_word word ≡ Ok c → word ≡ code_word c
 unfolding code_of_word
 code_is word c e =
-    cond_both (pointwise nat_eq word (codes "pack")) _ _ (λ (r : Result Code Why). r ≡ Ok c → word ≡ code_word c)
+    cond_both (pointwise nat_eq word (codes "pack")) _ _
+    (λ (r : Result Code Why). r ≡ Ok c → word ≡ code_word c)
     (λ is h. (same_bytes word (codes "pack")).0 is ∙ ap code_word (means_is code.Pack c h))
-    (λ _. cond_both (pointwise nat_eq word (codes "rle")) _ _ (λ (r : Result Code Why). r ≡ Ok c → word ≡ code_word c)
+    (λ _. cond_both (pointwise nat_eq word (codes "rle")) _ _
+    (λ (r : Result Code Why). r ≡ Ok c → word ≡ code_word c)
     (λ is h. (same_bytes word (codes "rle")).0 is ∙ ap code_word (means_is code.Rle c h))
     (λ _ h. absurd cc))
     e
@@ -265,8 +276,15 @@ hash_found bytes mid y word e =
     let b = bind_ok (want (a_size 64) a.0.1) _ y a.2 in
     let c = bind_ok (want a_close b.0.1) _ y b.2 in
     subst (λ (z : Head × List ℕ). HeadText z.0 bytes z.1)
-    (done_is (heads.Leaf (leaf.Hash b.0.0), c.0.1) y c.2)
-    (mid, word, (a.0.1, open_found mid a.0 a.1, (b.0.1, size_found 64 a.0.1 b.0 b.1, close_found b.0.1 c.0 c.1)))
+    (done_is (heads.Leaf (leaf.Hash b.0.0), c.0.1) y c.2) (
+      mid,
+      word,
+      (
+        a.0.1,
+        open_found mid a.0 a.1,
+        (b.0.1, size_found 64 a.0.1 b.0 b.1, close_found b.0.1 c.0 c.1),
+      ),
+    )
 
 encode_found : MakesHead (codes "encode") encode_at
 unfolding encode_at
@@ -276,8 +294,19 @@ encode_found bytes mid y word e =
     let c = bind_ok (want a_code b.0.1) _ y b.2 in
     let d = bind_ok (want a_comma c.0.1) _ y c.2 in
     subst (λ (z : Head × List ℕ). HeadText z.0 bytes z.1)
-    (done_is (heads.Encode b.0.0 c.0.0, d.0.1) y d.2)
-    (mid, word, (a.0.1, open_found mid a.0 a.1, (b.0.1, name_found a.0.1 b.0 b.1, (c.0.1, code_found b.0.1 c.0 c.1, comma_found c.0.1 d.0 d.1))))
+    (done_is (heads.Encode b.0.0 c.0.0, d.0.1) y d.2) (
+      mid,
+      word,
+      (
+        a.0.1,
+        open_found mid a.0 a.1,
+        (
+          b.0.1,
+          name_found a.0.1 b.0 b.1,
+          (c.0.1, code_found b.0.1 c.0 c.1, comma_found c.0.1 d.0 d.1),
+        ),
+      ),
+    )
 
 segment_found : MakesHead (codes "segment") segment_at
 unfolding segment_at
@@ -286,8 +315,15 @@ segment_found bytes mid y word e =
     let b = bind_ok (want a_word a.0.1) _ y a.2 in
     let c = bind_ok (items_at a_word (suc (length b.0.1)) (b.0.0 ∷ []) b.0.1) _ y b.2 in
     subst (λ (z : Head × List ℕ). HeadText z.0 bytes z.1)
-    (done_is (heads.Segment c.0.0, c.0.1) y c.2)
-    (mid, word, (a.0.1, open_found mid a.0 a.1, items_found a_word NameText name_token a.0.1 b.0 c.0 b.1 c.1))
+    (done_is (heads.Segment c.0.0, c.0.1) y c.2) (
+      mid,
+      word,
+      (
+        a.0.1,
+        open_found mid a.0 a.1,
+        items_found a_word NameText name_token a.0.1 b.0 c.0 b.1 c.1,
+      ),
+    )
 
 partition_found : MakesHead (codes "partition") partition_at
 unfolding partition_at
@@ -297,8 +333,20 @@ partition_found bytes mid y word e =
     let c = bind_ok (want a_bound b.0.1) _ y b.2 in
     let d = bind_ok (items_at a_bound (suc (length c.0.1)) (c.0.0 ∷ []) c.0.1) _ y c.2 in
     subst (λ (z : Head × List ℕ). HeadText z.0 bytes z.1)
-    (done_is (heads.Partition b.0.0 d.0.0, d.0.1) y d.2)
-    (mid, word, (a.0.1, open_found mid a.0 a.1, (b.0.1, name_found a.0.1 b.0 b.1, items_found a_bound BoundText bound_token b.0.1 c.0 d.0 c.1 d.1)))
+    (done_is (heads.Partition b.0.0 d.0.0, d.0.1) y d.2) (
+      mid,
+      word,
+      (
+        a.0.1,
+        open_found mid a.0 a.1,
+        (
+          b.0.1,
+          name_found a.0.1 b.0 b.1,
+          items_found a_bound BoundText bound_token b.0.1 c.0
+              d.0 c.1 d.1,
+        ),
+      ),
+    )
 
 divide_found : MakesHead (codes "divide") divide_at
 unfolding divide_at
@@ -307,8 +355,15 @@ divide_found bytes mid y word e =
     let b = bind_ok (want (a_size 16000) a.0.1) _ y a.2 in
     let c = bind_ok (want a_comma b.0.1) _ y b.2 in
     subst (λ (z : Head × List ℕ). HeadText z.0 bytes z.1)
-    (done_is (heads.Divide b.0.0, c.0.1) y c.2)
-    (mid, word, (a.0.1, open_found mid a.0 a.1, (b.0.1, size_found 16000 a.0.1 b.0 b.1, comma_found b.0.1 c.0 c.1)))
+    (done_is (heads.Divide b.0.0, c.0.1) y c.2) (
+      mid,
+      word,
+      (
+        a.0.1,
+        open_found mid a.0 a.1,
+        (b.0.1, size_found 16000 a.0.1 b.0 b.1, comma_found b.0.1 c.0 c.1),
+      ),
+    )
 
 index_found : MakesHead (codes "index") index_at
 unfolding index_at
@@ -316,8 +371,16 @@ index_found bytes mid y word e =
     let a = bind_ok (want an_open mid) _ y e in
     let b = bind_ok (want a_word a.0.1) _ y a.2 in
     let c = bind_ok (want a_comma b.0.1) _ y b.2 in
-    subst (λ (z : Head × List ℕ). HeadText z.0 bytes z.1) (done_is (heads.Index b.0.0, c.0.1) y c.2)
-    (mid, word, (a.0.1, open_found mid a.0 a.1, (b.0.1, name_found a.0.1 b.0 b.1, comma_found b.0.1 c.0 c.1)))
+    subst (λ (z : Head × List ℕ). HeadText z.0 bytes z.1)
+    (done_is (heads.Index b.0.0, c.0.1) y c.2) (
+      mid,
+      word,
+      (
+        a.0.1,
+        open_found mid a.0 a.1,
+        (b.0.1, name_found a.0.1 b.0 b.1, comma_found b.0.1 c.0 c.1),
+      ),
+    )
 
 alone_found : (top : Head) (bytes mid : List ℕ) (y : Head × List ℕ) → HeadText top bytes mid
     → ◌≡◌ {A = Result (Head × List ℕ) Fault} (Ok (top, mid)) (Ok y) → HeadText y.0 bytes y.1
@@ -341,10 +404,12 @@ arguments_found words.Isam bytes mid y word e =
     alone_found (heads.Leaf leaf.Isam) bytes mid y word e
 arguments_found words.Bplus bytes mid y word e =
     alone_found (heads.Leaf leaf.Bplus) bytes mid y word e
-arguments_found words.Actual bytes mid y word e = opened_found heads.Actual (codes "actual") (λ b r h. h) bytes mid y word e
+arguments_found words.Actual bytes mid y word e = opened_found heads.Actual (codes "actual")
+    (λ b r h. h) bytes mid y word e
 arguments_found words.Encode bytes mid y word e = encode_found bytes mid y word e
 arguments_found words.Segment bytes mid y word e = segment_found bytes mid y word e
-arguments_found words.Transpose bytes mid y word e = opened_found heads.Transpose (codes "transpose") (λ b r h. h) bytes mid y word e
+arguments_found words.Transpose bytes mid y word e = opened_found heads.Transpose
+    (codes "transpose") (λ b r h. h) bytes mid y word e
 arguments_found words.Partition bytes mid y word e = partition_found bytes mid y word e
 arguments_found words.Divide bytes mid y word e = divide_found bytes mid y word e
 arguments_found words.Index bytes mid y word e = index_found bytes mid y word e

@@ -68,8 +68,15 @@ pub record IsApart (rest : List ℕ) : Type 0 where
 size_printed : (most n : ℕ) (rest : List ℕ) → 0 < n → n ≤ most → most < 2 ^ 64
     → continues_run rest ≡ false → SizeText most n (decimal n ++ rest) rest
 size_printed most n rest some le small apart =
-    let lt : n < 2 ^ 64 = omega arith in
-    (some, le, (decimal n, number_value-decimal n lt, token_printed (Number (decimal n)) rest (IsNumber-decimal n lt) apart))
+    let lt : n < 2 ^ 64 = omega arith in (
+      some,
+      le,
+      (
+        decimal n,
+        number_value-decimal n lt,
+        token_printed (Number (decimal n)) rest (IsNumber-decimal n lt) apart,
+      ),
+    )
 
 -- an item before what is apart from it, and behind a space
 pub record ItemPrints {X : Type 0} (Text : X → List ℕ → List ℕ → Type 0) (text : X
@@ -85,8 +92,14 @@ name_prints = record {
 
 bound_printed : (v : Value) (rest : List ℕ) → IsBound v → IsApart rest
     → BoundText v (bound_text v ++ rest) rest
-bound_printed (value.Int z) rest fits apart =
-    (fits, (signed_decimal z, number_value-signed_decimal z fits, token_printed (Number (signed_decimal z)) rest (IsNumber-signed_decimal z fits) apart.run))
+bound_printed (value.Int z) rest fits apart = (
+  fits,
+  (
+    signed_decimal z,
+    number_value-signed_decimal z fits,
+    token_printed (Number (signed_decimal z)) rest (IsNumber-signed_decimal z fits) apart.run,
+  ),
+)
 bound_printed (value.Text text) rest each apart = quoted_printed text rest each apart.quote
 bound_printed (value.Bytes b) rest none apart = absurd none
 
@@ -116,8 +129,11 @@ more_printed Text text Has prints (x ∷ xs) rest has =
     let whole : spaced text (x ∷ xs) ++ rest ≡ 32 ∷ (text x ++ more) =
     ap (λ (ys : List ℕ). 32 ∷ ys) (append_assoc (text x) (spaced text xs) rest) in
     let one = prints.spaced x (text x ++ more) more
-    (prints.printed x more has.0 (spaced_apart text xs rest)) in
-    (more, subst (λ (y : List ℕ). Text x y more) (sym whole) one, more_printed Text text Has prints xs rest has.1)
+    (prints.printed x more has.0 (spaced_apart text xs rest)) in (
+      more,
+      subst (λ (y : List ℕ). Text x y more) (sym whole) one,
+      more_printed Text text Has prints xs rest has.1,
+    )
 
 names_printed : (names : List (List ℕ)) (rest : List ℕ) → 0 < length names
     → AllByRecursion IsWord names → ItemsText NameText names (names_text names ++ rest) (32 ∷ rest)
@@ -126,8 +142,11 @@ names_printed (n ∷ ns) rest some each =
     let more = spaced (λ name. name) ns ++ rest in
     let whole : names_text (n ∷ ns) ++ rest ≡ n ++ more =
     append_assoc n (spaced (λ name. name) ns) rest in
-    let one = word_printed n more each.0 (spaced_apart (λ name. name) ns rest).run in
-    (more, subst (λ (y : List ℕ). the (Word n) y more) (sym whole) one, more_printed NameText (λ name. name) IsWord name_prints ns rest each.1)
+    let one = word_printed n more each.0 (spaced_apart (λ name. name) ns rest).run in (
+      more,
+      subst (λ (y : List ℕ). the (Word n) y more) (sym whole) one,
+      more_printed NameText (λ name. name) IsWord name_prints ns rest each.1,
+    )
 
 bounds_printed : (bounds : List Value) (rest : List ℕ) → 0 < length bounds
     → AllByRecursion IsBound bounds
@@ -151,33 +170,67 @@ behind_head_text (heads.Index name) rest = 32 ∷ rest
 
 opened : (w : HeadWord) (rest : List ℕ)
     → (the (Word (spell w)) ⨾ the Open) (spell w ++ 40 ∷ rest) rest
-opened w rest = (40 ∷ rest, word_printed (spell w) (40 ∷ rest) (spelled w) refl, token_printed Open rest tt tt)
+opened w rest = (
+  40 ∷ rest,
+  word_printed (spell w) (40 ∷ rest) (spelled w) refl,
+  token_printed Open rest tt tt,
+)
 
 hash_printed : (n : ℕ) (rest : List ℕ) → 0 < n → n ≤ 64
     → HeadText (heads.Leaf (leaf.Hash n)) (head_text (heads.Leaf (leaf.Hash n)) ++ rest) rest
 hash_printed n rest some le =
     let close = 41 ∷ rest in
-    let whole : head_text (heads.Leaf (leaf.Hash n)) ++ rest ≡ codes "hash(" ++ (decimal n ++ close) = simp append_assoc in
+    let whole : head_text (heads.Leaf (leaf.Hash n)) ++ rest ≡ codes "hash("
+    ++ (decimal n ++ close) = simp append_assoc in
     let o = opened words.Hash (decimal n ++ close) in
-    subst (λ (b : List ℕ). HeadText (heads.Leaf (leaf.Hash n)) b rest) (sym whole)
-    (o.0, o.1, (decimal n ++ close, o.2, (close, size_printed 64 n close some le (omega arith) refl, token_printed Close rest tt tt)))
+    subst (λ (b : List ℕ). HeadText (heads.Leaf (leaf.Hash n)) b rest) (sym whole) (
+      o.0,
+      o.1,
+      (
+        decimal n ++ close,
+        o.2,
+        (
+          close,
+          size_printed 64 n close some le (omega arith) refl,
+          token_printed Close rest tt tt,
+        ),
+      ),
+    )
 
 encode_printed : (name : List ℕ) (c : Code) (rest : List ℕ) → IsWord name
     → HeadText (heads.Encode name c) (head_text (heads.Encode name c) ++ rest) (32 ∷ rest)
 encode_printed name c rest word =
     let comma = 44 ∷ 32 ∷ rest in
     let text = code_word c ++ comma in
-    let whole : head_text (heads.Encode name c) ++ rest ≡ codes "encode(" ++ (name ++ 32 ∷ text) = simp append_assoc in
+    let whole : head_text (heads.Encode name c) ++ rest ≡ codes "encode("
+    ++ (name ++ 32 ∷ text) = simp append_assoc in
     let o = opened words.Encode (name ++ 32 ∷ text) in
-    subst (λ (b : List ℕ). HeadText (heads.Encode name c) b (32 ∷ rest)) (sym whole)
-    (o.0, o.1, (name ++ 32 ∷ text, o.2, (32 ∷ text, word_printed name (32 ∷ text) word refl, (comma, behind_space (Word (code_word c)) text comma (word_printed (code_word c) comma (spelled_code c) refl), token_printed Comma (32 ∷ rest) tt tt))))
+    subst (λ (b : List ℕ). HeadText (heads.Encode name c) b (32 ∷ rest)) (sym whole) (
+      o.0,
+      o.1,
+      (
+        name ++ 32 ∷ text,
+        o.2,
+        (
+          32 ∷ text,
+          word_printed name (32 ∷ text) word refl,
+          (
+            comma,
+            behind_space (Word (code_word c)) text comma
+                (word_printed (code_word c) comma (spelled_code c) refl),
+            token_printed Comma (32 ∷ rest) tt tt,
+          ),
+        ),
+      ),
+    )
 
 segment_printed : (names : List (List ℕ)) (rest : List ℕ) → 0 < length names
     → AllByRecursion IsWord names
     → HeadText (heads.Segment names) (head_text (heads.Segment names) ++ rest) (32 ∷ rest)
 segment_printed names rest some each =
     let more = names_text names ++ rest in
-    let whole : head_text (heads.Segment names) ++ rest ≡ codes "segment(" ++ more = append_assoc (codes "segment(") (names_text names) rest in
+    let whole : head_text (heads.Segment names) ++ rest ≡ codes "segment("
+    ++ more = append_assoc (codes "segment(") (names_text names) rest in
     let o = opened words.Segment more in
     subst (λ (b : List ℕ). HeadText (heads.Segment names) b (32 ∷ rest)) (sym whole)
     (o.0, o.1, (more, o.2, names_printed names rest some each))
@@ -188,28 +241,64 @@ partition_printed : (name : List ℕ) (bounds : List Value) (rest : List ℕ) �
     (32 ∷ rest)
 partition_printed name bounds rest word some each =
     let more = spaced bound_text bounds ++ rest in
-    let whole : head_text (heads.Partition name bounds) ++ rest ≡ codes "partition(" ++ (name ++ more) = simp append_assoc in
+    let whole : head_text (heads.Partition name bounds) ++ rest ≡ codes "partition("
+    ++ (name ++ more) = simp append_assoc in
     let o = opened words.Partition (name ++ more) in
-    subst (λ (b : List ℕ). HeadText (heads.Partition name bounds) b (32 ∷ rest)) (sym whole)
-    (o.0, o.1, (name ++ more, o.2, (more, word_printed name more word (spaced_apart bound_text bounds rest).run, bounds_printed bounds rest some each)))
+    subst (λ (b : List ℕ). HeadText (heads.Partition name bounds) b (32 ∷ rest)) (sym whole) (
+      o.0,
+      o.1,
+      (
+        name ++ more,
+        o.2,
+        (
+          more,
+          word_printed name more word (spaced_apart bound_text bounds rest).run,
+          bounds_printed bounds rest some each,
+        ),
+      ),
+    )
 
 divide_printed : (n : ℕ) (rest : List ℕ) → 0 < n → n ≤ 16000
     → HeadText (heads.Divide n) (head_text (heads.Divide n) ++ rest) (32 ∷ rest)
 divide_printed n rest some le =
     let comma = 44 ∷ 32 ∷ rest in
-    let whole : head_text (heads.Divide n) ++ rest ≡ codes "divide(" ++ (decimal n ++ comma) = simp append_assoc in
+    let whole : head_text (heads.Divide n) ++ rest ≡ codes "divide("
+    ++ (decimal n ++ comma) = simp append_assoc in
     let o = opened words.Divide (decimal n ++ comma) in
-    subst (λ (b : List ℕ). HeadText (heads.Divide n) b (32 ∷ rest)) (sym whole)
-    (o.0, o.1, (decimal n ++ comma, o.2, (comma, size_printed 16000 n comma some le (omega arith) refl, token_printed Comma (32 ∷ rest) tt tt)))
+    subst (λ (b : List ℕ). HeadText (heads.Divide n) b (32 ∷ rest)) (sym whole) (
+      o.0,
+      o.1,
+      (
+        decimal n ++ comma,
+        o.2,
+        (
+          comma,
+          size_printed 16000 n comma some le (omega arith) refl,
+          token_printed Comma (32 ∷ rest) tt tt,
+        ),
+      ),
+    )
 
 index_printed : (name rest : List ℕ) → IsWord name
     → HeadText (heads.Index name) (head_text (heads.Index name) ++ rest) (32 ∷ rest)
 index_printed name rest word =
     let comma = 44 ∷ 32 ∷ rest in
-    let whole : head_text (heads.Index name) ++ rest ≡ codes "index(" ++ (name ++ comma) = simp append_assoc in
+    let whole : head_text (heads.Index name) ++ rest ≡ codes "index("
+    ++ (name ++ comma) = simp append_assoc in
     let o = opened words.Index (name ++ comma) in
-    subst (λ (b : List ℕ). HeadText (heads.Index name) b (32 ∷ rest)) (sym whole)
-    (o.0, o.1, (name ++ comma, o.2, (comma, word_printed name comma word refl, token_printed Comma (32 ∷ rest) tt tt)))
+    subst (λ (b : List ℕ). HeadText (heads.Index name) b (32 ∷ rest)) (sym whole) (
+      o.0,
+      o.1,
+      (
+        name ++ comma,
+        o.2,
+        (
+          comma,
+          word_printed name comma word refl,
+          token_printed Comma (32 ∷ rest) tt tt,
+        ),
+      ),
+    )
 
 pub head_printed : (h : Head) (rest : List ℕ) → IsHead h
     → (arity h ≡ No_kids → continues_run rest ≡ false)

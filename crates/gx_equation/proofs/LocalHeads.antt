@@ -58,7 +58,8 @@ code_reason : (word : List ℕ) → HasReason (Word word) (code_of_word word)
 unfolding code_of_word
 code_reason word =
     cond_both (pointwise nat_eq word (codes "pack")) _ _ (HasReason (Word word)) (λ _. tt)
-    (λ _. cond_both (pointwise nat_eq word (codes "rle")) _ _ (HasReason (Word word)) (λ _. tt) (λ _ e. absurd cc))
+    (λ _. cond_both (pointwise nat_eq word (codes "rle")) _ _ (HasReason (Word word)) (λ _. tt)
+    (λ _ e. absurd cc))
 
 code_shape : (c : Code) (bytes rest : List ℕ) → the (Word (code_word c)) bytes rest
     → ACode bytes rest
@@ -111,7 +112,12 @@ some_bound : {A : Type 0} (x : A) → IsInhabited {A = A} (λ _. ABound)
 some_bound x = some_also ANumber ABound (λ bytes rest h. inl h) (some_number x)
 
 takes_bound : TakesToken a_bound (λ _. ABound)
-takes_bound = record { proper = λ v e. absurd cc; shaped = bound_shape; reason = bound_reason; some = some_bound (value.Int (pos 1)) }
+takes_bound = record {
+  proper = λ v e. absurd cc;
+  shaped = bound_shape;
+  reason = bound_reason;
+  some = some_bound (value.Int (pos 1));
+}
 
 -- ---- items up to a comma
 
@@ -174,12 +180,20 @@ some_behind_or Item (Some x) = some_more Item []
 
 no_items : {X : Type 0} (Item : List ℕ → List ℕ → Type 0)
     → TakesToken {A = List X} (λ _. Err why.Count) (λ _. SomeMore Item)
-no_items Item = record { proper = λ x e. absurd cc; shaped = λ t x bytes rest e h. absurd cc; reason = λ t. tt; some = some_more Item [] }
+no_items Item = record {
+  proper = λ x e. absurd cc;
+  shaped = λ t x bytes rest e h. absurd cc;
+  reason = λ t. tt;
+  some = some_more Item [];
+}
 
 local_behind_or : {X : Type 0} (item : Lexeme → Result X Why) (Item : List ℕ → List ℕ
     → Type 0) (fuel : ℕ) (before : List X) (o : Option X)
     → ((xs : List X) → IsLocal (items_at item fuel xs) (λ _. SomeMore Item))
-    → IsLocal (λ b. elim o [ None ↦ Ok (before, b) | Some x ↦ items_at item fuel (before ++ x ∷ []) b ]) (BehindOr Item o)
+    → IsLocal (λ b. elim o [
+      | None ↦ Ok (before, b)
+      | Some x ↦ items_at item fuel (before ++ x ∷ []) b
+    ]) (BehindOr Item o)
 local_behind_or item Item fuel before None again = local_done before
 local_behind_or item Item fuel before (Some x) again = again (before ++ x ∷ [])
 

@@ -74,7 +74,12 @@ local_behind_mark Term term fuel false h = local_done tt
 
 no_kids : (Term : Shape) → IsSome Term
     → TakesToken {A = Unit {0}} (λ _. Err why.Count) (λ _. SomeList Term)
-no_kids Term one = record { proper = λ x e. absurd cc; shaped = λ t x bytes rest e h. absurd cc; reason = λ t. tt; some = some_list Term one }
+no_kids Term one = record {
+  proper = λ x e. absurd cc;
+  shaped = λ t x bytes rest e h. absurd cc;
+  reason = λ t. tt;
+  some = some_list Term one;
+}
 
 local_kids : (Term : Shape) (term : Pass) → IsSome Term → Passes term Term → (fuel : ℕ)
     → Passes (pass_kids term fuel) (SomeList Term)

@@ -67,8 +67,15 @@ kids_go_on levels zero before places bytes t seen after rest total lt h m so_far
     absurd (omega arith)
 kids_go_on levels (suc fuel) before places bytes t seen after rest total lt h m so_far =
     let one : kids_at (term_at levels) (suc fuel) before places bytes ≡ kids_at
-    (term_at levels) fuel (before ++ t ∷ []) seen rest = rw (h, m) refl in
-    (fuel, omega (arith, read_shorter levels places bytes ((t, seen), after) h, more_shorter after (true, rest) m), sym one ∙ so_far)
+    (term_at levels) fuel (before ++ t ∷ []) seen rest = rw (h, m) refl in (
+      fuel,
+      omega (
+        arith,
+        read_shorter levels places bytes ((t, seen), after) h,
+        more_shorter after (true, rest) m,
+      ),
+      sym one ∙ so_far,
+    )
 
 pub kids_end : (levels fuel : ℕ) (before : List TermTree) (places bytes : List ℕ) (t : TermTree)
     (seen after rest : List ℕ) (total : Kids) → length bytes < fuel
@@ -157,8 +164,11 @@ unfolding definitions_at
 go_on zero before places bytes name after d seen rest total lt s h so_far = absurd (omega arith)
 go_on (suc fuel) before places bytes name after d seen rest total lt s h so_far =
     let one : definitions_at (suc fuel) before places bytes ≡ definitions_at fuel
-    (before ++ d ∷ []) seen rest = rw (s, h) refl in
-    (fuel, omega (arith, definition_smaller bytes name after places ((d, seen), rest) s h), sym one ∙ so_far)
+    (before ++ d ∷ []) seen rest = rw (s, h) refl in (
+      fuel,
+      omega (arith, definition_smaller bytes name after places ((d, seen), rest) s h),
+      sym one ∙ so_far,
+    )
 
 pub ends : (fuel : ℕ) (before : List DefinitionTree) (places bytes after : List ℕ) (total : All)
     → length bytes < fuel → want a_start bytes ≡ Ok (None, after)

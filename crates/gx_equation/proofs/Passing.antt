@@ -274,7 +274,8 @@ head_cases levels word P each other =
     cond_both (pointwise nat_eq word (codes "transpose")) _ _ P (λ _. each words.Transpose) (λ _.
     cond_both (pointwise nat_eq word (codes "partition")) _ _ P (λ _. each words.Partition) (λ _.
     cond_both (pointwise nat_eq word (codes "divide")) _ _ P (λ _. each words.Divide) (λ _.
-    cond_both (pointwise nat_eq word (codes "index")) _ _ P (λ _. each words.Index) (λ _. other)))))))))))
+    cond_both (pointwise nat_eq word (codes "index")) _ _ P (λ _. each words.Index)
+    (λ _. other)))))))))))
 
 -- a token that may not stand
 abbrev pub IsRefused : {A : Type 0} → Result A Why → Type 0
@@ -388,14 +389,21 @@ file_by places bytes t rest e =
 side_word_by : (places bytes word rest : List ℕ) (o : Option Linkset)
     → next_token bytes ≡ Ok (Word word, rest)
     → passed {X = SideTree × List ℕ}
-    (elim o [ None ↦ file_side_at places bytes | Some l ↦ link_side_at l (places ++ left_of bytes ∷ []) rest ]) ≡ met bytes (side_word o word) rest >>= λ x. pass_side_from x.0 x.1
+    (elim o [
+      | None ↦ file_side_at places bytes
+      | Some l ↦ link_side_at l (places ++ left_of bytes ∷ []) rest
+    ]) ≡ met bytes
+    (side_word o word) rest >>= λ x. pass_side_from x.0 x.1
 side_word_by places bytes word rest (Some l) e = link_passes l (places ++ left_of bytes ∷ []) rest
 side_word_by places bytes word rest None e = file_by places bytes (Word word) rest e
 
 side_by : (places bytes : List ℕ) (n : Result (Lexeme × List ℕ) Fault) → next_token bytes ≡ n
     → passed {X = SideTree × List ℕ}
-    ((n >>= λ x. met bytes (a_side x.0) x.1) >>= λ y. elim y.0
-    [ None ↦ file_side_at places bytes | Some l ↦ link_side_at l (places ++ left_of bytes ∷ []) y.1 ])
+    ((n >>= λ x. met bytes (a_side x.0) x.1) >>= λ y. elim y.0 [
+      | None ↦ file_side_at places bytes
+      | Some l ↦ link_side_at l
+          (places ++ left_of bytes ∷ []) y.1
+    ])
     ≡ (n >>= λ x. met bytes (a_side_word x.0) x.1) >>= λ x. pass_side_from x.0 x.1
 side_by places bytes (Err f) e = refl
 side_by places bytes (Ok (Word w, rest)) e = side_word_by places bytes w rest (linkset_of_word w) e
@@ -444,7 +452,12 @@ start_step : (fuel : ℕ) (before : List DefinitionTree) (places bytes : List �
     (rest : List ℕ) → ((ds : List DefinitionTree) (seen b : List ℕ)
     → all_passed (definitions_at fuel ds seen b) ≡ pass_definitions fuel b)
     → all_passed {Y = List DefinitionTree × List ℕ}
-    (elim o [ None ↦ Ok (before, places) | Some name ↦ definition_behind name (places ++ left_of bytes ∷ []) rest >>= λ d. definitions_at fuel (before ++ d.0.0 ∷ []) d.0.1 d.1 ])
+    (elim o [
+      | None ↦ Ok (before, places)
+      | Some name ↦ definition_behind name
+          (places ++ left_of bytes ∷ []) rest >>= λ d. definitions_at fuel
+          (before ++ d.0.0 ∷ []) d.0.1 d.1
+    ])
     ≡ elim o [ None ↦ Ok tt | Some name ↦ pass_named rest >>= λ d. pass_definitions fuel d.1 ]
 start_step fuel before places bytes None rest again = refl
 start_step fuel before places bytes (Some name) rest again =
@@ -459,7 +472,11 @@ unfolding definitions_at
 definitions_pass zero before places bytes = spent_all bytes (next_token bytes)
 definitions_pass (suc fuel) before places bytes =
     kept_then {Z = Unit {0}} (λ _. tt) (want a_start bytes)
-    (λ s. elim s.0 [ None ↦ Ok (before, places) | Some name ↦ definition_behind name (places ++ left_of bytes ∷ []) s.1 >>= λ d. definitions_at fuel (before ++ d.0.0 ∷ []) d.0.1 d.1 ])
+    (λ s. elim s.0 [
+      | None ↦ Ok (before, places)
+      | Some name ↦ definition_behind name (places ++ left_of bytes ∷ []) s.1 >>= λ d.
+          definitions_at fuel (before ++ d.0.0 ∷ []) d.0.1 d.1
+    ])
     (λ s. elim s.0 [ None ↦ Ok tt | Some name ↦ pass_named s.1 >>= λ d. pass_definitions fuel d.1 ])
     (λ s. start_step fuel before places bytes s.0 s.1
     (λ ds seen b. definitions_pass fuel ds seen b))

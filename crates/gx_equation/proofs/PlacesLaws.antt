@@ -22,7 +22,13 @@ left_below bytes = let b = blanks_found false bytes in
 here_again : (bytes : List ℕ) (t : Lexeme) (rest : List ℕ) → the t bytes rest
     → the t (after_blanks false bytes) rest
 here_again bytes t rest h =
-    record { blanks = []; here = after_blanks false bytes; parts = refl; are_blanks = tt; begins = found_here (after_blanks false bytes) (t, rest) (first_again bytes t rest h) }
+    record {
+      blanks = [];
+      here = after_blanks false bytes;
+      parts = refl;
+      are_blanks = tt;
+      begins = found_here (after_blanks false bytes) (t, rest) (first_again bytes t rest h);
+    }
 
 word_left : (w : List ℕ) (bytes rest : List ℕ) → the (Word w) bytes rest
     → length rest < left_of bytes

@@ -47,15 +47,33 @@ list_printed : (Text : TextOf) (Has : TermTree → Type 0) → Prints Text Has �
     ((term_text t ++ more_text ts) ++ rest) rest
 list_printed Text Has printed space t none before rest has =
     let one = printed t before (41 ∷ rest) has.0 refl in
-    let whole : (term_text t ++ codes ")") ++ rest ≡ term_text t ++ (41 ∷ rest) = append_assoc (term_text t) (codes ")") rest in
-    (one.0, subst (λ (b : List ℕ). ListText Text (t ∷ []) before one.0 b rest) (sym whole) (41 ∷ rest, one.1, token_printed Close rest tt tt))
+    let whole : (term_text t ++ codes ")") ++ rest ≡ term_text t
+    ++ (41 ∷ rest) = append_assoc (term_text t) (codes ")") rest in (
+      one.0,
+      subst (λ (b : List ℕ). ListText Text (t ∷ []) before one.0 b rest) (sym whole)
+          (41 ∷ rest, one.1, token_printed Close rest tt tt),
+    )
 list_printed Text Has printed space t (kid u us) before rest has =
     let others = (term_text u ++ more_text us) ++ rest in
     let one = printed t before (44 ∷ 32 ∷ others) has.0 refl in
     let more = list_printed Text Has printed space u us one.0 rest has.1 in
     let whole : (term_text t ++ more_text (kid u us)) ++ rest ≡ term_text t ++ (44 ∷ 32 ∷ others) =
-    simp append_assoc in
-    (more.0, subst (λ (b : List ℕ). ListText Text (t ∷ u ∷ list_of us) before more.0 b rest) (sym whole) (one.0, (44 ∷ 32 ∷ others, one.1, (32 ∷ others, token_printed Comma (32 ∷ others) tt tt, list_spaced Text space (u ∷ list_of us) one.0 more.0 others rest more.1))))
+    simp append_assoc in (
+      more.0,
+      subst (λ (b : List ℕ). ListText Text (t ∷ u ∷ list_of us) before more.0 b rest)
+          (sym whole) (
+            one.0,
+            (
+              44 ∷ 32 ∷ others,
+              one.1,
+              (
+                32 ∷ others,
+                token_printed Comma (32 ∷ others) tt tt,
+                list_spaced Text space (u ∷ list_of us) one.0 more.0 others rest more.1,
+              ),
+            ),
+          ),
+    )
 
 some_printed : (Text : TextOf) (Has : TermTree → Type 0) → Prints Text Has → MaySpace Text
     → (kids : Trees) (before rest : List ℕ) → 0 < length (list_of kids)
@@ -116,8 +134,13 @@ term_printed (suc levels) (node top kids) before rest has apart =
     (term_spaced levels) (arity top) kids (before ++ left_of (head_text top ++ inner) ∷ []) rest
     has.1 has.2 in (
       k.0,
-      subst (λ (b : List ℕ). TermText (suc levels) (node top kids) before k.0 b rest) (sym whole)
-          (behind_head_text top inner, head_printed top inner has.0 (leaf_apart (arity top) (list_text kids) rest apart), behind_kids (TermText levels) (term_spaced levels) top (list_of kids) _ k.0 inner rest k.1),
+      subst (λ (b : List ℕ). TermText (suc levels) (node top kids) before k.0 b rest) (sym whole) (
+        behind_head_text top inner,
+        head_printed top inner has.0
+            (leaf_apart (arity top) (list_text kids) rest apart),
+        behind_kids (TermText levels) (term_spaced levels) top
+            (list_of kids) _ k.0 inner rest k.1,
+      ),
     )
 
 -- ---- sides
@@ -146,8 +169,11 @@ side_printed (link_side l ts) before rest has apart =
     let here = subst (λ (b : List ℕ). KidsText (TermText 15) (linkset_arity l) ts places k.0
     (b ++ rest) rest) (link_kids_text l (list_text (kids_from ts))) kids in (
       k.0,
-      subst (λ (b : List ℕ). SideText (link_side l ts) before k.0 b rest) (sym whole)
-          (40 ∷ inner, word_printed (linkset_word l) (40 ∷ inner) (spelled_linkset l) refl, (inner, token_printed Open inner tt tt, here)),
+      subst (λ (b : List ℕ). SideText (link_side l ts) before k.0 b rest) (sym whole) (
+        40 ∷ inner,
+        word_printed (linkset_word l) (40 ∷ inner) (spelled_linkset l) refl,
+        (inner, token_printed Open inner tt tt, here),
+      ),
     )
 
 side_spaced : (s : SideTree) (before after bytes rest : List ℕ) → SideText s before after bytes rest
@@ -168,8 +194,16 @@ definition_printed d before rest has =
     let places = before ++ left_of (d.name ++ equals) ∷ [] in
     let s = side_printed d.side places line has.side refl in (
       s.0,
-      subst (λ (b : List ℕ). DefinitionText d before s.0 b line) (sym whole)
-          (equals, word_printed d.name equals has.name refl, (32 ∷ side, behind_space Equals (61 ∷ 32 ∷ side) (32 ∷ side) (token_printed Equals (32 ∷ side) tt tt), side_spaced d.side places s.0 side line s.1)),
+      subst (λ (b : List ℕ). DefinitionText d before s.0 b line) (sym whole) (
+        equals,
+        word_printed d.name equals has.name refl,
+        (
+          32 ∷ side,
+          behind_space Equals (61 ∷ 32 ∷ side) (32 ∷ side)
+              (token_printed Equals (32 ∷ side) tt tt),
+          side_spaced d.side places s.0 side line s.1,
+        ),
+      ),
     )
 
 definition_line : (d : DefinitionTree) (before after bytes rest : List ℕ)
@@ -177,15 +211,31 @@ definition_line : (d : DefinitionTree) (before after bytes rest : List ℕ)
 definition_line d before after bytes rest h = (h.0, behind_line (Word d.name) bytes h.0 h.1, h.2)
 
 end_line : the End (10 ∷ []) []
-end_line = record { blanks = 10 ∷ []; here = []; parts = refl; are_blanks = inr (refl, tt); begins = record { parts = refl; is_token = tt; follows = refl } }
+end_line = record {
+  blanks = 10 ∷ [];
+  here = [];
+  parts = refl;
+  are_blanks = inr (refl, tt);
+  begins = record { parts = refl; is_token = tt; follows = refl };
+}
 
 lines_printed : (ds : List DefinitionTree) (before : List ℕ) → AllByRecursion IsDefinition ds
     → (after : List ℕ) × DefinitionsText ds before after (10 ∷ equation_text ds) []
 lines_printed [] before has = (before, (refl, end_line))
 lines_printed (d ∷ ds) before has =
     let p = definition_printed d before (equation_text ds) has.0 in
-    let q = lines_printed ds p.0 has.1 in
-    (q.0, (p.0, (10 ∷ equation_text ds, definition_line d before p.0 (definition_text d ++ equation_text ds) (10 ∷ equation_text ds) p.1, q.1)))
+    let q = lines_printed ds p.0 has.1 in (
+      q.0,
+      (
+        p.0,
+        (
+          10 ∷ equation_text ds,
+          definition_line d before p.0
+              (definition_text d ++ equation_text ds) (10 ∷ equation_text ds) p.1,
+          q.1,
+        ),
+      ),
+    )
 
 all_printed : (ds : List DefinitionTree) → 0 < length ds → AllByRecursion IsDefinition ds
     → (after : List ℕ) × DefinitionsText ds [] after (equation_text ds) []
@@ -198,5 +248,7 @@ all_printed (d ∷ ds) some has =
 pub equation_printed : (ds : List DefinitionTree) → AreWritten ds
     → (lines : List ℕ) × Means (equation_text ds) (ds, lines)
 equation_printed ds w =
-    let p = all_printed ds w.some w.each in
-    (lines_of (equation_text ds) p.0, record { places = p.0; text = record { some = w.some; text = p.1 }; lines = refl })
+    let p = all_printed ds w.some w.each in (
+      lines_of (equation_text ds) p.0,
+      record { places = p.0; text = record { some = w.some; text = p.1 }; lines = refl },
+    )

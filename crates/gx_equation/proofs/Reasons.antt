@@ -115,7 +115,8 @@ means_size most other = tt
 
 code_says : (w : List ℕ) → MeansOr (code_of_word w)
 unfolding code_of_word
-code_says w = cond_both (pointwise nat_eq w (codes "pack")) _ _ MeansOr (λ _. tt) (λ _. cond_both (pointwise nat_eq w (codes "rle")) _ _ MeansOr (λ _. tt) (λ _. tt))
+code_says w = cond_both (pointwise nat_eq w (codes "pack")) _ _ MeansOr (λ _. tt)
+    (λ _. cond_both (pointwise nat_eq w (codes "rle")) _ _ MeansOr (λ _. tt) (λ _. tt))
 
 means_code : (t : Lexeme) → MeansOr (a_code t)
 means_code t = means_word code_of_word code_says t
@@ -301,7 +302,11 @@ term_less : (levels : ℕ) (bytes : List ℕ) (y : Unit {0} × List ℕ) → pas
 term_less levels bytes y e =
     let m = mapped_ok (λ x. (tt, x.1)) (term_at levels [] bytes) y (term_passes levels [] bytes ∙ e)
     in
-    omega (arith, read_shorter levels [] bytes m.0 m.1, ap (λ (z : Unit {0} × List ℕ). length z.1) m.2)
+    omega (
+      arith,
+      read_shorter levels [] bytes m.0 m.1,
+      ap (λ (z : Unit {0} × List ℕ). length z.1) m.2,
+    )
 
 term_starts : (levels : ℕ) (bytes : List ℕ) (f : Fault) → next_token bytes ≡ Err f
     → pass_term levels bytes ≡ Err f
@@ -321,7 +326,11 @@ says_term (suc levels) bytes =
     w.0 w.1)
 
 pub good_term : (levels : ℕ) → IsGood (pass_term levels)
-good_term levels = record { says = says_term levels; shorter = term_less levels; starts = term_starts levels }
+good_term levels = record {
+  says = says_term levels;
+  shorter = term_less levels;
+  starts = term_starts levels;
+}
 
 -- ---- definitions
 
@@ -342,7 +351,11 @@ side_less : (bytes : List ℕ) (y : Unit {0} × List ℕ) → pass_side bytes �
     → length y.1 < length bytes
 side_less bytes y e =
     let m = mapped_ok (λ x. (tt, x.1)) (side_at [] bytes) y (side_passes [] bytes ∙ e) in
-    omega (arith, side_shorter m.0.0.0 [] m.0.0.1 bytes m.0.1 (side_found [] bytes m.0 m.1), ap (λ (z : Unit {0} × List ℕ). length z.1) m.2)
+    omega (
+      arith,
+      side_shorter m.0.0.0 [] m.0.0.1 bytes m.0.1 (side_found [] bytes m.0 m.1),
+      ap (λ (z : Unit {0} × List ℕ). length z.1) m.2,
+    )
 
 pub named_less : (bytes : List ℕ) (y : Unit {0} × List ℕ) → pass_named bytes ≡ Ok y
     → length y.1 < length bytes

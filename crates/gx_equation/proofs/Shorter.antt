@@ -41,7 +41,14 @@ pub first_shorter : (bytes : List ℕ) (t : Lexeme) (rest : List ℕ) → (t ≡
     → length rest < length bytes
 first_shorter bytes t rest not_end f =
     let some = spelled_some t not_end f.begins.is_token in
-    omega (arith, some, ap length f.parts, length-append f.blanks f.here, ap length f.begins.parts, length-append (spelling t) rest)
+    omega (
+      arith,
+      some,
+      ap length f.parts,
+      length-append f.blanks f.here,
+      ap length f.begins.parts,
+      length-append (spelling t) rest,
+    )
 
 pub wanted_shorter : {A : Type 0} (meaning : Lexeme → Result A Why) (bytes : List ℕ)
     (y : A × List ℕ) → ((x : A) → meaning End ≡ Ok x → ⊥) → want meaning bytes ≡ Ok y
@@ -109,23 +116,59 @@ pub head_shorter : (h : Head) (bytes rest : List ℕ) → HeadText h bytes rest
     → length rest < length bytes
 head_shorter (heads.Leaf leaf.Heap) bytes rest t = the_word _ bytes rest t
 head_shorter (heads.Leaf (leaf.Hash n)) bytes rest t =
-    omega (arith, the_word _ bytes t.0 t.1, open_shorter t.0 t.2.0 t.2.1, the_number (pos n) t.2.0 t.2.2.0 t.2.2.1.2, close_shorter t.2.2.0 rest t.2.2.2)
+    omega (
+      arith,
+      the_word _ bytes t.0 t.1,
+      open_shorter t.0 t.2.0 t.2.1,
+      the_number (pos n) t.2.0 t.2.2.0 t.2.2.1.2,
+      close_shorter t.2.2.0 rest t.2.2.2,
+    )
 head_shorter (heads.Leaf leaf.Isam) bytes rest t = the_word _ bytes rest t
 head_shorter (heads.Leaf leaf.Bplus) bytes rest t = the_word _ bytes rest t
 head_shorter heads.Actual bytes rest t =
     omega (arith, the_word _ bytes t.0 t.1, open_shorter t.0 rest t.2)
 head_shorter (heads.Encode name code) bytes rest t =
-    omega (arith, the_word _ bytes t.0 t.1, open_shorter t.0 t.2.0 t.2.1, the_word name t.2.0 t.2.2.0 t.2.2.1, the_word (code_word code) t.2.2.0 t.2.2.2.0 t.2.2.2.1, comma_shorter t.2.2.2.0 rest t.2.2.2.2)
+    omega (
+      arith,
+      the_word _ bytes t.0 t.1,
+      open_shorter t.0 t.2.0 t.2.1,
+      the_word name t.2.0 t.2.2.0 t.2.2.1,
+      the_word (code_word code) t.2.2.0 t.2.2.2.0 t.2.2.2.1,
+      comma_shorter t.2.2.2.0 rest t.2.2.2.2,
+    )
 head_shorter (heads.Segment names) bytes rest t =
-    omega (arith, the_word _ bytes t.0 t.1, open_shorter t.0 t.2.0 t.2.1, items_shorter NameText the_word names t.2.0 rest t.2.2)
+    omega (
+      arith,
+      the_word _ bytes t.0 t.1,
+      open_shorter t.0 t.2.0 t.2.1,
+      items_shorter NameText the_word names t.2.0 rest t.2.2,
+    )
 head_shorter heads.Transpose bytes rest t =
     omega (arith, the_word _ bytes t.0 t.1, open_shorter t.0 rest t.2)
 head_shorter (heads.Partition name bounds) bytes rest t =
-    omega (arith, the_word _ bytes t.0 t.1, open_shorter t.0 t.2.0 t.2.1, the_word name t.2.0 t.2.2.0 t.2.2.1, items_shorter BoundText bound_text_shorter bounds t.2.2.0 rest t.2.2.2)
+    omega (
+      arith,
+      the_word _ bytes t.0 t.1,
+      open_shorter t.0 t.2.0 t.2.1,
+      the_word name t.2.0 t.2.2.0 t.2.2.1,
+      items_shorter BoundText bound_text_shorter bounds t.2.2.0 rest t.2.2.2,
+    )
 head_shorter (heads.Divide n) bytes rest t =
-    omega (arith, the_word _ bytes t.0 t.1, open_shorter t.0 t.2.0 t.2.1, the_number (pos n) t.2.0 t.2.2.0 t.2.2.1.2, comma_shorter t.2.2.0 rest t.2.2.2)
+    omega (
+      arith,
+      the_word _ bytes t.0 t.1,
+      open_shorter t.0 t.2.0 t.2.1,
+      the_number (pos n) t.2.0 t.2.2.0 t.2.2.1.2,
+      comma_shorter t.2.2.0 rest t.2.2.2,
+    )
 head_shorter (heads.Index name) bytes rest t =
-    omega (arith, the_word _ bytes t.0 t.1, open_shorter t.0 t.2.0 t.2.1, the_word name t.2.0 t.2.2.0 t.2.2.1, comma_shorter t.2.2.0 rest t.2.2.2)
+    omega (
+      arith,
+      the_word _ bytes t.0 t.1,
+      open_shorter t.0 t.2.0 t.2.1,
+      the_word name t.2.0 t.2.2.0 t.2.2.1,
+      comma_shorter t.2.2.0 rest t.2.2.2,
+    )
 
 abbrev pub Shortens : TextOf → Type 0
 Shortens Text = (t : TermTree) (before after bytes rest : List ℕ) → Text t before after bytes rest
@@ -139,7 +182,12 @@ list_shorter Text each [] before after bytes rest t = absurd t
 list_shorter Text each (u ∷ []) before after bytes rest t =
     omega (arith, each u before after bytes t.0 t.1, close_shorter t.0 rest t.2)
 list_shorter Text each (u ∷ v ∷ vs) before after bytes rest (mid, t) =
-    omega (arith, each u before mid bytes t.0 t.1, comma_shorter t.0 t.2.0 t.2.1, list_shorter Text each (v ∷ vs) mid after t.2.0 rest t.2.2)
+    omega (
+      arith,
+      each u before mid bytes t.0 t.1,
+      comma_shorter t.0 t.2.0 t.2.1,
+      list_shorter Text each (v ∷ vs) mid after t.2.0 rest t.2.2,
+    )
 
 pub kids_shorter : (Text : TextOf) → Shortens Text
     → (a : Arity) (ts : List TermTree) (before after bytes rest : List ℕ)
@@ -155,7 +203,12 @@ kids_shorter Text each Some_kids ts before after bytes rest t =
 pub term_shorter : (levels : ℕ) → Shortens (TermText levels)
 term_shorter zero t before after bytes rest h = absurd h
 term_shorter (suc levels) (node top kids) before after bytes rest h =
-    omega (arith, head_shorter top bytes h.0 h.1, kids_shorter (TermText levels) (term_shorter levels) (arity top) (list_of kids) (before ++ left_of bytes ∷ []) after h.0 rest h.2)
+    omega (
+      arith,
+      head_shorter top bytes h.0 h.1,
+      kids_shorter (TermText levels) (term_shorter levels) (arity top) (list_of kids)
+          (before ++ left_of bytes ∷ []) after h.0 rest h.2,
+    )
 
 pub read_shorter : (levels : ℕ) (places bytes : List ℕ) (y : (TermTree × List ℕ) × List ℕ)
     → term_at levels places bytes ≡ Ok y → length y.1 < length bytes
@@ -168,9 +221,20 @@ pub side_shorter : (s : SideTree) (before after bytes rest : List ℕ)
     → SideText s before after bytes rest → length rest < length bytes
 side_shorter (file_side t) before after bytes rest h = term_shorter 16 t before after bytes rest h
 side_shorter (link_side linkset ts) before after bytes rest h =
-    omega (arith, the_word (linkset_word linkset) bytes h.0 h.1, open_shorter h.0 h.2.0 h.2.1, kids_shorter (TermText 15) (term_shorter 15) (linkset_arity linkset) ts (before ++ left_of bytes ∷ []) after h.2.0 rest h.2.2)
+    omega (
+      arith,
+      the_word (linkset_word linkset) bytes h.0 h.1,
+      open_shorter h.0 h.2.0 h.2.1,
+      kids_shorter (TermText 15) (term_shorter 15) (linkset_arity linkset) ts
+          (before ++ left_of bytes ∷ []) after h.2.0 rest h.2.2,
+    )
 
 pub definition_shorter : (d : DefinitionTree) (before after bytes rest : List ℕ)
     → DefinitionText d before after bytes rest → length rest < length bytes
 definition_shorter d before after bytes rest h =
-    omega (arith, the_word d.name bytes h.0 h.1, first_shorter h.0 Equals h.2.0 (λ e. absurd cc) h.2.1, side_shorter d.side (before ++ left_of bytes ∷ []) after h.2.0 rest h.2.2)
+    omega (
+      arith,
+      the_word d.name bytes h.0 h.1,
+      first_shorter h.0 Equals h.2.0 (λ e. absurd cc) h.2.1,
+      side_shorter d.side (before ++ left_of bytes ∷ []) after h.2.0 rest h.2.2,
+    )

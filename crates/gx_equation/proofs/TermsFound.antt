@@ -55,10 +55,24 @@ kids_step : (Text : TextOf) (before : List TermTree) (places bytes : List ℕ) (
     → KidsFound Text before places bytes y
 kids_step Text before places bytes t seen after true rest others y again text m h =
     let r = again h in
-    record { more = t ∷ r.more; all = r.all ∙ append_assoc before (t ∷ []) r.more; text = longer Text t r.more places seen y.0.1 bytes after rest y.1 text (list_mark_found after (true, rest) m) r.text }
+    record {
+      more = t ∷ r.more;
+      all = r.all ∙ append_assoc before (t ∷ []) r.more;
+      text = longer Text t r.more places seen y.0.1 bytes after rest y.1 text
+          (list_mark_found after (true, rest) m) r.text;
+    }
 kids_step Text before places bytes t seen after false rest others y again text m h =
     let p = done_is ((before ++ t ∷ [], seen), rest) y h in
-    record { more = t ∷ []; all = sym (ap (λ z. z.0.0) p); text = (after, subst (λ (q : List ℕ). Text t places q bytes after) (ap (λ z. z.0.1) p) text, subst (λ (r : List ℕ). the Close after r) (ap (λ z. z.1) p) (list_mark_found after (false, rest) m)) }
+    record {
+      more = t ∷ [];
+      all = sym (ap (λ z. z.0.0) p);
+      text = (
+        after,
+        subst (λ (q : List ℕ). Text t places q bytes after) (ap (λ z. z.0.1) p) text,
+        subst (λ (r : List ℕ). the Close after r) (ap (λ z. z.1) p)
+            (list_mark_found after (false, rest) m),
+      );
+    }
 
 kids_found : (term : Reader) (Text : TextOf) → Reads term Text
     → (fuel : ℕ) (before : List TermTree) (places bytes : List ℕ) (y : (List TermTree × List ℕ)
@@ -99,8 +113,21 @@ behind_found term Text reads Two_kids places bytes y e =
     let d = bind_ok (want a_close c.0.1) _ y c.2 in
     subst (λ (z : (List TermTree × List ℕ) × List ℕ). KidsText Text Two_kids z.0.0 places z.0.1
     bytes
-    z.1) (done_is ((a.0.0.0 ∷ c.0.0.0 ∷ [], c.0.0.1), d.0.1) y d.2)
-    (omega arith, (a.0.0.1, (a.0.1, reads places bytes a.0 a.1, (b.0.1, comma_found a.0.1 b.0 b.1, (c.0.1, reads a.0.0.1 b.0.1 c.0 c.1, close_found c.0.1 d.0 d.1)))))
+    z.1) (done_is ((a.0.0.0 ∷ c.0.0.0 ∷ [], c.0.0.1), d.0.1) y d.2) (
+      omega arith,
+      (
+        a.0.0.1,
+        (
+          a.0.1,
+          reads places bytes a.0 a.1,
+          (
+            b.0.1,
+            comma_found a.0.1 b.0 b.1,
+            (c.0.1, reads a.0.0.1 b.0.1 c.0 c.1, close_found c.0.1 d.0 d.1),
+          ),
+        ),
+      ),
+    )
 behind_found term Text reads Some_kids places bytes y e =
     let f = kids_found term Text reads (suc (length bytes)) [] places bytes y e in
     subst (λ (ts : List TermTree). ListText Text ts places y.0.1 bytes y.1) (sym f.all) f.text
@@ -116,8 +143,12 @@ term_found (suc levels) places bytes y e =
     let k = behind_found (term_at levels) (TermText levels) (term_found levels)
     (arity a.0.0) more a.0.1 b.0 b.1 in
     subst (λ (z : (TermTree × List ℕ) × List ℕ). TermText (suc levels) z.0.0 places z.0.1 bytes z.1)
-    (done_is ((node a.0.0 (kids_from b.0.0.0), b.0.0.1), b.0.1) y b.2)
-    (a.0.1, head_found (suc levels) bytes a.0 a.1, subst (λ (ts : List TermTree). KidsText (TermText levels) (arity a.0.0) ts more b.0.0.1 a.0.1 b.0.1) (sym (list_from b.0.0.0)) k)
+    (done_is ((node a.0.0 (kids_from b.0.0.0), b.0.0.1), b.0.1) y b.2) (
+      a.0.1,
+      head_found (suc levels) bytes a.0 a.1,
+      subst (λ (ts : List TermTree). KidsText (TermText levels)
+          (arity a.0.0) ts more b.0.0.1 a.0.1 b.0.1) (sym (list_from b.0.0.0)) k,
+    )
 
 -- ---- sides
 
@@ -178,13 +209,25 @@ link_found linkset places bytes mid y word e =
     let a = bind_ok (want an_open mid) _ y e in
     let b = bind_ok (kids_behind (term_at 15) (linkset_arity linkset) before a.0.1) _ y a.2 in
     subst (λ (z : (SideTree × List ℕ) × List ℕ). SideText z.0.0 places z.0.1 bytes z.1)
-    (done_is ((link_side linkset b.0.0.0, b.0.0.1), b.0.1) y b.2)
-    (mid, word, (a.0.1, open_found mid a.0 a.1, behind_found (term_at 15) (TermText 15) (term_found 15) (linkset_arity linkset) before a.0.1 b.0 b.1))
+    (done_is ((link_side linkset b.0.0.0, b.0.0.1), b.0.1) y b.2) (
+      mid,
+      word,
+      (
+        a.0.1,
+        open_found mid a.0 a.1,
+        behind_found (term_at 15) (TermText 15) (term_found 15)
+            (linkset_arity linkset) before a.0.1 b.0 b.1,
+      ),
+    )
 
 side_step : (o : Option Linkset) (t : Lexeme) (places bytes mid : List ℕ) (y : (SideTree × List ℕ)
     × List ℕ) → SideMark o t → the t bytes mid
     → ◌≡◌ {A = Result ((SideTree × List ℕ) × List ℕ) Fault}
-    (elim o [ None ↦ file_side_at places bytes | Some linkset ↦ link_side_at linkset (places ++ left_of bytes ∷ []) mid ]) (Ok y) → SideText y.0.0 places y.0.1 bytes y.1
+    (elim o [
+      | None ↦ file_side_at places bytes
+      | Some linkset ↦ link_side_at linkset (places ++ left_of bytes ∷ []) mid
+    ]) (Ok y)
+    → SideText y.0.0 places y.0.1 bytes y.1
 side_step None t places bytes mid y is h e = file_found places bytes y e
 side_step (Some linkset) t places bytes mid y is h e =
     link_found linkset places bytes mid y (subst (λ (u : Lexeme). the u bytes mid) is h) e
@@ -194,7 +237,10 @@ pub side_found : (places bytes : List ℕ) (y : (SideTree × List ℕ) × List �
 unfolding side_at
 side_found places bytes y e =
     let a = bind_ok (want a_side bytes)
-    (λ x. elim x.0 [ None ↦ file_side_at places bytes | Some linkset ↦ link_side_at linkset (places ++ left_of bytes ∷ []) x.1 ]) y e in
+    (λ x. elim x.0 [
+      | None ↦ file_side_at places bytes
+      | Some linkset ↦ link_side_at linkset (places ++ left_of bytes ∷ []) x.1
+    ]) y e in
     let w = want_ok a_side bytes a.0 a.1 in
     side_step a.0.0 w.token places bytes a.0.1 y (side_mark w.token a.0.0 w.is) w.first a.2
 
@@ -239,18 +285,31 @@ definitions_step : (before : List DefinitionTree) (places bytes : List ℕ) (t :
     → ((d : (DefinitionTree × List ℕ) × List ℕ) → others d ≡ Ok y
     → DefinitionsFound (before ++ d.0.0 ∷ []) d.0.1 d.1 y) → StartMark o t → the t bytes rest
     → ◌≡◌ {A = Result (List DefinitionTree × List ℕ) Fault}
-    (elim o [ None ↦ Ok (before, places) | Some name ↦ definition_behind name (places ++ left_of bytes ∷ []) rest >>= others ]) (Ok y) → DefinitionsFound before places bytes y
+    (elim o [
+      | None ↦ Ok (before, places)
+      | Some name ↦ definition_behind name
+          (places ++ left_of bytes ∷ []) rest >>= others
+    ]) (Ok y)
+    → DefinitionsFound before places bytes y
 definitions_step before places bytes t None rest others y again is h e =
     let p = done_is (before, places) y e in
     let first : the End bytes rest = subst (λ (u : Lexeme). the u bytes rest) is h in
     let ends : rest ≡ [] = first.begins.follows in
-    record { more = []; all = sym (ap (λ z. z.0) p) ∙ sym (append-nil before); text = (ap (λ z. z.1) p, subst (λ (r : List ℕ). the End bytes r) ends first) }
+    record {
+      more = [];
+      all = sym (ap (λ z. z.0) p) ∙ sym (append-nil before);
+      text = (ap (λ z. z.1) p, subst (λ (r : List ℕ). the End bytes r) ends first);
+    }
 definitions_step before places bytes t (Some name) rest others y again is h e =
     let a = bind_ok (definition_behind name (places ++ left_of bytes ∷ []) rest) others y e in
     let r = again a.0 a.2 in
     let one = definition_found name places bytes rest a.0
     (subst (λ (u : Lexeme). the u bytes rest) is h) a.1 in
-    record { more = a.0.0.0 ∷ r.more; all = r.all ∙ append_assoc before (a.0.0.0 ∷ []) r.more; text = (a.0.0.1, (a.0.1, one, r.text)) }
+    record {
+      more = a.0.0.0 ∷ r.more;
+      all = r.all ∙ append_assoc before (a.0.0.0 ∷ []) r.more;
+      text = (a.0.0.1, (a.0.1, one, r.text));
+    }
 
 definitions_found : (fuel : ℕ) (before : List DefinitionTree) (places bytes : List ℕ)
     (y : List DefinitionTree × List ℕ) → definitions_at fuel before places bytes ≡ Ok y
@@ -263,7 +322,11 @@ definitions_found zero before places bytes y e =
     absurd cc
 definitions_found (suc fuel) before places bytes y e =
     let a = bind_ok (want a_start bytes)
-    (λ start. elim start.0 [ None ↦ Ok (before, places) | Some name ↦ definition_behind name (places ++ left_of bytes ∷ []) start.1 >>= λ d. definitions_at fuel (before ++ d.0.0 ∷ []) d.0.1 d.1 ]) y e in
+    (λ start. elim start.0 [
+      | None ↦ Ok (before, places)
+      | Some name ↦ definition_behind name (places ++ left_of bytes ∷ []) start.1 >>= λ d.
+          definitions_at fuel (before ++ d.0.0 ∷ []) d.0.1 d.1
+    ]) y e in
     let w = want_ok a_start bytes a.0 a.1 in
     definitions_step before places bytes w.token a.0.0 a.0.1
     (λ d. definitions_at fuel (before ++ d.0.0 ∷ []) d.0.1 d.1) y

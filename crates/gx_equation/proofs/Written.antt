@@ -94,8 +94,13 @@ list_are : (Text : TextOf) (Is : TermTree → Type 0) → Fit Text Is
 list_are Text Is each [] before after bytes rest t = absurd t
 list_are Text Is each (u ∷ []) before after bytes rest t =
     (omega arith, (each u before after bytes t.0 t.1, tt))
-list_are Text Is each (u ∷ v ∷ vs) before after bytes rest (mid, t) =
-    (omega arith, (each u before mid bytes t.0 t.1, (list_are Text Is each (v ∷ vs) mid after t.2.0 rest t.2.2).1))
+list_are Text Is each (u ∷ v ∷ vs) before after bytes rest (mid, t) = (
+  omega arith,
+  (
+    each u before mid bytes t.0 t.1,
+    (list_are Text Is each (v ∷ vs) mid after t.2.0 rest t.2.2).1,
+  ),
+)
 
 none_are : (Is : TermTree → Type 0) (ts : List TermTree) → ts ≡ [] → AllByRecursion Is ts
 none_are Is ts e = subst (AllByRecursion Is) (sym e) tt
@@ -131,8 +136,13 @@ definitions_are : (ds : List DefinitionTree) (before after bytes rest : List ℕ
     → DefinitionsText ds before after bytes rest → AllByRecursion IsDefinition ds
 definitions_are [] before after bytes rest h = tt
 definitions_are (d ∷ ds) before after bytes rest (mid, h) =
-    let one = h.1 in
-    (record { name = name_is d.name bytes one.0 one.1; side = side_is d.side (before ++ left_of bytes ∷ []) mid one.2.0 h.0 one.2.2 }, definitions_are ds mid after h.0 rest h.2)
+    let one = h.1 in (
+      record {
+        name = name_is d.name bytes one.0 one.1;
+        side = side_is d.side (before ++ left_of bytes ∷ []) mid one.2.0 h.0 one.2.2;
+      },
+      definitions_are ds mid after h.0 rest h.2,
+    )
 
 pub are_written : (bytes : List ℕ) (meaning : List DefinitionTree × List ℕ) → Means bytes meaning
     → AreWritten meaning.0

@@ -42,8 +42,11 @@ front_within : (old new : Content) (text line : List ℕ)
     → ((n : ℕ) × (new.now.said ≡ old.now.said ++ take n text))
     → (n : ℕ) × (new.now.said ≡ old.now.said ++ take n (text ++ line))
 front_within old new text line is =
-    let m = min is.0 (length text) in
-    (m, is.1 ∙ ap (λ t. old.now.said ++ t) (taken text is.0 m refl ∙ sym (take-append-le m text line (omega arith))))
+    let m = min is.0 (length text) in (
+      m,
+      is.1 ∙ ap (λ t. old.now.said ++ t) (taken text is.0 m refl
+          ∙ sym (take-append-le m text line (omega arith))),
+    )
 
 module _ (schema : Schema) (indexed : ℕ → List Bool) where
   -- ---- what was heard of a script
@@ -76,7 +79,13 @@ module _ (schema : Schema) (indexed : ℕ → List Bool) where
       subst (λ all. SaysPlans schema indexed all old new result) (heard_lines script left heard is)
 
   none_explained : (all : Lines) → AreFirstExplained schema indexed all []
-  none_explained all = record { ran = []; later = all.lines; parts = refl; inside = false; explained = (refl, refl) }
+  none_explained all = record {
+    ran = [];
+    later = all.lines;
+    parts = refl;
+    inside = false;
+    explained = (refl, refl);
+  }
 
   -- before a line is explained
   pub unheard_plans : (all : Lines) (old new : Content) (before now : ℕ) (why : Stop)
@@ -126,7 +135,15 @@ module _ (schema : Schema) (indexed : ℕ → List Bool) where
   pub done_said : (old new : Content)
       → SaysText (IsExplainedTo schema indexed (script_lines old.script) good) old new
       → IsScriptExplained schema indexed old new status.Done
-  done_said old new is = (is.0, record { plans = is.0; explained = is.1; text_is = sym (append-nil is.0) }, is.2)
+  done_said old new is = (
+    is.0,
+    record {
+      plans = is.0;
+      explained = is.1;
+      text_is = sym (append-nil is.0);
+    },
+    is.2,
+  )
 
   -- what was explained are the first lines
   first_of : (all : Lines) (end : End) (text : List ℕ)
@@ -134,7 +151,13 @@ module _ (schema : Schema) (indexed : ℕ → List Bool) where
       → AreFirstExplained schema indexed all text
   first_of all end text x =
       let parts = parts_of all x.ran x.next x.first in
-      record { ran = x.ran; later = parts.0; parts = parts.1; inside = x.inside; explained = x.explained }
+      record {
+        ran = x.ran;
+        later = parts.0;
+        parts = parts.1;
+        inside = x.inside;
+        explained = x.explained;
+      }
     where
       parts_of : (all : Lines) (ran : List (List ℕ)) (next : Result (Option (List ℕ)) LineWhy)
           → AreFirstLines all ran next → (later : List (List ℕ)) × (all.lines ≡ ran ++ later)
@@ -160,7 +183,11 @@ module _ (schema : Schema) (indexed : ℕ → List Bool) where
   short_front old mid new n is said = (
     is.0 ++ memory_line,
     inr (record { plans = is.0; explained = is.1; text_is = refl }),
-    (length is.0 + n, front_behind old.now.said mid.now.said new.now.said is.0 memory_line n is.2 said),
+    (
+      length is.0 + n,
+      front_behind old.now.said mid.now.said new.now.said is.0 memory_line
+          n is.2 said,
+    ),
   )
 
   firsts : (old mid : Content) (number : ℕ) (why : LineWhy)
@@ -178,7 +205,11 @@ module _ (schema : Schema) (indexed : ℕ → List Bool) where
   line_front old mid new number why is (n, inl said) = (
     is.0 ++ ending_line (ending.Line number why),
     inl (stopped number why, record { plans = is.0; explained = is.1; text_is = refl }),
-    (length is.0 + n, front_behind old.now.said mid.now.said new.now.said is.0 (ending_line (ending.Line number why)) n is.2 said),
+    (
+      length is.0 + n,
+      front_behind old.now.said mid.now.said new.now.said is.0
+          (ending_line (ending.Line number why)) n is.2 said,
+    ),
   )
   line_front old mid new number why is (n, inr said) =
       short_front old mid new n (firsts old mid number why is) said

@@ -174,7 +174,13 @@ module _ (schema : Schema) (indexed : ℕ → List Bool) where
   first_so_far : (all left : Lines) (number : ℕ) (inside : Bool) (old new : Content)
       → (so : IsSoFar all left number inside old new) → AreFirstExplained schema indexed all so.text
   first_so_far all left number inside old new
-      so = record { ran = so.ran; later = left.lines; parts = so.lines_are; inside = inside; explained = so.explained }
+      so = record {
+        ran = so.ran;
+        later = left.lines;
+        parts = so.lines_are;
+        inside = inside;
+        explained = so.explained;
+      }
 
   -- where nothing is said of a line
   pub at_line : (all before left : Lines) (number : ℕ) (inside : Bool) (line : List ℕ)
@@ -205,20 +211,21 @@ module _ (schema : Schema) (indexed : ℕ → List Bool) where
       → IsLineExplained schema indexed inside (number + 1) line x
       → piece ≡ x.text → new.now.said ≡ mid.now.said ++ take n piece
       → SaysFront (AreFirstExplained schema indexed all) old new
-  at_fault all before left number n inside line piece x old mid new before_is so is piece_is said = (
-    so.text ++ x.text,
-    record {
-      ran = so.ran ++ line ∷ [];
-      later = left.lines;
-      parts = parts_more all before left so.ran line
-          so.lines_are before_is;
-      inside = x.inside;
-      explained = one_more so.ran number inside so.text line x so.many so.explained is;
-    },
-    (
-      length so.text + n,
-      said ∙ ap (λ t. mid.now.said ++ take n t) piece_is ∙ ap (λ t. t ++ take n x.text) so.said
-          ∙ append_assoc old.now.said so.text (take n x.text)
-          ∙ ap (λ t. old.now.said ++ t) (sym (take-append-add so.text x.text n)),
-    ),
-  )
+  at_fault all before left number n inside line piece x old mid new before_is so is
+      piece_is said = (
+        so.text ++ x.text,
+        record {
+          ran = so.ran ++ line ∷ [];
+          later = left.lines;
+          parts = parts_more all before left so.ran line
+              so.lines_are before_is;
+          inside = x.inside;
+          explained = one_more so.ran number inside so.text line x so.many so.explained is;
+        },
+        (
+          length so.text + n,
+          said ∙ ap (λ t. mid.now.said ++ take n t) piece_is ∙ ap (λ t. t ++ take n x.text) so.said
+              ∙ append_assoc old.now.said so.text (take n x.text)
+              ∙ ap (λ t. old.now.said ++ t) (sym (take-append-add so.text x.text n)),
+        ),
+      )

@@ -124,7 +124,11 @@ module _ (schema : Schema) (indexed : ℕ → List Bool) where
             ran p.1 final) same p.4;
         ends = more last line ran next final end x.ends;
       })
-      (record { first = m.first; explained = q.4; ends = more last another others then other close y.ends }) in
+      (record {
+        first = m.first;
+        explained = q.4;
+        ends = more last another others then other close y.ends;
+      }) in
       (p.5 ∙ (λ i. command_text schema indexed (last + 1) (same i) ++ rest.0 i) ∙ sym q.5, rest.1)
 
   from_0 : (all : Lines) (end : End) (text : List ℕ)

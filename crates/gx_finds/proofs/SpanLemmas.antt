@@ -198,10 +198,14 @@ pub both_whole : (kind : Kind) (first second result : Span)
     → (result.hi ≡ first.hi) ⊎ (result.hi ≡ second.hi) → IsValueSpan kind first
     → IsValueSpan kind second → IsValueSpan kind result
 both_whole kind first second result low high a b = record {
-  lo_whole = λ v rest fits e. elim low
-      [ inl is ↦ a.lo_whole v rest fits (sym is ∙ e) | inr is ↦ b.lo_whole v rest fits (sym is ∙ e) ];
-  hi_whole = λ v rest fits e. elim high
-      [ inl is ↦ a.hi_whole v rest fits (sym is ∙ e) | inr is ↦ b.hi_whole v rest fits (sym is ∙ e) ];
+  lo_whole = λ v rest fits e. elim low [
+    | inl is ↦ a.lo_whole v rest fits (sym is ∙ e)
+    | inr is ↦ b.lo_whole v rest fits (sym is ∙ e)
+  ];
+  hi_whole = λ v rest fits e. elim high [
+    | inl is ↦ a.hi_whole v rest fits (sym is ∙ e)
+    | inr is ↦ b.hi_whole v rest fits (sym is ∙ e)
+  ];
 }
 
 -- ---- all conditions

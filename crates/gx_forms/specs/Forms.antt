@@ -53,8 +53,10 @@ one_field form i =
 -- (K and `_seq` int; `_piece` bytes n)
 abbrev pub divide_form : ℕ → Form → Form
 divide_form size form =
-    record
-    { keys = form.keys ++ field (codes "_seq") kinds.Int ∷ []; fields = field (codes "_piece") (kinds.Bytes size) ∷ [] }
+    record {
+      keys = form.keys ++ field (codes "_seq") kinds.Int ∷ [];
+      fields = field (codes "_piece") (kinds.Bytes size) ∷ [];
+    }
 
 -- the kind of the field that is indexed, an int or a text
 abbrev pub index_kind : Option Kind → Kind
@@ -89,16 +91,23 @@ key_field name kind = field name kind ∷ []
 -- (`owner` O; `members` bytes MOST_MEMBERS w(M))
 abbrev pub array_form : Kind → Kind → Form
 array_form o m =
-    record
-    { keys = key_field (codes "owner") o; fields = field (codes "members") (kinds.Bytes (MOST_MEMBERS * width_of m)) ∷ [] }
+    record {
+      keys = key_field (codes "owner") o;
+      fields = field (codes "members")
+          (kinds.Bytes (MOST_MEMBERS * width_of m)) ∷ [];
+    }
 
 -- (`owner` O; `first` M) and (`member` M; `last` int, `next` bytes max (w(O), w(M)), `owner` O)
 abbrev pub ring_form : Kind → Kind → ℕ → Form
 ring_form o m zero =
     record { keys = key_field (codes "owner") o; fields = field (codes "first") m ∷ [] }
 ring_form o m (suc i) =
-    record
-    { keys = key_field (codes "member") m; fields = field (codes "last") kinds.Int ∷ field (codes "next") (kinds.Bytes (max (width_of o) (width_of m))) ∷ field (codes "owner") o ∷ [] }
+    record {
+      keys = key_field (codes "member") m;
+      fields = field (codes "last") kinds.Int ∷ field
+          (codes "next") (kinds.Bytes (max (width_of o) (width_of m))) ∷ field
+          (codes "owner") o ∷ [];
+    }
 
 -- (`owner` O, `member` M; nothing) and (`member` M; `owner` O)
 abbrev pub inverted_form : Kind → Kind → ℕ → Form

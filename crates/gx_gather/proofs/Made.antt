@@ -62,7 +62,8 @@ alike_of width (g ∷ gs) q h e =
 
 -- ---- the loop over sorted parts
 
--- what is gathered, the group that is being collected, and what is left of the parts; `out` before and now
+-- what is gathered, the group that is being collected, and what is left of the parts; `out` before
+-- and now
 pub record IsGathering (rule : Rule) (width : ℕ) (ps : List Part) (before out : List Rec)
     (group rest : List Part) : Type 0 where
   pub done : List Rec
@@ -109,7 +110,16 @@ module _ {rule : Rule} (laws : MappingLaws rule) (width : ℕ)
     key_fits = front_fits g (are g (inl refl));
     each = λ p h.
         let d = are p h in
-        record { child = d.below; rest = d.rest; fits = d.fits; under = (drop width p.rec.key, take_drop width p.rec.key ∙ ap (λ k. k ++ drop width p.rec.key) (alike p h)) };
+        record {
+          child = d.below;
+          rest = d.rest;
+          fits = d.fits;
+          under = (
+            drop width p.rec.key,
+            take_drop width p.rec.key
+                ∙ ap (λ k. k ++ drop width p.rec.key) (alike p h),
+          );
+        };
   }
 
   pub gathering_begins : (ps : List Part) (before : List Rec)
@@ -189,7 +199,11 @@ module _ {rule : Rule} (laws : MappingLaws rule) (width : ℕ)
     ];
     alike = λ p k. elim (in_cases p group (q ∷ []) k) [
       | inl i ↦ g.alike p i ∙ sym (first_stays group p q i)
-      | inr i ↦ elim i [ inl is ↦ ap (λ (x : Part). take width x.rec.key) is ∙ first_append group q e | inr f ↦ absurd f ]
+      | inr i ↦ elim i [
+        | inl is ↦ ap (λ (x : Part). take width x.rec.key) is
+            ∙ first_append group q e
+        | inr f ↦ absurd f
+      ]
     ];
     idle = λ is. absurd (not_empty group is);
   }
@@ -282,12 +296,19 @@ module _ {rule : Rule} (laws : MappingLaws rule) (width : ℕ)
                 | inl i ↦ values_cmp_total.trans r.key (first_front width group)
                     (take width q.rec.key) (subst (λ k. values_cmp r.key k ≡ Less) is.1
                     (made_after ps before out group (q ∷ rest) made some is.1 g r i)) after
-                | inr i ↦ elim i [ inl at ↦ subst (λ k. values_cmp k (take width q.rec.key) ≡ Less) (sym (ap (λ (x : Rec). x.key) at ∙ is.1)) after | inr f ↦ absurd f ]
+                | inr i ↦ elim i [
+                  | inl at ↦ subst (λ k. values_cmp k (take width q.rec.key) ≡ Less)
+                      (sym (ap (λ (x : Rec). x.key) at ∙ is.1)) after
+                  | inr f ↦ absurd f
+                ]
               ] in
               subst (λ (x : Part). values_cmp r.key (take width x.rec.key) ≡ Less) (sym same) last)
           | inr f ↦ absurd f
         ];
-        alike = λ p k. elim k [ inl same ↦ ap (λ (x : Part). take width x.rec.key) same | inr f ↦ absurd f ];
+        alike = λ p k. elim k [
+          | inl same ↦ ap (λ (x : Part). take width x.rec.key) same
+          | inr f ↦ absurd f
+        ];
         idle = λ none. absurd (let x : q ∷ [] ≡ [] = none in cc);
       }
 
@@ -420,7 +441,11 @@ permuted_back xs ys x perm h = permuted_in ys xs x (IsPermutation-sym xs ys perm
 pub made_of_sorted : (rule : Rule) (ps qs : List Part) (found : List Rec) → IsPermutation ps qs
     → AreMadeOf rule qs found → AreMade rule ps found
 made_of_sorted rule ps qs found perm made =
-    record { fit = made.fit; those = subst (IsPermutation ps) made.those perm; in_order = made.in_order }
+    record {
+      fit = made.fit;
+      those = subst (IsPermutation ps) made.those perm;
+      in_order = made.in_order;
+    }
 
 pub unmade_of_sorted : (rule : Rule) (width : ℕ) (ps qs : List Part) → IsPermutation ps qs
     → IsSortedBy (λ a b. is_lt (gather_cmp width a b)) qs

@@ -155,15 +155,21 @@ ascends_filter R p [] a = tt
 ascends_filter {A = A} R p (x ∷ xs) a = go (p x) (ascends_filter R p xs a.1)
   where
     go : (b : Bool) → Ascends R (filter p xs) → Ascends R (cond b (x ∷ filter p xs) (filter p xs))
-    go true rest = (all_of _ (filter p xs) (λ y i. all_in (λ y. R x y ≡ Less) xs y a.0 (in_filter p y xs i).0), rest)
+    go true rest = (
+      all_of _ (filter p xs)
+          (λ y i. all_in (λ y. R x y ≡ Less) xs y a.0 (in_filter p y xs i).0),
+      rest,
+    )
     go false rest = rest
 
 -- a part of a list in order, in an order that agrees there
 pub ascends_middle : {A : Type 0} (R : A → A → Ordering) (xs ys zs : List A)
     → Ascends R (xs ++ (ys ++ zs)) → Ascends R ys
 ascends_middle R [] [] zs a = tt
-ascends_middle R [] (y ∷ ys) zs a =
-    (all_of _ ys (λ z i. all_in (λ w. R y w ≡ Less) (ys ++ zs) z a.0 (in_left z ys zs i)), ascends_middle R [] ys zs a.1)
+ascends_middle R [] (y ∷ ys) zs a = (
+  all_of _ ys (λ z i. all_in (λ w. R y w ≡ Less) (ys ++ zs) z a.0 (in_left z ys zs i)),
+  ascends_middle R [] ys zs a.1,
+)
 ascends_middle R (x ∷ xs) ys zs a = ascends_middle R xs ys zs a.1
 
 pub ascends_by : {A : Type 0} {R S : A → A → Ordering} (xs : List A)

@@ -139,7 +139,11 @@ begun_by (b ∷ bs) f (c ∷ cs) is same = elim (cases_Bool (b == 0)) [
 int_front : (key f : List ℕ) → whole_front kind.Int key ≡ Some f
     → (8 ≤ length key) × (take 8 key ≡ f)
 int_front key f is = elim (cases_Bool (nat_le 8 (length key))) [
-  | inl e ↦ (leb-true 8 (length key) e, same_Some (take 8 key) f (sym (ap (λ (t : Bool). cond t (Some (take 8 key)) None) e) ∙ is))
+  | inl e ↦ (
+    leb-true 8 (length key) e,
+    same_Some (take 8 key) f
+        (sym (ap (λ (t : Bool). cond t (Some (take 8 key)) None) e) ∙ is),
+  )
   | inr e ↦ absurd (none-some f (sym (ap (λ (t : Bool). cond t (Some (take 8 key)) None) e) ∙ is))
 ]
 

@@ -55,7 +55,11 @@ pub record IsMaking {S : Type 0} (g : Ghosts S) (place : Place) (start now : S)
 
 pub roots_none : (ground : Ground) (place : Place) (s : Sheets) → AreRootsMade ground place s s 0
 roots_none ground place s =
-    record { made = λ i below. absurd (omega (arith, below)); owners = λ q off. refl; bytes = λ q past off. refl }
+    record {
+      made = λ i below. absurd (omega (arith, below));
+      owners = λ q off. refl;
+      bytes = λ q past off. refl;
+    }
 
 -- the next root is free yet
 pub root_free : (ground : Ground) (place : Place) (s t : Sheets) (count : ℕ)

@@ -29,7 +29,11 @@ module _ (ground : Ground) (place : Place) (s : Sheets) (pages : ℕ → List �
     → hash_bucket place.spec key ≡ bucket) where
   pub chains_of : AreBucketChains ground place.owner s (λ n. place.root + n)
       (hash_bucket place.spec) count pages
-  chains_of = record { chains = chains; placed = placed; once = chains_once ground place s pages count chains placed }
+  chains_of = record {
+    chains = chains;
+    placed = placed;
+    once = chains_once ground place s pages count chains placed;
+  }
 
   -- the pages behind the first of each chain
   abbrev rests : ℕ → List ℕ
@@ -58,7 +62,13 @@ module _ (ground : Ground) (place : Place) (s : Sheets) (pages : ℕ → List �
   rest_below (suc n) =
       let ih = rest_below n in
       let long = rest_long (pages n) in
-      omega (arith, ih, long, length-append (pages_below pages n) (pages n), length-append (pages_below rests n) (rests n))
+      omega (
+        arith,
+        ih,
+        long,
+        length-append (pages_below pages n) (pages n),
+        length-append (pages_below rests n) (rests n),
+      )
 
   rest_in : (q : ℕ) → Contains (pages_below rests count) q → Contains (pages_below pages count) q
   rest_in q c = let r = below_to rests count q c in

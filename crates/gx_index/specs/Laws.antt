@@ -184,8 +184,16 @@ index_laws form i sound = record {
         (sym at) (omega arith, is)
     fit r p is (inr (inl at)) =
         subst (λ (q : Part). (q.child < 2) × IsOf ((index_rule form i).kid_form q.child) q.rec)
-        (sym at)
-        (omega arith, record { key = (fit_at i form.fields r.fields no_field no_value is.fields sound.place, is.key); fields = tt })
+        (sym at) (
+          omega arith,
+          record {
+            key = (
+              fit_at i form.fields r.fields no_field no_value is.fields sound.place,
+              is.key,
+            );
+            fields = tt;
+          },
+        )
     fit r p is (inr (inr none)) = absurd none
 
     leads : (r : Rec) (p : Part) → In p (record_part r ∷ entry_part i r ∷ [])

@@ -25,7 +25,10 @@ module _ {S : Type 0} (g : Ghosts S) (place : Place) (p q r w : S) (reads : Read
     (holds : Holds g (IsIsam (g.ground p) place) p map)
     (freed : Holds g (IsIsam (g.ground q) place) q map
     → IsEmptied (g.ground q) place (g.working q) (g.working r))
-    (written : g.working w ≡ record { owners = (g.working r).owners; bytes = set (g.working r).bytes place.root page })
+    (written : g.working w ≡ record {
+      owners = (g.working r).owners;
+      bytes = set (g.working r).bytes place.root page;
+    })
     (index : IsIndexPage page) (none : (i : ℕ) → i < bucket_count page
     → first_page_of page i ≡ NONE) where
   emptied : IsEmptied (g.ground p) place (g.working p) (g.working r)

@@ -131,7 +131,14 @@ module _ (ground : Ground) (place : Place) (s t : Sheets) (map : LeafMap) (some 
   one_changed : IsOneChanged ground place.owner s t (first_page_of (bytes_at s root))
       (first_page_of (bytes_at t root)) h.pages count j now
       (root ∷ h.pages j) (root ∷ now)
-  one_changed = record { some = some; chains = h.buckets.chains; firsts = c.firsts; chain = c.chain; beside = c.beside; off = off_before }
+  one_changed = record {
+    some = some;
+    chains = h.buckets.chains;
+    firsts = c.firsts;
+    chain = c.chain;
+    beside = c.beside;
+    off = off_before;
+  }
 
   in_old : (i : ℕ) → i < bucket_count (bytes_at t root) → i < count
   in_old i less = let same = c.count in omega (arith, less, same)

@@ -97,7 +97,9 @@ module _ (ground : Ground) (place : Place) (s : Sheets) (map : LeafMap) (least :
         let entry : Entry = record { key = key; body = body } in
         let b = subst (λ (x : List ℕ). IsHungBefore ground place x bucket (entry ∷ []) s u) page_is
         begun in
-        let apart = λ (k x y : List ℕ) (here : Contains (entry ∷ []) (record { key = k; body = x })) (on : IsOn s (h.pages bucket) k y).
+        let apart =
+        λ (k x y : List ℕ) (here : Contains (entry ∷ []) (record { key = k; body = x }))
+        (on : IsOn s (h.pages bucket) k y).
         none_on k y on in
         let changed = hung_bucket ground place s u map least h bucket within (entry ∷ [])
         (some_there entry []) apart b in (
@@ -106,8 +108,10 @@ module _ (ground : Ground) (place : Place) (s : Sheets) (map : LeafMap) (least :
               (λ k c put. put.0)
               (λ k c. (
                 λ on. elim ((hung_on ground place s u map least h bucket within (entry ∷ [])
-                    (some_there entry []) apart b k c).0 on)
-                    [ inl here ↦ inl (only_entry key body k c here) | inr old ↦ absurd (none_on k c old) ],
+                    (some_there entry []) apart b k c).0 on) [
+                      | inl here ↦ inl (only_entry key body k c here)
+                      | inr old ↦ absurd (none_on k c old)
+                    ],
                 λ put. elim put [
                   | inl is ↦ (hung_on ground place s u map least h bucket within (entry ∷ [])
                       (some_there entry []) apart b k c).1
@@ -152,7 +156,10 @@ module _ (ground : Ground) (place : Place) (s : Sheets) (map : LeafMap) (least :
         (index_left_out after) in (
           key_isam ground place s u map least h bucket within c.now c.bucket key at
               (λ k b. (k ≡ key) × (b ≡ body)) (λ k b is. is.0)
-              (λ k b. (λ on. (put.entries k b).0 ((c.on k b).0 on), λ old. (c.on k b).1 ((put.entries k b).1 old)))
+              (λ k b. (
+                λ on. (put.entries k b).0 ((c.on k b).0 on),
+                λ old. (c.on k b).1 ((put.entries k b).1 old),
+              ))
               (fin.insert map key body)
               (found_put map key there (isam_at ground place s map h) body),
           bucket_others ground place s u map least h bucket within c.now c.bucket,
@@ -168,7 +175,10 @@ module _ (ground : Ground) (place : Place) (s : Sheets) (map : LeafMap) (least :
         (index_left_out after) in (
           key_isam ground place s u map least h bucket within c.now c.bucket key at (λ k b. ⊥)
               (λ k b never. absurd never)
-              (λ k b. none_put (λ on. (less.entries k b).0 ((c.on k b).0 on), λ old. (c.on k b).1 ((less.entries k b).1 old)))
+              (λ k b. none_put (
+                λ on. (less.entries k b).0 ((c.on k b).0 on),
+                λ old. (c.on k b).1 ((less.entries k b).1 old),
+              ))
               (fin.remove map key) (λ k b. none_put
               (found_removed map key there (isam_at ground place s map h) k b)),
           bucket_others ground place s u map least h bucket within c.now c.bucket,

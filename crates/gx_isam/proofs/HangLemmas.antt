@@ -213,6 +213,10 @@ module _ (ground : Ground) (place : Place) (s u : Sheets) (map : LeafMap) (some 
               (sym fresh_entries) here;
         }
         | inr was ↦ (let on = same_on ground place.owner 0 s u old old_same k b was in
-            record { page = on.page; among = contains_later f on.page old on.among; here = on.here })
+            record {
+              page = on.page;
+              among = contains_later f on.page old on.among;
+              here = on.here;
+            })
       ],
     )

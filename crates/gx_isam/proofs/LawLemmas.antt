@@ -93,7 +93,14 @@ module _ (ground : Ground) (place : Place) (s : Sheets) (pages : ℕ
 
   -- and they hold it
   pub isam_of : IsIsam ground place s (isam_map place s)
-  isam_of = record { index = index; root = root_owned; pages = pages; buckets = b; owned = owned; map_is = isam_map_on }
+  isam_of = record {
+    index = index;
+    root = root_owned;
+    pages = pages;
+    buckets = b;
+    owned = owned;
+    map_is = isam_map_on;
+  }
 
 -- its pages decide
 pub isam_same : (ground : Ground) (place : Place) (s t : Sheets) (map : LeafMap)
@@ -104,7 +111,9 @@ isam_same ground place s t map past same h =
     let count = ap bucket_count root in
     let old = λ (i : ℕ) (less : i < bucket_count (bytes_at t place.root)). subst (λ n. i < n) count
     less in
-    let bytes = λ (i q : ℕ) (in_i : i < bucket_count (bytes_at s place.root)) (c : Contains (h.pages i) q). bytes_same s t q
+    let bytes =
+    λ (i q : ℕ) (in_i : i < bucket_count (bytes_at s place.root)) (c : Contains (h.pages i) q).
+    bytes_same s t q
     (same.bytes q ((h.buckets.chains i in_i).fit.past q c).past
     ((h.buckets.chains i in_i).fit.owned q c)) in
     let back = λ (i : ℕ) (k c : List ℕ) (in_i : i < bucket_count (bytes_at s place.root)).
@@ -126,7 +135,11 @@ isam_same ground place s t map past same h =
     })
     (λ q o. elim (h.owned q ((same.owned q).1 o)) [
       | inl e ↦ inl e
-      | inr r ↦ inr (record { bucket = r.bucket; below = subst (λ n. r.bucket < n) (sym count) r.below; among = r.among })
+      | inr r ↦ inr (record {
+        bucket = r.bucket;
+        below = subst (λ n. r.bucket < n) (sym count) r.below;
+        among = r.among;
+      })
     ])
     (λ k c.
     let at = ap (λ (b : List ℕ). bucket_of b k) root in

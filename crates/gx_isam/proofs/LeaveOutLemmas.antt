@@ -266,4 +266,8 @@ module _ (ground : Ground) (place : Place) (s t u : Sheets) (map : LeafMap) (som
   }
   left_out_if_empty (inr out) =
       (let head = headed ground place.owner t first pages chain first_some in
-      record { now = head.0; bucket = left_out out.1 head.0 head.1; on = on_rest_of_empty out.1 head.0 head.1 out.0 })
+      record {
+        now = head.0;
+        bucket = left_out out.1 head.0 head.1;
+        on = on_rest_of_empty out.1 head.0 head.1 out.0;
+      })

@@ -24,7 +24,8 @@ use Rattle.gx_isam.proofs.BucketLemmas.{as_isam}
 
 no_keys : fin.keys (fin.empty {X = List ℕ} {R = key_cmp}) ≡ []
 no_keys = ap (map (λ e. e.0))
-    (nil_from_length _ (sym (fin.len-entries (fin.empty {X = List ℕ} {R = key_cmp})) ∙ fin.len-empty key_cmp (List ℕ)))
+    (nil_from_length _ (sym (fin.len-entries (fin.empty {X = List ℕ} {R = key_cmp}))
+    ∙ fin.len-empty key_cmp (List ℕ)))
 
 pub one_root : (place : Place) → place.spec.kind ≡ kinds.Isam → roots_of place.spec ≡ 1
 one_root place kind = ap roots_of_kind kind

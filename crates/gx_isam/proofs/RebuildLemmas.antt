@@ -103,8 +103,13 @@ module _ (ground : Ground) (place : Place) (s t : Sheets) (map : LeafMap) (some 
     changed_found k b = (
       λ is. elim ((on_now k b).0 is)
           [ inl put ↦ inl put | inr old ↦ inr (old.0, (isam_at ground place s map h k b).1 old.1) ],
-      λ put. (on_now k b).1 (elim put
-          [ inl here ↦ inl here | inr old ↦ inr (old.0, (isam_at ground place s map h k b).0 old.1) ]),
+      λ put. (on_now k b).1 (elim put [
+        | inl here ↦ inl here
+        | inr old ↦ inr (
+          old.0,
+          (isam_at ground place s map h k b).0 old.1,
+        )
+      ]),
     )
 
     pub changed_isam : IsIsam ground place t (isam_map place t)
@@ -127,7 +132,12 @@ module _ (ground : Ground) (place : Place) (s u : Sheets) (map : LeafMap) (some 
   head = headed ground place.owner s first (h.pages j) chain first_some
 
   same : StaysBeside ground s s (h.pages j) (h.pages j)
-  same = record { owners = λ q off off'. refl; bytes = λ q in' off off'. refl; came = λ q c. inl c; left = λ q c. inl c }
+  same = record {
+    owners = λ q off off'. refl;
+    bytes = λ q in' off off'. refl;
+    came = λ q c. inl c;
+    left = λ q c. inl c;
+  }
 
   first_in : Contains (h.pages j) first
   first_in = subst (λ (x : List ℕ). Contains x first) (sym head.1) (contains_here first head.0)
@@ -380,7 +390,10 @@ module _ (ground : Ground) (place : Place) (before s m t : Sheets) (page : List 
 
   pub blank_others : OthersStay ground place.owner before t
   blank_others = others_joined ground place.owner before s t e.others (λ other d z. record {
-    owned = λ q. (λ o. ap (λ (x : List ℕ). slice_get x q) owners_same ∙ o, λ o. sym (ap (λ (x : List ℕ). slice_get x q) owners_same) ∙ o);
+    owned = λ q. (
+      λ o. ap (λ (x : List ℕ). slice_get x q) owners_same ∙ o,
+      λ o. sym (ap (λ (x : List ℕ). slice_get x q) owners_same) ∙ o,
+    );
     bytes = λ q in' o. ap (λ (x : Sheets). slice_get x.bytes q) t_is
         ∙ slice_get_set s.bytes place.root q page
         (λ is. d (sym (same_Some place.owner other (sym e.root ∙ ap (slice_get s.owners) (sym is)
@@ -498,14 +511,28 @@ module _ (ground : Ground) (place : Place) (begin s u : Sheets) (before index in
       λ is. elim ((found k b).0 is) [
         | inl here ↦
             (let w = (run.those k b).0 here in let less = w.below in
-            record { place = w.place; from = w.from; below = omega (arith, less, within); there = w.there })
+            record {
+              place = w.place;
+              from = w.from;
+              below = omega (arith, less, within);
+              there = w.there;
+            })
         | inr old ↦ (let w = (f.those k b).0 old.1 in let more = w.from in let more' = run.some in
-            record { place = w.place; from = omega (arith, more, more'); below = w.below; there = w.there })
+            record {
+              place = w.place;
+              from = omega (arith, more, more');
+              below = w.below;
+              there = w.there;
+            })
       ],
       λ w. (found k b).1 (elim (cases_lt w.place end) [
         | inl less ↦ inl ((run.those k b).1
             (record { place = w.place; from = w.from; below = less; there = w.there }))
-        | inr more ↦ inr (tt, (f.those k b).1 (record { place = w.place; from = more; below = w.below; there = w.there }))
+        | inr more ↦ inr (
+          tt,
+          (f.those k b).1
+              (record { place = w.place; from = more; below = w.below; there = w.there }),
+        )
       ]),
     );
     others = others_joined ground place.owner begin s u f.others
@@ -592,7 +619,12 @@ within_one entries start end k b e less at w = elim (cases_eq w.place start) [
       inl (same_entry entries start e (record { key = k; body = b }) at
       (subst (λ n. slice_get entries n ≡ Some (record { key = k; body = b })) same w.there))
   | inr d ↦ (let from = w.from in
-      inr (record { place = w.place; from = omega (arith, from, d); below = w.below; there = w.there }))
+      inr (record {
+        place = w.place;
+        from = omega (arith, from, d);
+        below = w.below;
+        there = w.there;
+      }))
 ]
 
 -- an entry in front
@@ -610,7 +642,9 @@ run_more index entries start end bucket page new key body less at placed those a
     let to = λ (k b : List ℕ) (c : Contains new (record { key = k; body = b })). more_to page 0 e
     (record { key = k; body = b })
     (subst (λ (x : List Entry). Contains x (record { key = k; body = b })) is c) in
-    let from = λ (k b : List ℕ) (c : (e ≡ record { key = k; body = b }) ⊎ Contains page (record { key = k; body = b })). subst
+    let from =
+    λ (k b : List ℕ) (c : (e ≡ record { key = k; body = b })
+    ⊎ Contains page (record { key = k; body = b })). subst
     (λ (x : List Entry). Contains x (record { key = k; body = b })) (sym is)
     (more_from page 0 e (record { key = k; body = b }) c) in
     record {
@@ -624,7 +658,10 @@ run_more index entries start end bucket page new key body less at placed those a
             from = omega arith;
             below = omega (arith, less);
             there = at ∙ ap Some (λ i.
-                record { key = (ap (λ (x : Entry). x.key) same) i; body = (ap (λ (x : Entry). x.body) same) i });
+                record {
+                  key = (ap (λ (x : Entry). x.key) same) i;
+                  body = (ap (λ (x : Entry). x.body) same) i;
+                });
           }
           | inr old ↦
               (let w = (those k b).0 old in let low = w.from in record {
@@ -636,7 +673,10 @@ run_more index entries start end bucket page new key body less at placed those a
         ],
         λ w. from k b (elim (within_one entries start end k b (record { key = key; body = body })
             (omega (arith, less)) at w) [
-              | inl same ↦ inl (λ i. record { key = (ap (λ (x : LeafEntry). x.key) same) i; body = (ap (λ (x : LeafEntry). x.body) same) i })
+              | inl same ↦ inl (λ i. record {
+                key = (ap (λ (x : LeafEntry). x.key) same) i;
+                body = (ap (λ (x : LeafEntry). x.body) same) i;
+              })
               | inr later ↦ inr ((those k b).1 later)
             ]),
       );

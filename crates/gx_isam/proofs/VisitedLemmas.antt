@@ -95,8 +95,17 @@ visited_nothing ground owner s index bucket seen small none = record {
   chain = record { linked = none; fit = fit_none ground owner s (first_page_of index bucket) };
   only = λ other chain. no_pages ground owner s other small
       (subst (λ n. IsChain ground owner s n other) none chain);
-  placed = record { placed = λ k b on. absurd (contains_none on.page on.among); filled = λ q c. absurd (contains_none q c) };
-  seen = λ q. (λ is. inl is, λ is. elim is [ inl old ↦ old | inr never ↦ absurd (contains_none q never) ]);
+  placed = record {
+    placed = λ k b on. absurd (contains_none on.page on.among);
+    filled = λ q c. absurd (contains_none q c);
+  };
+  seen = λ q. (
+    λ is. inl is,
+    λ is. elim is [
+      | inl old ↦ old
+      | inr never ↦ absurd (contains_none q never)
+    ],
+  );
 }
 
 -- it has a chain, whose first page has an entry

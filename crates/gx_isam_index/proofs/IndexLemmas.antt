@@ -15,7 +15,11 @@ use Rattle.gx_isam_index.proofs.SeparatorLemmas.{separator_format}
 pub page_holds : (bytes : List ℕ) → IsIndexPage bytes
     → HoldsCount (bucket_count bytes - 1) (behind_firsts bytes)
 page_holds bytes page =
-    record { held = page.separators.held; count = page.separators.count; holds = page.separators.holds }
+    record {
+      held = page.separators.held;
+      count = page.separators.count;
+      holds = page.separators.holds;
+    }
 
 -- ---- the bucket of a key
 

@@ -408,7 +408,12 @@ module _ (es : List LeafEntry) (ordered : AreOrdered es) (old new : List ℕ) (c
     blank = has.front 1 (omega arith) ∙ begun.blank;
     some = let c = new_count in omega (arith, some, c);
     most = let c = new_count in omega (arith, most, c);
-    separators = record { held = has.separators; count = length_new; holds = holds_new; ascending = ascending_new };
+    separators = record {
+      held = has.separators;
+      count = length_new;
+      holds = holds_new;
+      ascending = ascending_new;
+    };
   }
 
   pub fresh_new : count ≡ fresh_count (keys_of es) → HasFreshBuckets new (keys_of es)

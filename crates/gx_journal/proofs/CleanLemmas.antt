@@ -23,8 +23,13 @@ find_cleaned p (y ∷ rs) r is = elim (eqb_tells y.page p) [
     ap (λ (z : Resident). z.bytes) (same_Some y r (sym (find_here p y rs same.1) ∙ is)),
     refl,
   ))
-  | inr other ↦ (let rest = find_cleaned p rs r (sym (find_past p y rs other.1) ∙ is) in
-      (rest.0, ap (find_page p) (cleaned_other p y rs other.1) ∙ find_past p y (cleaned p rs) other.1 ∙ rest.1, rest.2, rest.3))
+  | inr other ↦ (let rest = find_cleaned p rs r (sym (find_past p y rs other.1) ∙ is) in (
+    rest.0,
+    ap (find_page p) (cleaned_other p y rs other.1)
+        ∙ find_past p y (cleaned p rs) other.1 ∙ rest.1,
+    rest.2,
+    rest.3,
+  ))
 ]
 
 pub find_cleaned_other : (p q : ℕ) (rs : List Resident) → p ≢ q

@@ -135,7 +135,11 @@ module _ (P : ℕ) (kept : View) (old mid : Content) (count : length kept.pages 
 module _ (tells : Bool) (told : IsTrue tells) (kept pages : List (List ℕ)) (a b : Content) where
   shown : (ps : List (List ℕ)) (image : Image) → StandsFor (view_now ps a) image
       → Shows (head_told tells a) ps image.blocks
-  shown ps image s = record { replays = s.pages; head_is = s.head ∙ sym (ap (λ (t : Bool). head_told t a) told) }
+  shown ps image s = record {
+    replays = s.pages;
+    head_is = s.head
+        ∙ sym (ap (λ (t : Bool). head_told t a) told);
+  }
 
   old_or_new : (image : Image) → Either (view_now kept a) (view_now pages a) image
       → IsOldOrNew (Shows (head_told tells a) kept) (Shows (head_told tells a) pages) a.now image

@@ -36,8 +36,11 @@ find_unchanged q (x ∷ rs) r u is = elim (cases_Bool x.changed) [
       ap (λ (b : Bool). find_page q (cond (not b) (x ∷ unchanged rs) (unchanged rs))) (sym plain)
       ∙ is in
       elim (eqb_tells x.page q) [
-        | inl at ↦ (let same = same_Some x r (sym (find_here q x (unchanged rs) at.1) ∙ here) in
-            (find_here q x rs at.1 ∙ ap Some same, ap (λ (y : Resident). y.changed) (sym same) ∙ plain))
+        | inl at ↦ (let same = same_Some x r (sym (find_here q x (unchanged rs) at.1) ∙ here) in (
+          find_here q x rs at.1 ∙ ap Some same,
+          ap (λ (y : Resident). y.changed)
+              (sym same) ∙ plain,
+        ))
         | inr off ↦ (let rest =
             find_unchanged q rs r u.1 (sym (find_past q x (unchanged rs) off.1) ∙ here) in
             (find_past q x rs off.1 ∙ rest.0, rest.1))

@@ -23,7 +23,13 @@ listed_more spilled listed p below off h =
     let same = length-set spilled p true in
     record {
       within = λ i lt. elim (eqb_tells i (length listed)) [
-        | inl at ↦ omega (arith, below, same, ap (λ (k : ℕ). get_or (listed ++ p ∷ []) k 0) at.1, get_or-append_seam listed p [] 0)
+        | inl at ↦ omega (
+          arith,
+          below,
+          same,
+          ap (λ (k : ℕ). get_or (listed ++ p ∷ []) k 0) at.1,
+          get_or-append_seam listed p [] 0,
+        )
         | inr other ↦ (let ne = other.1 in let less : i < length listed =
             omega (arith, long, lt, ne) in
             omega (arith, same, h.within i less, get_or-append listed (p ∷ []) 0 i less))
@@ -58,4 +64,10 @@ pub listed_fewer : (spilled : List Bool) (listed : List ℕ) (p : ℕ) → p < l
     → get_or spilled p false ≡ false
     → IsListed spilled listed → length listed < length spilled
 listed_fewer spilled listed p below off h =
-    omega (arith, h.count, counted spilled p below off, count_by-le-length (λ b. b) (set spilled p true), length-set spilled p true)
+    omega (
+      arith,
+      h.count,
+      counted spilled p below off,
+      count_by-le-length (λ b. b) (set spilled p true),
+      length-set spilled p true,
+    )

@@ -119,7 +119,12 @@ module _ (P : ℕ) (old new : Content) (o : OnlySlots P old new) where
       ∙ sym (get_or-take P (drop (7 + P) b) k d under))
 
   same_view : kept_view P new ≡ kept_view P old
-  same_view = λ i. record { pages = same_homes i; head = same_head i; said = []; shelf = o.outside.shelf i }
+  same_view = λ i. record {
+    pages = same_homes i;
+    head = same_head i;
+    said = [];
+    shelf = o.outside.shelf i;
+  }
 
 pub homes_same : (tells : Bool) (P Q : ℕ) (old new : Content) → Q ≡ P
     → (IsTrue tells → OnlySlots P old new)
@@ -205,7 +210,12 @@ module _ (old new : Content) (blocks : new.now.blocks ≡ old.now.blocks) where
       → CalmSince tells failed P start new
   still_calm tells failed P start shelf calm is =
       let v : kept_view P new ≡ kept_view P old =
-      λ i. record { pages = take P (drop (7 + P) (blocks i)); head = head_of (blocks i); said = []; shelf = shelf i } in
+      λ i. record {
+        pages = take P (drop (7 + P) (blocks i));
+        head = head_of (blocks i);
+        said = [];
+        shelf = shelf i;
+      } in
       record {
         told = is.told;
         steady = is.steady;

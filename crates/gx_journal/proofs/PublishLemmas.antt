@@ -69,7 +69,11 @@ find_place [] p = inr (λ j lt e. absurd (omega (arith, lt)))
 find_place (x ∷ listed) p = elim (eqb_tells x p) [
   | inl here ↦ inl (record { place = 0; below = omega arith; is = here.1 })
   | inr off ↦ elim (find_place listed p) [
-    | inl f ↦ inl (record { place = suc f.place; below = (let b = f.below in omega (arith, b)); is = f.is })
+    | inl f ↦ inl (record {
+      place = suc f.place;
+      below = (let b = f.below in omega (arith, b));
+      is = f.is;
+    })
     | inr none ↦ inr (λ j lt e. nowhere off.1 none j lt e)
   ]
 ]
@@ -179,7 +183,12 @@ pub home_in : (P : ℕ) (spilled : List Bool) (listed : List ℕ) → IsListed s
     → IsHomeOf P listed n
     → IsIn (7 + P) spilled n
 home_in P spilled listed h n is =
-    record { page = get_or listed is.place 0; below = h.within is.place is.below; is = is.is; changes = h.flagged is.place is.below }
+    record {
+      page = get_or listed is.place 0;
+      below = h.within is.place is.below;
+      is = is.is;
+      changes = h.flagged is.place is.below;
+    }
 
 -- the pages in the slots stand at home
 pub homes_hold : (pages : List (List ℕ)) (spilled : List Bool) (listed : List ℕ)

@@ -68,15 +68,29 @@ find_front p q rs = by (find_page p rs) refl
 pub length_without : (p : ℕ) (rs : List Resident) → length (without p rs) ≤ length rs
 length_without p [] = omega arith
 length_without p (r ∷ rs) = let rest = length_without p rs in elim (eqb_tells r.page p) [
-  | inl same ↦ omega (arith, rest, ap (λ (l : List Resident). length l) (without_here p r rs same.1))
-  | inr other ↦ omega (arith, rest, ap (λ (l : List Resident). length l) (without_past p r rs other.1))
+  | inl same ↦ omega (
+    arith,
+    rest,
+    ap (λ (l : List Resident). length l)
+        (without_here p r rs same.1),
+  )
+  | inr other ↦ omega (
+    arith,
+    rest,
+    ap (λ (l : List Resident). length l)
+        (without_past p r rs other.1),
+  )
 ]
 
 pub fewer_without : (p : ℕ) (rs : List Resident) (r : Resident) → find_page p rs ≡ Some r
     → length (without p rs) < length rs
 fewer_without p [] r is = absurd (let e : ◌≡◌ {A = Option Resident} None (Some r) = is in cc)
 fewer_without p (x ∷ rs) r is = elim (eqb_tells x.page p) [
-  | inl same ↦ omega (arith, length_without p rs, ap (λ (l : List Resident). length l) (without_here p x rs same.1))
+  | inl same ↦ omega (
+    arith,
+    length_without p rs,
+    ap (λ (l : List Resident). length l) (without_here p x rs same.1),
+  )
   | inr other ↦ omega (
     arith,
     fewer_without p rs r (sym (find_past p x rs other.1) ∙ is),

@@ -1,3 +1,3 @@
-//! Laws of truth values, orderings, numbers and lists that `std` doesn't have, for the proofs of the
-//! crates above, and two definitions that several crates share.
+//! Laws of truth values, orderings, numbers and lists that `std` doesn't have, for the proofs of
+//! the crates above, and two definitions that several crates share.
 #![tactic(auto)]

@@ -18,7 +18,12 @@ quiet_longer : (v : View) (start : Moment) (last longer : List ℕ) → IsPrefix
     → EachImage (IsQuiet (Shows v.head v.pages) start longer) m
 quiet_longer v start last longer p m leaves image is =
     let q = leaves image is in
-    record { is = q.is; begins = q.begins; goes_on = prefix_twice image.said last longer q.goes_on p; shelf = q.shelf }
+    record {
+      is = q.is;
+      begins = q.begins;
+      goes_on = prefix_twice image.said last longer q.goes_on p;
+      shelf = q.shelf;
+    }
 
 -- a call after which it is at rest with the same pages, and no less is said
 pub calm_tick : (start : Content) (v : View) (old new : Content) → Ticks old new

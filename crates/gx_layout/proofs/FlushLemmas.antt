@@ -11,7 +11,15 @@ use Rattle.gx_layout.proofs.FormatLemmas.{run_more}
 
 -- a sync that does nothing
 pub no_sync : (c : Content) → Syncs c c
-no_sync c = record { time = inr refl; blocks = refl; kept = λ n is. is; said = refl; shelf = refl; script = refl; aside = refl }
+no_sync c = record {
+  time = inr refl;
+  blocks = refl;
+  kept = λ n is. is;
+  said = refl;
+  shelf = refl;
+  script = refl;
+  aside = refl;
+}
 
 -- no sync came
 pub unflushed : (free : ℕ → Type 0) (a c : Content) → Through (Outside free a.now) a c

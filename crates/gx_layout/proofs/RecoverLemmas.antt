@@ -296,8 +296,12 @@ module _ (v : View) (a b c : Content) (s : Syncs a b) (r : OnlyTime b c)
       (reads_same v a b s reads))
 
   pub recovers_read : Recovers v a c
-  recovers_read = inr (record
-      { mid = b; first = synced (IsImage a.now) a b s (λ image is. is); none_pending = none; then = magic_images })
+  recovers_read = inr (record {
+    mid = b;
+    first = synced (IsImage a.now) a b s (λ image is. is);
+    none_pending = none;
+    then = magic_images;
+  })
 
   pub recovers_settled : (d : Content)
       → (NonePending c → ReadsAs c.now v → LeavesOnly (StandsFor v) c d) → Recovers v a d

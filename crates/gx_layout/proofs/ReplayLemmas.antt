@@ -83,7 +83,14 @@ closed_calm c P count room none closed =
     let long : length (kept_view P c).pages ≡ P =
     homes_long P c.now.blocks (omega (arith, count, room)) in
     calm_now (kept_view P c) c (record {
-      fits = record { count = long ∙ count; room = room; head_kept = λ n is. none n; head = refl; said = refl; shelf = refl };
+      fits = record {
+        count = long ∙ count;
+        room = room;
+        head_kept = λ n is. none n;
+        head = refl;
+        said = refl;
+        shelf = refl;
+      };
       gate_kept = none 1;
       gate = closed;
       homes = λ p below. record {

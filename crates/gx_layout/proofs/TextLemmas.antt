@@ -12,7 +12,12 @@ pub no_reads : (a : Content) → OnlyReads a a
 no_reads a = record { now = refl; script = refl; aside = refl; calm = λ start v calm. calm }
 
 pub one_read : (a b : Content) → OnlyTime a b → OnlyReads a b
-one_read a b r = record { now = r.now; script = r.script; aside = r.aside; calm = λ start v calm. calm_read start v a b r calm }
+one_read a b r = record {
+  now = r.now;
+  script = r.script;
+  aside = r.aside;
+  calm = λ start v calm. calm_read start v a b r calm;
+}
 
 pub reads_twice : (a b c : Content) → OnlyReads a b → OnlyReads b c → OnlyReads a c
 reads_twice a b c first then = record {
@@ -80,5 +85,8 @@ module _ (m : Moment) (area : List ℕ) (i : ℕ) (below : i < 4) (block part : 
     pub differ_here : (at : ℕ) → at < 4096 → get_or block at 0 ≢ get_or part at 0
         → ((k : ℕ) → k < at → get_or block k 0 ≡ get_or part k 0)
         → DifferFirst (text_at (head_of m.blocks)) (λ q. get_or area q 0) (Some (4096 * i + at))
-    differ_here at lt off same =
-        (omega (arith, lt, below), (λ e. off (sym (byte at lt) ∙ e ∙ other at lt)), upto at (omega (arith, lt)) same)
+    differ_here at lt off same = (
+      omega (arith, lt, below),
+      (λ e. off (sym (byte at lt) ∙ e ∙ other at lt)),
+      upto at (omega (arith, lt)) same,
+    )

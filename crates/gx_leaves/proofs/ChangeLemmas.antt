@@ -35,7 +35,10 @@ module _ {S : Type 0} (g : Ghosts S) (places : List Place) where
     File p = IsWhole g (IsFileAt (g.ground old) place) p
 
     pub holds : Whole old → Holds g (IsFileAt (g.ground old) place) old (map_at (maps old) leaf)
-    holds whole = record { told = whole.told; file = held_at (g.ground old) places laid (g.working old) whole.laid leaf place at }
+    holds whole = record {
+      told = whole.told;
+      file = held_at (g.ground old) places laid (g.working old) whole.laid leaf place at;
+    }
 
     pub file_whole : Whole old → File old
     file_whole whole = (map_at (maps old) leaf, holds whole)

@@ -22,8 +22,10 @@ sums : (base : Ground) (places : List Place) (sheets : Sheets)
     → (root_pages (specs_of places) ≡ sum_by (λ p. roots_of p.spec) places)
     × (entry_count (maps_of base places sheets) ≡ sum_by (λ p. len (map_in base p sheets))
     places)
-sums base places sheets =
-    (sum-map roots_of (specs_of places) ∙ sum_by_map roots_of (λ (p : Place). p.spec) places, sum_by_map len (λ p. map_in base p sheets) places)
+sums base places sheets = (
+  sum-map roots_of (specs_of places) ∙ sum_by_map roots_of (λ (p : Place). p.spec) places,
+  sum_by_map len (λ p. map_in base p sheets) places,
+)
 
 -- each page past the table belongs to the place of a leaf
 owner_of : (base : Ground) (places : List Place) → IsLaidOut base places → (sheets : Sheets)

@@ -33,8 +33,11 @@ module _ {S : Type 0} (g : Ghosts S) (places : List Place) (old new : S)
   whole_by leaf place at count many table file = record {
     told = file.1.told;
     table = subst (λ (n : ℕ). IsTable (g.ground old) n (g.working old)) many table;
-    held = λ other there. (let same = same_Some place other (sym at ∙ there) in
-        (file.0, subst (λ (p : Place). IsFileAt (g.ground old) p (g.working old) file.0) same (file_read place file.0 file.1.file)));
+    held = λ other there. (let same = same_Some place other (sym at ∙ there) in (
+      file.0,
+      subst (λ (p : Place). IsFileAt (g.ground old) p (g.working old) file.0) same
+          (file_read place file.0 file.1.file),
+    ));
   }
 
   -- the file of a whole leaf is whole

@@ -24,7 +24,10 @@ module _ (base : Ground) (places : List Place) (laid : IsLaidOut base places) wh
     taken = λ page owner past at. (let e = same_Some 0 owner (sym (free.free page past) ∙ at) in
         omega (arith, e));
     free = λ leaf place behind at page from below. free.free page
-        (record { past = omega (arith, from, (placed base places laid leaf place at).is.past); below = below });
+        (record {
+          past = omega (arith, from, (placed base places laid leaf place at).is.past);
+          below = below;
+        });
   }
 
   module _ (count : ℕ) (old : Sheets) (place : Place) (at : slice_get places count ≡ Some place)

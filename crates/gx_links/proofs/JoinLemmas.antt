@@ -1,4 +1,5 @@
--- A member that is to join an owner, after calls that only read; and how many entries crowd the pages.
+-- A member that is to join an owner, after calls that only read; and how many entries crowd the
+-- pages.
 use Rattle.std.proofs.Common.{◌≡◌, ◌≤◌, ◌+◌, ℕ, List, Option, Some, None, sym, subst, arith}
 use Rattle.gx_values.specs.declared.values.Value.{Value}
 use Rattle.gx_ports.specs.LeafMaps.{LeafMap, Limits, entry_count, IsCrowdedBy}
@@ -9,7 +10,11 @@ pub connect_still : (rule : LinkRule) (held : Link → List LeafMap → Type 0) 
     (link : Link) (member : Value) → new ≡ old → CanConnect rule held old link member
     → CanConnect rule held new link member
 connect_still rule held old new link member same can =
-    record { is_link = can.is_link; is_held = subst (held link) (sym same) can.is_held; free = can.free }
+    record {
+      is_link = can.is_link;
+      is_held = subst (held link) (sym same) can.is_held;
+      free = can.free;
+    }
 
 -- more entries crowd them too
 pub crowded_more : (limit : Option Limits) (n m : ℕ) → n ≤ m → IsCrowdedBy limit n

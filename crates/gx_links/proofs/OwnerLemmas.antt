@@ -323,8 +323,14 @@ are_owners link ps gs up to from is runs =
     group m o e =
         let g = from_each pairs_under (m, o) gs
         (subst (In (m, o)) (sym is) (from (m, o) (pair_in link m o e))) in
-        let x = from_map (pair_with g.0.owner) (m, o) g.0.members g.2 in
-        (g.0, (g.1, ap (λ (q : Value × Value). q.1) (sym x.2), subst (λ y. In y g.0.members) (ap (λ (q : Value × Value). q.0) (sym x.2)) x.1))
+        let x = from_map (pair_with g.0.owner) (m, o) g.0.members g.2 in (
+          g.0,
+          (
+            g.1,
+            ap (λ (q : Value × Value). q.1) (sym x.2),
+            subst (λ y. In y g.0.members) (ap (λ (q : Value × Value). q.0) (sym x.2)) x.1,
+          ),
+        )
 
 pub owners_from : (link : Link) (es ps : List (Value × Value)) → fin.entries link ≡ es
     → IsPermutation es ps → IsSortedBy (λ a b. is_lt (owner_cmp a b)) ps

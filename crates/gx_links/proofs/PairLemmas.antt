@@ -237,7 +237,12 @@ module _ {owner member : Kind} {forms : ℕ → Form} {nodes : ℕ}
           (held_rows has.0 (up w) has.1 has.2 (held w))
       pairs_held rounds finds whole (Some pairs) told up held = λ w.
           let t = told (sorted part_cmp parts (up w)) in
-          record { link = t.0; is_link = t.1.is_link; is_held = rows_held t.0 t.1 (held w); those = t.2 }
+          record {
+            link = t.0;
+            is_link = t.1.is_link;
+            is_held = rows_held t.0 t.1 (held w);
+            those = t.2;
+          }
 
 -- ---- the records of two nodes
 
@@ -268,9 +273,17 @@ pub part_cases : (A B : List Rec) (p : Part) → In p (two_parts A B)
     → ((p.child ≡ 0) × In p.rec A) ⊎ ((p.child ≡ 1) × In p.rec B)
 part_cases A B p h = elim (in_cases p (map (part_for 0) A) (map (part_for 1) B) h) [
   | inl k ↦ (let x = from_map (part_for 0) p A k in
-      inl (ap (λ (q : Part). q.child) x.2, subst (λ r. In r A) (ap (λ (q : Part). q.rec) (sym x.2)) x.1))
+      inl (
+        ap (λ (q : Part). q.child) x.2,
+        subst (λ r. In r A)
+            (ap (λ (q : Part). q.rec) (sym x.2)) x.1,
+      ))
   | inr k ↦ (let x = from_map (part_for 1) p B k in
-      inr (ap (λ (q : Part). q.child) x.2, subst (λ r. In r B) (ap (λ (q : Part). q.rec) (sym x.2)) x.1))
+      inr (
+        ap (λ (q : Part). q.child) x.2,
+        subst (λ r. In r B)
+            (ap (λ (q : Part). q.rec) (sym x.2)) x.1,
+      ))
 ]
 
 pub two_internal : {M : Type 0} (rule : M → Rule) (first second : Tree M) (A B : List Rec)
@@ -341,8 +354,16 @@ pub two_fit : (first second : Form) (A B : List Rec) → ((r : Rec) → In r A �
     → ((r : Rec) → In r B → IsOf second r) → (p : Part) → In p (two_parts A B)
     → (p.child < 2) × IsOf (two_forms first second p.child) p.rec
 two_fit first second A B a b p h = elim (part_cases A B p h) [
-  | inl x ↦ (omega (arith, x.0), subst (λ n. IsOf (two_forms first second n) p.rec) (sym x.0) (a p.rec x.1))
-  | inr x ↦ (omega (arith, x.0), subst (λ n. IsOf (two_forms first second n) p.rec) (sym x.0) (b p.rec x.1))
+  | inl x ↦ (
+    omega (arith, x.0),
+    subst (λ n. IsOf (two_forms first second n) p.rec) (sym x.0)
+        (a p.rec x.1),
+  )
+  | inr x ↦ (
+    omega (arith, x.0),
+    subst (λ n. IsOf (two_forms first second n) p.rec) (sym x.0)
+        (b p.rec x.1),
+  )
 ]
 
 -- keys of one value stand in the order of the values
@@ -373,7 +394,8 @@ values_ascend f (r ∷ rs) keys up = (
 
 -- ---- pairs that were read of the rows
 
--- Where the parts stand in order: the pairs are ascending, and are those of each link whose rows the parts are.
+-- Where the parts stand in order: the pairs are ascending, and are those of each link whose rows
+-- the parts are.
 pub record AreRead (owner member : Kind) (rows : Value → List Value → List Part) (parts : List Part)
     (pairs : List (Value × Value)) : Type 0 where
   pub fit : (p : Value × Value) → In p pairs → Fits member p.0 × Fits owner p.1
@@ -413,7 +435,10 @@ module _ {owner member : Kind} {forms : ℕ → Form} {nodes : ℕ}
   told_other differ = λ order link of_link.
       let own = are link (sym (read.those (ascends part_cmp parts order) link of_link)) in
       differ order (rows_distinct laws link gs own apart of_link.is_link)
-      (λ p. (λ h. in_rows laws link gs own p (of_link.to p h), λ h. of_link.from p (from_rows laws link gs own p h)))
+      (λ p. (
+        λ h. in_rows laws link gs own p (of_link.to p h),
+        λ h. of_link.from p (from_rows laws link gs own p h),
+      ))
 
   pub told_pairs : ((g : Owned) → In g gs → length g.members ≤ most_members)
       → ((p : Part) → (In p parts → In p (rows_of rows gs)) × (In p (rows_of rows gs) → In p parts))

@@ -1,4 +1,5 @@
--- What follows from the laws of rows: each node's rows are a set, and the maps that stand for a link are a union that tells it.
+-- What follows from the laws of rows: each node's rows are a set, and the maps that stand for a
+-- link are a union that tells it.
 use Rattle.std.proofs.Common.{◌≡◌, ◌<◌, ◌≤◌, ℕ, Bool, false, zero, suc, List, [], ◌∷◌, inl, Some, refl, sym, ap, subst, ◌∙◌, arith}
 use Rattle.std.specs.List.{flat_map}
 use Rattle.std.specs.FinMap as fin
@@ -110,8 +111,11 @@ module _ {owner member : Kind} {forms : ℕ → Form} {nodes : ℕ}
         let o = from_each (λ x. owner_entries rule ks rows x (members_of link x)) e
         (owners_of link) h in
         let p = from_each (λ q. kid_entries rule ks q.child q.rec) e
-        (rows o.0 (members_of link o.0)) o.2 in
-        (p.0.child, in_each (kid_entries rule ks p.0.child) p.0.rec e (node_rows rows link p.0.child) (in_node_rows link o.0 p.0 p.1) p.2)
+        (rows o.0 (members_of link o.0)) o.2 in (
+          p.0.child,
+          in_each (kid_entries rule ks p.0.child) p.0.rec e
+              (node_rows rows link p.0.child) (in_node_rows link o.0 p.0 p.1) p.2,
+        )
 
     inside : (o : Value) (ms : List Value) (e : LeafEntry) → In e (owner_entries rule ks rows o ms)
         → In e.leaf (kids_leaves ks)

@@ -1,4 +1,5 @@
--- The linkset of a schema's link: it has the nodes of the link, and what contracts see of it is told by the schema.
+-- The linkset of a schema's link: it has the nodes of the link, and what contracts see of it is
+-- told by the schema.
 use Rattle.std.proofs.Common.{◌≡◌, ◌<◌, ◌≤◌, ℕ, zero, suc, List, [], ◌∷◌, length, get_or, refl, sym, ap, subst, ◌∙◌, arith}
 use Rattle.std.specs.Prelude.{◌*◌, ◌↔◌, true, false}
 use Rattle.gx_values.specs.declared.values.Kind.{Kind}

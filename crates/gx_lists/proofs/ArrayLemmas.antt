@@ -1,4 +1,5 @@
--- The records of a pointer array: what selections of them find, and what a change of one makes of the link.
+-- The records of a pointer array: what selections of them find, and what a change of one makes of
+-- the link.
 use Rattle.std.proofs.Common.{◌≡◌, ◌≢◌, ◌<◌, ◌≤◌, ◌+◌, ◌*◌, ℕ, true, List, [], ◌∷◌, ◌⊎◌, inl, inr, length, Option, Some, None, refl, sym, ap, subst, ◌∙◌, get_or, arith, length-append}
 use Rattle.std.specs.Prelude.{IfSome}
 use Rattle.std.specs.FinMap as fin
@@ -53,7 +54,13 @@ pub from_rows : (link : Link) (r : Rec) → In r (node_rows array_rows link 0) �
 from_rows link r h =
     let p = from_parts_for 0 (link_parts array_rows link) r h in
     let row = array_row_of link p.0 p.1 in
-    record { owner = row.owner; member = row.member; owned = row.owned; is = sym p.3 ∙ ap (λ (x : Part). x.rec) row.is }
+    record {
+      owner = row.owner;
+      member = row.member;
+      owned = row.owned;
+      is = sym p.3
+          ∙ ap (λ (x : Part). x.rec) row.is;
+    }
 
 -- the records of one owner
 abbrev pub array_recs : Value → List Value → List Rec

@@ -101,8 +101,14 @@ pub from_pairs : (gs : List Owned) (p : Value × Value) → In p (pairs_of gs)
     → (g : Owned) × (In g gs × In p.0 g.members × (p.1 ≡ g.owner))
 from_pairs gs p h =
     let g = from_each pairs_under p gs h in
-    let m = from_map (pair_with g.0.owner) p g.0.members g.2 in
-    (g.0, (g.1, subst (λ x. In x g.0.members) (ap (λ (q : Value × Value). q.0) (sym m.2)) m.1, ap (λ (q : Value × Value). q.1) m.2))
+    let m = from_map (pair_with g.0.owner) p g.0.members g.2 in (
+      g.0,
+      (
+        g.1,
+        subst (λ x. In x g.0.members) (ap (λ (q : Value × Value). q.0) (sym m.2)) m.1,
+        ap (λ (q : Value × Value). q.1) m.2,
+      ),
+    )
 
 pub in_pairs : (gs : List Owned) (g : Owned) (m : Value) → In g gs → In m g.members
     → In (m, g.owner) (pairs_of gs)
@@ -284,8 +290,11 @@ module _ {M : Type 0} (rule : M → Rule) (tree : Tree M) (member : Kind)
         array_read strict = record {
           fit = λ p h.
               let g = from_pairs gs p (permuted_back (pairs_of gs) pairs p perm h) in
-              let r = cut_at member found gs g.0 cut g.1.0 in
-              (r.2.fit p.0 g.1.1, subst (Fits (owner_kind rule tree)) (sym (g.1.2 ∙ r.2.owner)) (array_key r.0 (fits r.0 r.1)).1);
+              let r = cut_at member found gs g.0 cut g.1.0 in (
+                r.2.fit p.0 g.1.1,
+                subst (Fits (owner_kind rule tree)) (sym (g.1.2 ∙ r.2.owner))
+                    (array_key r.0 (fits r.0 r.1)).1,
+              );
           up = λ order. ascends member_cmp pairs strict;
           those = λ order link are. same_pairs link pairs (ascends member_cmp pairs strict)
               (λ m o h. pair_owned link are m o (permuted_back (pairs_of gs) pairs (m, o) perm h))

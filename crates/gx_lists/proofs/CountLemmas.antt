@@ -31,7 +31,10 @@ module _ (form : Form) (R : List Rec) (m : LeafMap) (is : IsLeafMap m R) where
       let one = all e (inl refl) in
       let rest = each_made es (λ x h. all x (inr h)) in record {
         made = one.0 ∷ rest.made;
-        there = λ r h. elim h [ inl q ↦ subst (λ x. In x R) (sym q) one.1 | inr k ↦ rest.there r k ];
+        there = λ r h. elim h [
+          | inl q ↦ subst (λ x. In x R) (sym q) one.1
+          | inr k ↦ rest.there r k
+        ];
         same = λ i. one.2 i ∷ rest.same i;
       }
 

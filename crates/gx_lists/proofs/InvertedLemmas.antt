@@ -1,4 +1,5 @@
--- The records of an inverted list: what selections of them find, and what changes of two of them make of the link.
+-- The records of an inverted list: what selections of them find, and what changes of two of them
+-- make of the link.
 use Rattle.std.proofs.Common.{◌≡◌, ◌≢◌, ◌<◌, ◌≤◌, ◌+◌, ◌*◌, ℕ, true, List, [], ◌∷◌, ◌++◌, inl, inr, length, map, Option, Some, None, refl, sym, ap, subst, ◌∙◌, get_or, arith, length-append}
 use Rattle.std.specs.Prelude.{IfSome}
 use Rattle.std.specs.List.{AllByRecursion}
@@ -66,7 +67,13 @@ from_down link r h =
     let p = from_parts_for 0 (link_parts inverted_rows link) r h in
     let row = row_of link p.0 p.1 in
     elim row.there [
-      | inl e ↦ record { owner = row.owner; member = row.member; owned = row.owned; is = sym p.3 ∙ ap (λ (x : Part). x.rec) e }
+      | inl e ↦ record {
+        owner = row.owner;
+        member = row.member;
+        owned = row.owned;
+        is = sym p.3
+            ∙ ap (λ (x : Part). x.rec) e;
+      }
       | inr k ↦ elim k [
         | inl e ↦ absurd (let zero : 0 ≡ 1 = sym p.2 ∙ ap (λ (x : Part). x.child) e in
             omega (arith, zero))
@@ -83,7 +90,13 @@ from_up link r h =
       | inl e ↦ absurd (let one : 1 ≡ 0 = sym p.2 ∙ ap (λ (x : Part). x.child) e in
           omega (arith, one))
       | inr k ↦ elim k [
-        | inl e ↦ record { owner = row.owner; member = row.member; owned = row.owned; is = sym p.3 ∙ ap (λ (x : Part). x.rec) e }
+        | inl e ↦ record {
+          owner = row.owner;
+          member = row.member;
+          owned = row.owned;
+          is = sym p.3
+              ∙ ap (λ (x : Part). x.rec) e;
+        }
         | inr f ↦ absurd f
       ]
     ]
@@ -275,7 +288,13 @@ module _ {M : Type 0} (rule : M → Rule) (down up : Tree M) (valid : IsInverted
       length-append a (b ++ rest)
       ∙ ap (λ n. length a + n) (length-append b rest) in
       let more = down_entries o ms in
-      omega (arith, sum, more, sum_by-cons (λ (r : Rec). length (entries_of rule down r)) (pair_rec o m) (map (pair_rec o) ms))
+      omega (
+        arith,
+        sum,
+        more,
+        sum_by-cons (λ (r : Rec). length (entries_of rule down r))
+            (pair_rec o m) (map (pair_rec o) ms),
+      )
 
   pub up_entries : (link : Link) (m : Value) (found : Option Value) → fin.get link m ≡ found
       → entry_total rule up (owned_recs m found) ≤ length
@@ -283,7 +302,12 @@ module _ {M : Type 0} (rule : M → Rule) (down up : Tree M) (valid : IsInverted
   up_entries link m None e = omega arith
   up_entries link m (Some o) e =
       let there = pair_entries o m (members_of link o) (in_members link o m e) in
-      omega (arith, there, sum_by-cons (λ (r : Rec). length (entries_of rule up r)) (owned_rec o m) [])
+      omega (
+        arith,
+        there,
+        sum_by-cons (λ (r : Rec). length (entries_of rule up r))
+            (owned_rec o m) [],
+      )
 
   leaves_sum : length (kids_leaves (two_nodes down up)) ≡ length (leaves_of down) + length
       (leaves_of up)

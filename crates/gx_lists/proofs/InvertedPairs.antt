@@ -59,7 +59,10 @@ unfolding IsDistinct
 rows_once o [] up = tt
 rows_once o (m ∷ ms) up = (
   all_of _ (part_for 1 (owned_rec o m) ∷ inverted_rows o ms) (λ q h. first q h),
-  (all_of _ (inverted_rows o ms) (λ q h. later (part_for 1 (owned_rec o m)) (inr (inl refl)) q h), rows_once o ms up.1),
+  (
+    all_of _ (inverted_rows o ms) (λ q h. later (part_for 1 (owned_rec o m)) (inr (inl refl)) q h),
+    rows_once o ms up.1,
+  ),
 )
   where
     later : (p : Part) → In p (pair_rows o m) → (q : Part) → In q (inverted_rows o ms)

@@ -24,8 +24,14 @@ next_ascends o [] h = tt
 next_ascends o (x ∷ []) h = (tt, tt)
 next_ascends {R = R} o (x ∷ y ∷ xs) h =
     let rest = next_ascends o (y ∷ xs) (λ k d lt. h (suc k) d (omega arith)) in
-    let first : R x y ≡ Less = less_of (R x y) (h 0 x (omega arith)) in
-    ((first, all_of (λ z. R x z ≡ Less) xs (λ z i. o.trans x y z first (all_in (λ w. R y w ≡ Less) xs z rest.0 i))), rest)
+    let first : R x y ≡ Less = less_of (R x y) (h 0 x (omega arith)) in (
+      (
+        first,
+        all_of (λ z. R x z ≡ Less) xs
+            (λ z i. o.trans x y z first (all_in (λ w. R y w ≡ Less) xs z rest.0 i)),
+      ),
+      rest,
+    )
 
 next_less : {A : Type 0} (R : A → A → Ordering) (xs : List A) (k : ℕ) (d : A) → Ascends R xs
     → suc k < length xs

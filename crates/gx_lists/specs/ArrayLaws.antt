@@ -46,8 +46,12 @@ row_at : (link : Link) (o : Value) (ms : List Value) (p : Part) → members_of l
     → In p (array_rows o ms) → IsArrayRow link p
 row_at link o [] p e h = absurd h
 row_at link o (m ∷ ms) p e (inl is) =
-    record
-    { owner = o; member = m; owned = from_members link o m (subst (In m) (sym e) (inl refl)); is = is ∙ ap (λ zs. part_for 0 (array_rec o zs)) (sym e) }
+    record {
+      owner = o;
+      member = m;
+      owned = from_members link o m (subst (In m) (sym e) (inl refl));
+      is = is ∙ ap (λ zs. part_for 0 (array_rec o zs)) (sym e);
+    }
 row_at link o (m ∷ ms) p e (inr k) = absurd k
 
 pub array_row_of : (link : Link) (p : Part) → In p (link_parts array_rows link) → IsArrayRow link p

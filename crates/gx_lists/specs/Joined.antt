@@ -31,11 +31,19 @@ pub same_joined : (k : Kind) (xs ys : List Value) → IsKeyKind k → AreOfKind 
     → key_of xs ≡ key_of ys → xs ≡ ys
 same_joined k [] [] key f g e = refl
 same_joined k [] (y ∷ ys) key f g e =
-    absurd (omega
-    (arith, some_bytes k y key (one_of k y ys g), ap length e, length-append (bytes_of y) (key_of ys)))
+    absurd (omega (
+      arith,
+      some_bytes k y key (one_of k y ys g),
+      ap length e,
+      length-append (bytes_of y) (key_of ys),
+    ))
 same_joined k (x ∷ xs) [] key f g e =
-    absurd (omega
-    (arith, some_bytes k x key (one_of k x xs f), ap length e, length-append (bytes_of x) (key_of xs)))
+    absurd (omega (
+      arith,
+      some_bytes k x key (one_of k x xs f),
+      ap length e,
+      length-append (bytes_of x) (key_of xs),
+    ))
 same_joined k (x ∷ xs) (y ∷ ys) key f g e =
     let both =
     value_prefix_free k key x y (key_of xs) (key_of ys) (one_of k x xs f) (one_of k y ys g) e in
@@ -45,5 +53,10 @@ pub joined_small : (k : Kind) (ms : List Value) → AreOfKind k ms
     → length (key_of ms) ≤ length ms * width_of k
 joined_small k [] fit = omega arith
 joined_small k (m ∷ ms) fit =
-    omega
-    (arith, length-append (bytes_of m) (key_of ms), fit_bytes k m (one_of k m ms fit), joined_small k ms (rest_of k m ms fit), times_suc (length ms) (width_of k))
+    omega (
+      arith,
+      length-append (bytes_of m) (key_of ms),
+      fit_bytes k m (one_of k m ms fit),
+      joined_small k ms (rest_of k m ms fit),
+      times_suc (length ms) (width_of k),
+    )

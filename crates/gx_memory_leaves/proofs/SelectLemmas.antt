@@ -226,7 +226,12 @@ module _ (lo hi : List ℕ) (total before out : List Entry) (left next : List (L
         gives = ap (λ (es : List Entry). es ++ flat_map (picked lo hi) next) (is ∙ given)
             ∙ append_assoc out (picked lo hi (key, cell)) (flat_map (picked lo hi) next) ∙ here;
         rest = next_rest;
-        front = (going.front.0 ++ entry ∷ [], is ∙ ap (λ (es : List Entry). es ++ entry ∷ []) going.front.1 ∙ append_assoc before going.front.0 (entry ∷ []));
+        front = (
+          going.front.0 ++ entry ∷ [],
+          is
+              ∙ ap (λ (es : List Entry). es ++ entry ∷ []) going.front.1
+              ∙ append_assoc before going.front.0 (entry ∷ []),
+        );
       }
 
   -- there was none to give

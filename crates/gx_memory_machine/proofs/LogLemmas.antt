@@ -71,7 +71,13 @@ pub pushed : (m : Moment) (s : Step) (more : List ℕ) (steps new_steps : List S
     → new_steps ≡ steps ++ s ∷ [] → new_bytes ≡ bytes ++ more → length more ≡ uses s
     → Pushed m s more steps new_steps bytes new_bytes
 pushed m s more steps new_steps bytes new_bytes sound is_steps is_bytes own = record {
-  counts = omega (arith, ap (λ (l : List ℕ). length l) is_bytes, length-append bytes more, ap total is_steps, total_push steps s);
+  counts = omega (
+    arith,
+    ap (λ (l : List ℕ). length l) is_bytes,
+    length-append bytes more,
+    ap total is_steps,
+    total_push steps s,
+  );
   now = ap (λ (l : List Step). latest m l new_bytes) is_steps
       ∙ ap (λ (b : List ℕ). latest m (steps ++ s ∷ []) b) is_bytes
       ∙ latest_push m steps s bytes more sound;

@@ -206,7 +206,10 @@ later_or_here : {A : Type 0} (R : A → A → Ordering) (x : A) (xs : List A) (z
     → (x ≡ z) ⊎ ((R x z ≡ Less) × Contains xs z)
 later_or_here R x xs z h (zero, lt, e) = inl e
 later_or_here {A} R x xs z h (suc k, lt, e) =
-    inr (subst (λ (y : A). R x y ≡ Less) e (less_at R x xs k z h (omega arith)), (k, omega arith, e))
+    inr (
+      subst (λ (y : A). R x y ≡ Less) e (less_at R x xs k z h (omega arith)),
+      (k, omega arith, e),
+    )
 
 never_itself : {A : Type 0} (R : A → A → Ordering) → IsTotalOrder R → (x : A) → R x x ≡ Less → ⊥
 never_itself R o x e = let c : Equal ≡ Less = sym (tied_itself o x) ∙ e in absurd cc

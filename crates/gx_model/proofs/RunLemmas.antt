@@ -222,7 +222,11 @@ once schema (line ∷ ran) (another ∷ others) last p all next then a b final o
       runs = subst (λ (s : Playing). Runs schema s ran front.1 final) same.1 front.4;
       ends = more_ran schema last line ran next final end x.ends;
     })
-    (record { first = m.first; runs = behind.4; ends = more_ran schema last another others then other close y.ends }) in
+    (record {
+      first = m.first;
+      runs = behind.4;
+      ends = more_ran schema last another others then other close y.ends;
+    }) in
     (front.5 ∙ (λ i. same.0 i ++ rest.0 i) ∙ sym behind.5, rest.1, rest.2)
 
 -- lines have one play from a start

@@ -32,12 +32,13 @@ pub settled_from : (schema : Schema) (built : Built) (schema_text equation_text 
     → (IsHeadOf schema_text equation_text new.leaves new
     → IsSettled schema_text equation_text new.leaves kept blocks) → AreInternal schema built kept s
     → IsSettledIn schema built schema_text equation_text old.leaves blocks s
-settled_from schema built schema_text equation_text old new kept blocks s same is settled internal = (
-  kept,
-  subst (λ (h : Head). IsSettled schema_text equation_text h.leaves kept blocks) same
-      (settled (head_kept schema_text equation_text old new same is)),
-  internal,
-)
+settled_from schema built schema_text equation_text old new kept blocks s same is
+    settled internal = (
+      kept,
+      subst (λ (h : Head). IsSettled schema_text equation_text h.leaves kept blocks) same
+          (settled (head_kept schema_text equation_text old new same is)),
+      internal,
+    )
 
 -- the same where the leaves were only read
 pub settled_read : (schema_text equation_text : List ℕ) (old new : Head) (was kept : List LeafMap)
@@ -62,4 +63,8 @@ pub limit_on : (device : List ℕ) (before : Content) (blocks : List (List ℕ))
 limit_on device before blocks base places specs there is specs_are =
     let same : base ≡ ground_on blocks =
     is.2 ∙ ap ground_on (same_Some is.0 blocks (sym is.1 ∙ there)) in
-    λ i. record { pages = (same i).size; fixed = (same i).tables + root_pages (specs_are i); blocks = (same i).blocks }
+    λ i. record {
+      pages = (same i).size;
+      fixed = (same i).tables + root_pages (specs_are i);
+      blocks = (same i).blocks;
+    }

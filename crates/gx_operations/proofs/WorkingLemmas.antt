@@ -76,7 +76,12 @@ module _ (x : Stored) (device : List ℕ) (count records : ℕ) (old mid new : C
   new_device P same is = record {
     size = size;
     free = free;
-    left = (new.now.blocks, named_at new.now device (ap (λ (h : Shelf). h.name) silent.shelf ∙ named), is);
+    left = (
+      new.now.blocks,
+      named_at new.now device
+          (ap (λ (h : Shelf). h.name) silent.shelf ∙ named),
+      is,
+    );
     many = same ∙ many;
   }
 
@@ -230,7 +235,11 @@ pub limit_of : (blocks : List (List ℕ)) (base : Ground) (places : List Place)
     → base ≡ ground_on blocks → specs_of places ≡ specs
     → Some (limits_of base places) ≡ Some (limits_on specs (length blocks))
 limit_of blocks base places specs same specs_are =
-    λ i. Some (record { pages = (same i).size; fixed = (same i).tables + root_pages (specs_are i); blocks = (same i).blocks })
+    λ i. Some (record {
+      pages = (same i).size;
+      fixed = (same i).tables + root_pages (specs_are i);
+      blocks = (same i).blocks;
+    })
 
 -- ---- the device that was made stays attached
 

@@ -196,8 +196,8 @@ all_free base pages end sixteen long within clear = record {
       (omega (arith, past.past, sixteen))));
 }
 
--- A page of the table is searched in two parts. What was found in the first one is free, and where none
--- was found in either, none past the table is.
+-- A page of the table is searched in two parts. What was found in the first one is free, and where
+-- none was found in either, none past the table is.
 pub found_on : (base : Ground) (pages : List (List ℕ)) (numbers : List ℕ)
     (table first middle end : ℕ) (found : Option ℕ)
     → numbers ≡ get_or pages table []

@@ -40,8 +40,11 @@ gathered_one form at bounds key p ps found req is found_is =
         → IsGathered (partition_rule form at bounds) key ps (cond b (Some p.rec) None)
     by_test true e =
         let of = req.each p (subst (In p) (sym is) (inl refl)) in
-        let child = equal_from_nat_eq (child_of bounds (value_at at p.rec)) p.child (sym e) in
-        (of.fits, whole_key form.keys key p.rec.key req.key_fits of.fits.key of.under, (λ i. record { child = child i; rec = p.rec } ∷ []) ∙ sym is)
+        let child = equal_from_nat_eq (child_of bounds (value_at at p.rec)) p.child (sym e) in (
+          of.fits,
+          whole_key form.keys key p.rec.key req.key_fits of.fits.key of.under,
+          (λ i. record { child = child i; rec = p.rec } ∷ []) ∙ sym is,
+        )
     by_test false e = λ r is_r key_r same.
         let part : partition_part at bounds r ≡ p = ap (λ (l : List Part). get_or l 0 p) (same ∙ is)
         in

@@ -30,13 +30,17 @@ module _ {A : Type 0} (p : A → Bool) where
   count_is (x ∷ xs) zero le point =
       let first : p x ≡ false = point.1 0 x (omega arith) (omega arith) in
       ap (λ b. passing b x xs) first
-      ∙ count_is xs zero (omega arith)
-      ((λ k d low high. absurd (omega arith)), (λ k d low high. point.1 (suc k) d (omega arith) (omega arith)))
+      ∙ count_is xs zero (omega arith) (
+        (λ k d low high. absurd (omega arith)),
+        (λ k d low high. point.1 (suc k) d (omega arith) (omega arith)),
+      )
   count_is (x ∷ xs) (suc i) le point =
       let first : p x ≡ true = point.0 0 x (omega arith) (omega arith) in
       ap (λ b. passing b x xs) first
-      ∙ ap suc (count_is xs i (omega arith)
-      ((λ k d low high. point.0 (suc k) d (omega arith) (omega arith)), (λ k d low high. point.1 (suc k) d (omega arith) (omega arith))))
+      ∙ ap suc (count_is xs i (omega arith) (
+        (λ k d low high. point.0 (suc k) d (omega arith) (omega arith)),
+        (λ k d low high. point.1 (suc k) d (omega arith) (omega arith)),
+      ))
 
 at_most : (x y v : Value) → value_cmp x y ≡ Less → is_le (value_cmp y v) ≡ true
     → is_le (value_cmp x v) ≡ true

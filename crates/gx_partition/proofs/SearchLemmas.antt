@@ -216,7 +216,11 @@ module _ (form : Form) (at : Where) (bounds : List Value) (span : Span) (all : (
 
   pub one_alone : length bounds ≡ 0 → IsAlone (partition_rule form at bounds) span 0
   one_alone none = (
-    ((omega (arith, none)), all_searched 0, λ d below apart. absurd (apart (omega (arith, none, below)))),
+    (
+      (omega (arith, none)),
+      all_searched 0,
+      λ d below apart. absurd (apart (omega (arith, none, below))),
+    ),
     refl,
   )
 

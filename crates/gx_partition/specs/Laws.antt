@@ -117,8 +117,11 @@ partition_laws form at bounds sound = record {
       ap (λ (ps : List Part). (get_or ps 0 (partition_part at bounds r)).rec) e;
   keys_lead = λ c lt rest. ([], sym (append-nil form.keys));
   key_leads =
-      λ r p is there rest.
-      ([], ap (λ (x : Part). x.rec.key) (the_one p (partition_part at bounds r) there) ∙ sym (append-nil r.key));
+      λ r p is there rest. (
+        [],
+        ap (λ (x : Part). x.rec.key) (the_one p (partition_part at bounds r) there)
+            ∙ sym (append-nil r.key),
+      );
   skipped =
       λ r p span is there skips.
       skipped_by form at bounds r span sound is
@@ -126,7 +129,11 @@ partition_laws form at bounds sound = record {
       (the_one p (partition_part at bounds r) there) skips);
   carried =
       λ name c lt carries.
-      record
-      { rest = refl; keys = refl; kind = refl; each = λ r is. carried_by form at bounds name r carries is };
+      record {
+        rest = refl;
+        keys = refl;
+        kind = refl;
+        each = λ r is. carried_by form at bounds name r carries is;
+      };
   indexed = λ name c is. cc;
 }

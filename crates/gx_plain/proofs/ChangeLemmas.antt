@@ -17,8 +17,10 @@ use Rattle.gx_plain.specs.Plain.{AreSizedChanges}
 pub sized_changes : (file : FileDef) (cs : List Change) → AllByRecursion (IsChangeOf file) cs
     → AreSizedChanges cs
 sized_changes file [] all = tt
-sized_changes file (c ∷ cs) all =
-    (let one = all.0 in fit_sized (field_at file c.field).kind c.value one.fits, sized_changes file cs all.1)
+sized_changes file (c ∷ cs) all = (
+  let one = all.0 in fit_sized (field_at file c.field).kind c.value one.fits,
+  sized_changes file cs all.1,
+)
 
 change_at : (cs : List Change) (i : ℕ) (d : Change) → AreSizedChanges cs → i < length cs
     → IsSized (get_or cs i d).value

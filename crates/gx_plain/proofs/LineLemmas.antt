@@ -59,7 +59,13 @@ ended : (schema : Schema) (script said : List ℕ) (m : Moment) (left : Lines) (
     → IsPlayedOut schema script (said, last)
 ended schema script said m left number next last so first ends = (
   so.now,
-  record { ran = so.ran; next = next; first = first; runs = so.runs; ends = subst (λ n. IsEnd schema so.now n next (end_of last)) (sym so.many) ends },
+  record {
+    ran = so.ran;
+    next = next;
+    first = first;
+    runs = so.runs;
+    ends = subst (λ n. IsEnd schema so.now n next (end_of last)) (sym so.many) ends;
+  },
 )
 
 -- no more lines are left
@@ -98,8 +104,12 @@ pub at_bad_line : (schema : Schema) (script said line : List ℕ) (m : Moment) (
 at_bad_line schema script said line m before left number reason before_is so bad =
     ended schema script said m before number (Ok (Some line)) (play_end.Stopped (number + 1) reason)
     so
-    (left.lines, so.lines_are ∙ ap (λ (ls : Lines). so.ran ++ ls.lines) before_is)
-    (reason, let at = so.at in subst (λ w. IsBadLine schema (is_some w) line reason) at.working bad, refl)
+    (left.lines, so.lines_are ∙ ap (λ (ls : Lines). so.ran ++ ls.lines) before_is) (
+      reason,
+      let at = so.at in subst (λ w. IsBadLine schema (is_some w) line reason)
+          at.working bad,
+      refl,
+    )
 
 -- ---- the whole text
 

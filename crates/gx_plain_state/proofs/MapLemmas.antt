@@ -50,7 +50,8 @@ insert_view es new k v sorted is =
     ∙ sym (fin.entries-insert value_cmp_total (fin.from_sorted es) k v
     ∙ ap (fin.put value_cmp k v) (entries_view es sorted)))
 
--- the entry is put where no smaller key is left, in the place of one with its key or before the next
+-- the entry is put where no smaller key is left, in the place of one with its key or before the
+-- next
 abbrev place : {X : Type 0} → Value → List (Value × X) → ℕ
 place k es = prefix_len (λ e. is_past k e.0) es
 

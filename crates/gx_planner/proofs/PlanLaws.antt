@@ -170,7 +170,10 @@ module _ (q : Find) (indexed : List Bool) where
   key_least n e = record { rank = from_1; number = key_first n (first_before q indexed 1 n e) }
 
   pub link_least : first_of 1 indexed q.conds ≡ None → IsLeast q indexed Link
-  link_least e = record { rank = from_2 (none_has q indexed 1 e); number = λ other h same. omega arith }
+  link_least e = record {
+    rank = from_2 (none_has q indexed 1 e);
+    number = λ other h same. omega arith;
+  }
 
   -- the plan by a condition applies, and is the least
   pub record IsGood (plan : Plan) : Type 0 where
@@ -185,18 +188,29 @@ module _ (q : Find) (indexed : List Bool) where
         → (o : Option ℕ) → first_of 5 indexed q.conds ≡ o → IsGood (by_or IndexRange o Scan)
     by_index_range c d (Some n) e = record {
       applies = first_has q indexed 5 n e;
-      least = record { rank = from_5 lacks_key no_of (none_has q indexed 3 c) (none_has q indexed 4 d); number = index_range_first n (first_before q indexed 5 n e) };
+      least = record {
+        rank = from_5 lacks_key no_of (none_has q indexed 3 c)
+            (none_has q indexed 4 d);
+        number = index_range_first n (first_before q indexed 5 n e);
+      };
     }
     by_index_range c d None e = record {
       applies = tt;
-      least = record { rank = from_6 lacks_key no_of (none_has q indexed 3 c) (none_has q indexed 4 d) (none_has q indexed 5 e); number = λ other h same. omega arith };
+      least = record {
+        rank = from_6 lacks_key no_of (none_has q indexed 3 c)
+            (none_has q indexed 4 d) (none_has q indexed 5 e);
+        number = λ other h same. omega arith;
+      };
     }
 
     by_range : first_of 3 indexed q.conds ≡ None → (o : Option ℕ) → first_of 4 indexed q.conds ≡ o
         → IsGood (by_or KeyRange o (by_or IndexRange (first_of 5 indexed q.conds) Scan))
     by_range c (Some n) e = record {
       applies = first_has q indexed 4 n e;
-      least = record { rank = from_4 lacks_key no_of (none_has q indexed 3 c); number = range_first n (first_before q indexed 4 n e) };
+      least = record {
+        rank = from_4 lacks_key no_of (none_has q indexed 3 c);
+        number = range_first n (first_before q indexed 4 n e);
+      };
     }
     by_range c None e = by_index_range c e (first_of 5 indexed q.conds) refl
 
@@ -206,7 +220,10 @@ module _ (q : Find) (indexed : List Bool) where
         (by_or IndexRange (first_of 5 indexed q.conds) Scan)))
     by_index (Some n) e = record {
       applies = first_has q indexed 3 n e;
-      least = record { rank = from_3 lacks_key no_of; number = index_first n (first_before q indexed 3 n e) };
+      least = record {
+        rank = from_3 lacks_key no_of;
+        number = index_first n (first_before q indexed 3 n e);
+      };
     }
     by_index None e = by_range e (first_of 4 indexed q.conds) refl
 

@@ -58,12 +58,21 @@ keeps_then g to a b c p q = record {
   ready = q.ready;
   limit = q.limit ∙ p.limit;
   head = q.head ∙ p.head;
-  rest = record { shelf = q.rest.shelf ∙ p.rest.shelf; script = q.rest.script ∙ p.rest.script; aside = q.rest.aside ∙ p.rest.aside };
+  rest = record {
+    shelf = q.rest.shelf ∙ p.rest.shelf;
+    script = q.rest.script ∙ p.rest.script;
+    aside = q.rest.aside ∙ p.rest.aside;
+  };
   begins = λ told. prefix_twice _ _ _ (p.begins told) (q.begins told);
   silent = λ kept.
       let x = p.silent kept in
       let y = q.silent kept in
-      record { said = y.said ∙ x.said; shelf = y.shelf ∙ x.shelf; script = y.script ∙ x.script; aside = y.aside ∙ x.aside };
+      record {
+        said = y.said ∙ x.said;
+        shelf = y.shelf ∙ x.shelf;
+        script = y.script ∙ x.script;
+        aside = y.aside ∙ x.aside;
+      };
 }
 
 -- ---- the line of the command

@@ -285,7 +285,13 @@ unheard schema built limit start Holds script before said low high ending.Fault 
       holds = inl holds;
     }
 unheard schema built limit start Holds script before said low high ending.NoMemory unsaid is
-    holds = record { answers = []; first = none_played schema start script; said = unsaid ∙ sym (append-nil before); holds = holds }
+    holds = record {
+      answers = [];
+      first = none_played schema start script;
+      said = unsaid
+          ∙ sym (append-nil before);
+      holds = holds;
+    }
 unheard schema built limit start Holds script before said low high ending.Words unsaid is holds = is
 unheard schema built limit start Holds script before said low high (ending.Missing name) unsaid is
     holds = is

@@ -314,7 +314,12 @@ unsaid_keeps : {S : Type 0} (g : Ghosts S) (p : Playing) (before left : Lines) (
     ⊎ IsCommitLine (schema_of old) before.lines
 unsaid_keeps g p before left line command.Commit old e new schema_is built_is before_is at means
     keeps =
-    inr (line, left.lines, ap (λ (ls : Lines). ls.lines) before_is, subst (λ s. IsLineOf s line command.Commit) schema_is means)
+    inr (
+      line,
+      left.lines,
+      ap (λ (ls : Lines). ls.lines) before_is,
+      subst (λ s. IsLineOf s line command.Commit) schema_is means,
+    )
 unsaid_keeps g p before left line _ old e new schema_is built_is before_is at means keeps =
     inl (kept_after g p old e new schema_is built_is at (keeps refl))
 

@@ -1,5 +1,5 @@
--- Pages counted by their owners: an owner has no more pages than a list that has them all, and where each owner has
--- few, the pages are few.
+-- Pages counted by their owners: an owner has no more pages than a list that has them all, and
+-- where each owner has few, the pages are few.
 use Rattle.std.proofs.Common.{◌≡◌, ◌≢◌, ◌⊎◌, inl, inr, ◌<◌, ◌≤◌, ◌+◌, ◌==◌, ℕ, zero, suc, List, [], ◌∷◌, length, get_or, refl, sym, ◌∙◌, ap, subst, arith, cond}
 use Rattle.std.specs.Prelude.{slice_get, Some}
 use Rattle.std.specs.List.{Contains}
@@ -60,7 +60,8 @@ count_in (n ∷ ns) owner first pages all = elim (cases_Bool (n == owner)) [
       omega (arith, h, c, one_more n ns owner))
 ]
 
--- the pages of an owner are at most as many as a list has that has them all; the owners are those of the pages from `first` on
+-- the pages of an owner are at most as many as a list has that has them all; the owners are those
+-- of the pages from `first` on
 pub count_listed : (owners : List ℕ) (owner first : ℕ) (pages : List ℕ)
     → ((page : ℕ) → slice_get owners page ≡ Some owner → Contains pages (first + page))
     → count_owned owner owners ≤ length pages
@@ -80,7 +81,11 @@ pub sum_least : (f g : ℕ → ℕ) (n : ℕ) → ((k : ℕ) → k < n → f k �
     → sum_below f n ≤ sum_below g n
 sum_least f g zero le = omega arith
 sum_least f g (suc n) le =
-    omega (arith, sum_least f g n (λ k lt. le k (let l = lt in omega (arith, l))), le n (omega arith))
+    omega (
+      arith,
+      sum_least f g n (λ k lt. le k (let l = lt in omega (arith, l))),
+      le n (omega arith),
+    )
 
 zeros : (n : ℕ) → sum_below (λ _. 0) n ≡ 0
 zeros zero = refl
@@ -121,4 +126,8 @@ pub crowded : (owners : List ℕ) (n : ℕ) (most : ℕ → ℕ)
     → ((owner : ℕ) → owner < n → count_owned owner owners ≤ most owner)
     → length owners ≤ sum_below most n
 crowded owners n most within few =
-    omega (arith, count_all owners n within, sum_least (λ owner. count_owned owner owners) most n few)
+    omega (
+      arith,
+      count_all owners n within,
+      sum_least (λ owner. count_owned owner owners) most n few,
+    )

@@ -1,4 +1,5 @@
--- What calls of pages keep, one after the other, and how a call ends that hands on how another one ended.
+-- What calls of pages keep, one after the other, and how a call ends that hands on how another one
+-- ended.
 use Rattle.std.proofs.Common.{◌≡◌, ℕ, ◌≤◌, Ok, Err, refl, sym, ap, subst, ◌∙◌, slice_get, []}
 use Rattle.std.specs.Prelude.{Result}
 use Rattle.std.specs.Result.{IsErrAnd}
@@ -14,7 +15,13 @@ use Rattle.gx_ports.specs.PageCalls.{KeepsPages, ReadsPages}
 module _ {S : Type 0} (g : Ghosts S) where
   pub pages_keep_themselves : (a : S) → KeepsPages g a a
   pages_keep_themselves a =
-      record { ground = refl; kept = refl; steady = (λ h. h, λ h. h); calm = λ s h. h; silent = record { said = refl; shelf = refl; script = refl; aside = refl } }
+      record {
+        ground = refl;
+        kept = refl;
+        steady = (λ h. h, λ h. h);
+        calm = λ s h. h;
+        silent = record { said = refl; shelf = refl; script = refl; aside = refl };
+      }
 
   pub kept_pages_joined : {a b c : S} → KeepsPages g a b → KeepsPages g b c → KeepsPages g a c
   kept_pages_joined x y = record {
@@ -22,7 +29,12 @@ module _ {S : Type 0} (g : Ghosts S) where
     kept = y.kept ∙ x.kept;
     steady = (λ h. y.steady.0 (x.steady.0 h), λ h. x.steady.1 (y.steady.1 h));
     calm = λ s h. y.calm s (x.calm s h);
-    silent = record { said = y.silent.said ∙ x.silent.said; shelf = y.silent.shelf ∙ x.silent.shelf; script = y.silent.script ∙ x.silent.script; aside = y.silent.aside ∙ x.silent.aside };
+    silent = record {
+      said = y.silent.said ∙ x.silent.said;
+      shelf = y.silent.shelf ∙ x.silent.shelf;
+      script = y.silent.script ∙ x.silent.script;
+      aside = y.silent.aside ∙ x.silent.aside;
+    };
   }
 
   pub pages_read_themselves : (a : S) → ReadsPages g a a
@@ -31,7 +43,11 @@ module _ {S : Type 0} (g : Ghosts S) where
 
   pub read_pages_joined : {a b c : S} → ReadsPages g a b → ReadsPages g b c → ReadsPages g a c
   read_pages_joined x y =
-      record { working = y.working ∙ x.working; unchanged = λ h. y.unchanged (x.unchanged h); keeps = kept_pages_joined x.keeps y.keeps }
+      record {
+        working = y.working ∙ x.working;
+        unchanged = λ h. y.unchanged (x.unchanged h);
+        keeps = kept_pages_joined x.keeps y.keeps;
+      }
 
 same_stop : {T U : Type 0} (e why : Stop) → ◌≡◌ {A = Result T Stop} (Err e) (Err why)
     → ◌≡◌ {A = Result U Stop} (Err e) (Err why)

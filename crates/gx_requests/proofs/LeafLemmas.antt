@@ -1,4 +1,5 @@
--- There are files of the kind of each leaf of an equation that some text means, and one leaf at least.
+-- There are files of the kind of each leaf of an equation that some text means, and one leaf at
+-- least.
 use Rattle.std.proofs.Common.{◌≡◌, ℕ, zero, suc, ◌+◌, ◌<◌, ◌≤◌, List, [], ◌∷◌, ◌++◌, length, map, Bool, true, refl, ap, subst, sym, ◌∙◌, arith}
 use Rattle.std.specs.Prelude.{nat_lt, ◌&&◌}
 use Rattle.std.specs.List.{list_all, AllByRecursion}

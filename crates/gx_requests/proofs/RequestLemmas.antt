@@ -1,4 +1,5 @@
--- Why a request isn't carried out, from why its texts aren't accepted, and what is built of accepted texts.
+-- Why a request isn't carried out, from why its texts aren't accepted, and what is built of
+-- accepted texts.
 use Rattle.std.proofs.Common.{◌≡◌, ◌≤◌, ℕ, List, [], Result, Ok, Err, Bool, None, refl, sym, ap, subst, ◌∙◌, arith, inl, inr, length}
 use Rattle.std.specs.Prelude.{IfOk, IfErr, IsErrAnd, IsTrue}
 use Rattle.std.specs.FinMap.{get}

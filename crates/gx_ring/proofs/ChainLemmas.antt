@@ -143,7 +143,11 @@ module _ (link : Link) (o m : Value) (free : fin.get link m ≡ None) where
         (subst (In p) (sym members) (in_right p us (p ∷ ys) (inl refl)))
 
     pub there_behind : IsChained link (chain_rec o p (first ys))
-    there_behind = (o, subst (λ ms. In (chain_rec o p (first ys)) (chain o ms)) (sym members) (row_there o us p ys))
+    there_behind = (
+      o,
+      subst (λ ms. In (chain_rec o p (first ys)) (chain o ms)) (sym members)
+          (row_there o us p ys),
+    )
 
     pub chain_behind : (r : Rec) → IsChained (fin.insert link m o) r
         → (r ≡ chain_rec o m (first ys)) ⊎ (r ≡ chain_rec o p (Some m))
@@ -157,22 +161,37 @@ module _ (link : Link) (o m : Value) (free : fin.get link m ≡ None) where
       | inr ne ↦ (
           let old : In r (chain x (members_of link x)) =
           subst (λ ms. In r (chain x ms)) (others_stay link o m free x ne) h in
-          inr (inr ((x, old), λ e. ne (same_Some x o (sym (owned_in_chain link x r old) ∙ ap (fin.get link) e ∙ owner_of_p)))))
+          inr
+          (inr (
+            (x, old),
+            λ e. ne (same_Some x o (sym (owned_in_chain link x r old) ∙ ap (fin.get link) e
+                ∙ owner_of_p)),
+          )))
     ]
       where
         at : In r (linked o us p ++ chain_rec o p (first ys) ∷ chain o ys) → IsChained link r
-        at k = (o, subst (λ ms. In r (chain o ms)) (sym members) (subst (In r) (sym (split o us p ys)) k))
+        at k = (
+          o,
+          subst (λ ms. In r (chain o ms)) (sym members)
+              (subst (In r) (sym (split o us p ys)) k),
+        )
 
         here : In r (linked o us p)
             ⊎ In r (chain_rec o p (Some m) ∷ chain_rec o m (first ys) ∷ chain o ys)
             → (r ≡ chain_rec o m (first ys)) ⊎ (r ≡ chain_rec o p (Some m))
             ⊎ (IsChained link r × (key_value r ≢ p))
-        here (inl k) = inr (inr
-            (at (in_left r (linked o us p) (chain_rec o p (first ys) ∷ chain o ys) k), apart_before us p ys ascending (key_value r) (in_linked o us p r k)))
+        here (inl k) = inr (inr (
+          at (in_left r (linked o us p) (chain_rec o p (first ys) ∷ chain o ys) k),
+          apart_before us p ys ascending (key_value r) (in_linked o us p r k),
+        ))
         here (inr (inl e)) = inr (inl e)
         here (inr (inr (inl e))) = inl e
         here (inr (inr (inr k))) =
-            inr (inr (at (in_right r (linked o us p) (chain_rec o p (first ys) ∷ chain o ys) (inr k)), apart_behind us p ys ascending (key_value r) (in_chain o ys r k)))
+            inr
+            (inr (
+              at (in_right r (linked o us p) (chain_rec o p (first ys) ∷ chain o ys) (inr k)),
+              apart_behind us p ys ascending (key_value r) (in_chain o ys r k),
+            ))
 
     pub behind_chain : (r : Rec) → (r ≡ chain_rec o m (first ys)) ⊎ (r ≡ chain_rec o p (Some m))
         ⊎ (IsChained link r × (key_value r ≢ p)) → IsChained (fin.insert link m o) r
@@ -180,7 +199,11 @@ module _ (link : Link) (o m : Value) (free : fin.get link m ≡ None) where
       where
         at : In r (linked o us p ++ chain_rec o p (Some m) ∷ chain_rec o m (first ys) ∷ chain o ys)
             → IsChained (fin.insert link m o) r
-        at k = (o, subst (λ ms. In r (chain o ms)) (sym now) (subst (In r) (sym (split o us p (m ∷ ys))) k))
+        at k = (
+          o,
+          subst (λ ms. In r (chain o ms)) (sym now)
+              (subst (In r) (sym (split o us p (m ∷ ys))) k),
+        )
 
         old : key_value r ≢ p → In r (linked o us p) ⊎ In r (chain_rec o p (first ys) ∷ chain o ys)
             → IsChained (fin.insert link m o) r
@@ -202,7 +225,11 @@ module _ (link : Link) (o m : Value) (free : fin.get link m ≡ None) where
               (subst (In r) (split o us p ys)
               (subst (λ ms. In r (chain o ms)) members
               (subst (λ z. In r (chain z (members_of link z))) is k))))
-          | inr other ↦ (x, subst (λ ms. In r (chain x ms)) (sym (others_stay link o m free x other)) k)
+          | inr other ↦ (
+            x,
+            subst (λ ms. In r (chain x ms))
+                (sym (others_stay link o m free x other)) k,
+          )
         ]
 
     pub heads_behind : (x : Value)
@@ -234,6 +261,11 @@ module _ (link : Link) (o m : Value) (free : fin.get link m ≡ None) where
         → IsChained (fin.insert link m o) r
     front_chain r (inl e) = (o, subst (λ ms. In r (chain o ms)) (sym now) (inl e))
     front_chain r (inr (x, k)) = elim (value_cases x o) [
-      | inl is ↦ (o, subst (λ ms. In r (chain o ms)) (sym now) (inr (subst (λ ms. In r (chain o ms)) members (subst (λ z. In r (chain z (members_of link z))) is k))))
+      | inl is ↦ (
+        o,
+        subst (λ ms. In r (chain o ms)) (sym now)
+            (inr (subst (λ ms. In r (chain o ms)) members
+            (subst (λ z. In r (chain z (members_of link z))) is k))),
+      )
       | inr ne ↦ (x, subst (λ ms. In r (chain x ms)) (sym (others_stay link o m free x ne)) k)
     ]

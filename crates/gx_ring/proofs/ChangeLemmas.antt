@@ -125,7 +125,13 @@ module _ {M : Type 0} (rule : M → Rule) (heads nexts : Tree M) (valid : IsRing
         go : {o n : Value} (ms : List Value) → Some n ≡ first ms → h ≡ head_rec o n → IsHead o ms h
         go [] e is = absurd (none_some _ (sym e))
         go {o} {n} (x ∷ ms) e is =
-            record { member = x; others = ms; members = refl; is = is ∙ ap (head_rec o) (same_Some n x e) }
+            record {
+              member = x;
+              others = ms;
+              members = refl;
+              is = is
+                  ∙ ap (head_rec o) (same_Some n x e);
+            }
 
     chained_key : (link : Link) (r : Rec) → IsChained link r → r.key ≡ key_value r ∷ []
     chained_key link r (o, h) = key_in_chain o (members_of link o) r h
@@ -202,7 +208,8 @@ module _ {M : Type 0} (rule : M → Rule) (heads nexts : Tree M) (valid : IsRing
             (chain_rec o p (Some m)) r h) [
               | inl e ↦ to_new r (inr (inl e))
               | inr b ↦ (let c = in_chains link r b.0 in
-                  to_new r (inr (inr (c, not_p r (λ e. b.1 (e ∙ sym (tells_key o p (first ys)))) c))))
+                  to_new r
+                  (inr (inr (c, not_p r (λ e. b.1 (e ∙ sym (tells_key o p (first ys)))) c))))
             ]
 
         pub half_from : (r : Rec) → In r (chain_rows (fin.insert link m o))
@@ -231,7 +238,12 @@ module _ {M : Type 0} (rule : M → Rule) (heads nexts : Tree M) (valid : IsRing
 
         pub back_change : IsChange less (Some (chain_rec o p (Some m)))
             (Some (chain_rec o p (first ys)))
-        back_change = (to_without (chain_rows (fin.insert link m o)) (chain_rec o m (first ys)) (chain_rec o p (Some m)) (to_new (chain_rec o p (Some m)) (inr (inl refl))) (λ e. other_key (e ∙ tells_key o m (first ys))), sym (tells_key o p (first ys)))
+        back_change = (
+          to_without (chain_rows (fin.insert link m o)) (chain_rec o m (first ys))
+              (chain_rec o p (Some m)) (to_new (chain_rec o p (Some m)) (inr (inl refl)))
+              (λ e. other_key (e ∙ tells_key o m (first ys))),
+          sym (tells_key o p (first ys)),
+        )
 
         pub back_to : (r : Rec)
             → In r (changed less (Some (chain_rec o p (Some m))) (Some (chain_rec o p (first ys))))
@@ -328,7 +340,12 @@ module _ {M : Type 0} (rule : M → Rule) (heads nexts : Tree M) (valid : IsRing
           where
             go : (zs : List Value) → first zs ≡ Some n → IsHead o zs (head_rec o n)
             go [] f = absurd (none_some n f)
-            go (z ∷ zs) f = record { member = z; others = zs; members = refl; is = ap (head_rec o) (sym (same_Some z n f)) }
+            go (z ∷ zs) f = record {
+              member = z;
+              others = zs;
+              members = refl;
+              is = ap (head_rec o) (sym (same_Some z n f));
+            }
 
         none_before : first ys ≡ None → (h : Rec) → In h (head_rows link) → h.key ≢ o ∷ []
         none_before e h k is =
@@ -360,7 +377,10 @@ module _ {M : Type 0} (rule : M → Rule) (heads nexts : Tree M) (valid : IsRing
             → In h (changed (head_rows link) (head_if o next) (Some (head_rec o m)))
         lead_head_from None e h k = elim (head_cases h k) [ inl is ↦ inl is | inr q ↦ inr q.0 ]
         lead_head_from (Some n) e h k =
-            elim (head_cases h k) [ inl is ↦ inl is | inr q ↦ inr (to_without (head_rows link) (head_rec o n) h q.0 q.1) ]
+            elim (head_cases h k) [
+              | inl is ↦ inl is
+              | inr q ↦ inr (to_without (head_rows link) (head_rec o n) h q.0 q.1)
+            ]
 
         pub lead_chain_change : IsChange (chain_rows link) None (Some (chain_rec o m (first ys)))
         lead_chain_change r h e = free_key link m free r h (e ∙ tells_key o m (first ys))

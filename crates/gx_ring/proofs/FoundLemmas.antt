@@ -91,13 +91,20 @@ module _ {M : Type 0} (rule : M → Rule) (heads nexts : Tree M) (valid : IsRing
     pub heads_held : (maps : List LeafMap)
         → HasLink (ring_rule rule heads nexts) (IsHeldLink rule (two_nodes heads nexts) ring_rows)
         maps → HasSet rule heads maps
-    heads_held maps has = (head_rows rule heads nexts valid has.0, head_set rule heads nexts valid has.0 has.1, has.2.0)
+    heads_held maps has = (
+      head_rows rule heads nexts valid has.0,
+      head_set rule heads nexts valid has.0 has.1,
+      has.2.0,
+    )
 
     pub nexts_held : (maps : List LeafMap)
         → HasLink (ring_rule rule heads nexts) (IsHeldLink rule (two_nodes heads nexts) ring_rows)
         maps → HasSet rule nexts maps
-    nexts_held maps has = (let held = has.2 in
-        (chain_rows rule heads nexts valid has.0, chain_set rule heads nexts valid has.0 has.1, held.1.0))
+    nexts_held maps has = (let held = has.2 in (
+      chain_rows rule heads nexts valid has.0,
+      chain_set rule heads nexts valid has.0 has.1,
+      held.1.0,
+    ))
 
     -- ---- the owner of a member
 
@@ -110,8 +117,15 @@ module _ {M : Type 0} (rule : M → Rule) (heads nexts : Tree M) (valid : IsRing
       that = λ w link is held. go link (fin.get link member) refl
           (at.that w (chain_rows rule heads nexts valid link)
           (chain_set rule heads nexts valid link is) held.1.0);
-      few_steps = λ finds w link is held. omega
-          (arith, at.few_steps w (chain_rows rule heads nexts valid link, chain_set rule heads nexts valid link is, held.1.0), leaf_count);
+      few_steps = λ finds w link is held. omega (
+        arith,
+        at.few_steps w (
+          chain_rows rule heads nexts valid link,
+          chain_set rule heads nexts valid link is,
+          held.1.0,
+        ),
+        leaf_count,
+      );
     }
       where
         go : (link : Link) (o : Option Value) → fin.get link member ≡ o
@@ -134,8 +148,11 @@ module _ {M : Type 0} (rule : M → Rule) (heads nexts : Tree M) (valid : IsRing
           (at.that w (chain_rows rule heads nexts valid link)
           (chain_set rule heads nexts valid link is) held.1.0);
       few_steps = λ finds w link is held.
-          let few = at.few_steps w
-          (chain_rows rule heads nexts valid link, chain_set rule heads nexts valid link is, held.1.0) in
+          let few = at.few_steps w (
+            chain_rows rule heads nexts valid link,
+            chain_set rule heads nexts valid link is,
+            held.1.0,
+          ) in
           let more = weight link (at.that w (chain_rows rule heads nexts valid link)
           (chain_set rule heads nexts valid link is) held.1.0) in
           omega (arith, few, more, leaf_count);
@@ -215,7 +232,15 @@ module _ {M : Type 0} (rule : M → Rule) (heads nexts : Tree M) (valid : IsRing
         ap (λ ks. get_or ks 0 no_value) (sym (head_key q.0 (members_of link q.0) r q.1) ∙ key) in
         let member : q.1.member ≡ m = ap (λ (x : Rec). get_or x.fields 0 no_value) (sym q.1.is)
         ∙ sym first_is in (
-          record { link = link; is_link = is; held = held; owner = owner; rest = q.1.others; members = ap (members_of link) (sym same) ∙ q.1.members ∙ ap (λ x. x ∷ q.1.others) member },
+          record {
+            link = link;
+            is_link = is;
+            held = held;
+            owner = owner;
+            rest = q.1.others;
+            members = ap (members_of link) (sym same) ∙ q.1.members
+                ∙ ap (λ x. x ∷ q.1.others) member;
+          },
           refl,
           refl,
           q.1.is ∙ (λ i. head_rec (same i) (member i)),
@@ -235,8 +260,13 @@ module _ {M : Type 0} (rule : M → Rule) (heads nexts : Tree M) (valid : IsRing
       pub chain_of_link : whole
           × HasLink (ring_rule rule heads nexts) (IsHeldLink rule (two_nodes heads nexts) ring_rows)
           maps → next_whole × HasChain rule heads nexts next_maps m
-      chain_of_link s = (let has = s.1 in let held = has.2 in
-          (to s.0, subst (λ ms. HasChain rule heads nexts ms m) (sym same) (chain_at has.0 maps owner r m has.1 held first_is (at.that s.0 (head_rows rule heads nexts valid has.0) (head_set rule heads nexts valid has.0 has.1) held.0)).0))
+      chain_of_link s = (let has = s.1 in let held = has.2 in (
+        to s.0,
+        subst (λ ms. HasChain rule heads nexts ms m) (sym same)
+            (chain_at has.0 maps owner r m has.1 held first_is
+            (at.that s.0 (head_rows rule heads nexts valid has.0)
+            (head_set rule heads nexts valid has.0 has.1) held.0)).0,
+      ))
 
       pub members_some : (steps : ℕ) (out now : List Value)
           → AreWalked rule heads nexts next_whole next_maps m half steps out now
@@ -260,8 +290,11 @@ module _ {M : Type 0} (rule : M → Rule) (heads nexts : Tree M) (valid : IsRing
                 let c = chain_at link maps owner r m is held first_is
                 (at.that w (head_rows rule heads nexts valid link)
                 (head_set rule heads nexts valid link is) held.0) in
-                let one = at.few_steps w
-                (head_rows rule heads nexts valid link, head_set rule heads nexts valid link is, held.0) in
+                let one = at.few_steps w (
+                  head_rows rule heads nexts valid link,
+                  head_set rule heads nexts valid link is,
+                  held.0,
+                ) in
                 let members : members_of link owner ≡ m ∷ c.0.rest =
                 (λ i. members_of (sym c.1 i) (sym c.2 i)) ∙ c.0.members in
                 let total : length (entries_of rule heads (head_rec owner m))

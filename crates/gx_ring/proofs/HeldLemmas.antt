@@ -350,7 +350,17 @@ module _ {M : Type 0} (rule : M → Rule) (heads nexts : Tree M) where
       (λ r. length (entries_of rule nexts r)) (chain o at.rest) =
       sum_by-cons (λ r. length (entries_of rule nexts r))
       (chain_rec o m (first at.rest)) (chain o at.rest) in
-      omega (arith, all_is, own, lead, came, one, two, rest, chain_within o (u.0 ++ p ∷ m ∷ at.rest))
+      omega (
+        arith,
+        all_is,
+        own,
+        lead,
+        came,
+        one,
+        two,
+        rest,
+        chain_within o (u.0 ++ p ∷ m ∷ at.rest),
+      )
 
   -- of what is put back
   pub went_entries : (ms : List Value) (o m : Value) (before next : Option Value)

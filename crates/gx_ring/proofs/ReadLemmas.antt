@@ -81,6 +81,10 @@ module _ {M : Type 0} (rule : M
       (sym (e ∙ ap (λ rs. slice_get rs 0) is.appended)) (record {
         fit = found_fit is.found is.fit;
         that = λ w R set held. found_that R is.found is.fit (is.selected w R set held);
-        few_steps = λ w has. omega
-            (arith, is.few_steps, found_steps has.0 is.found is.fit (is.selected w has.0 has.1 has.2));
+        few_steps = λ w has. omega (
+          arith,
+          is.few_steps,
+          found_steps has.0 is.found is.fit
+              (is.selected w has.0 has.1 has.2),
+        );
       })

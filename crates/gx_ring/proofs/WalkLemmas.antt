@@ -49,15 +49,22 @@ module _ {M : Type 0} (rule : M → Rule) (heads nexts : Tree M) (valid : IsRing
 
     pub has_set : (maps : List LeafMap) (member : Value) → HasMember rule heads nexts maps member
         → HasSet rule nexts maps
-    has_set maps member has =
-        (chain_rows rule heads nexts valid has.link, chain_set rule heads nexts valid has.link has.is_link, has.held.1.0)
+    has_set maps member has = (
+      chain_rows rule heads nexts valid has.link,
+      chain_set rule heads nexts valid has.link has.is_link,
+      has.held.1.0,
+    )
 
     row_in : (maps : List LeafMap) (member : Value) (has : HasMember rule heads nexts maps member)
         → In (chain_rec has.owner member (first has.rest))
         (chain_rows rule heads nexts valid has.link)
     row_in maps member has =
-        chain_in rule heads nexts valid has.link (chain_rec has.owner member (first has.rest))
-        (has.owner, subst (λ ms. In (chain_rec has.owner member (first has.rest)) (chain has.owner ms)) (sym has.members) (row_there has.owner has.front member has.rest))
+        chain_in rule heads nexts valid has.link (chain_rec has.owner member (first has.rest)) (
+          has.owner,
+          subst (λ ms. In (chain_rec has.owner member (first has.rest))
+              (chain has.owner ms)) (sym has.members)
+              (row_there has.owner has.front member has.rest),
+        )
 
     pub found_row : (maps : List LeafMap) (member : Value)
         (has : HasMember rule heads nexts maps member) (r : Rec)
@@ -162,7 +169,11 @@ module _ {M : Type 0} (rule : M → Rule) (heads nexts : Tree M) (valid : IsRing
       where
         weaker : IsNext rule heads nexts other maps member before steps next
             → IsNext rule heads nexts whole maps member before steps next
-        weaker at = record { fit = at.fit; that = λ w. at.that (to w); few_steps = λ w. at.few_steps (to w) }
+        weaker at = record {
+          fit = at.fit;
+          that = λ w. at.that (to w);
+          few_steps = λ w. at.few_steps (to w);
+        }
 
     -- ---- all steps
 
@@ -187,7 +198,15 @@ module _ {M : Type 0} (rule : M → Rule) (heads nexts : Tree M) (valid : IsRing
         (rest : List Value) → head ∷ has.rest ≡ passed ++ at ∷ rest
         → HasMember rule heads nexts maps at
     has_member maps head has passed at rest split =
-        record { link = has.link; is_link = has.is_link; held = has.held; owner = has.owner; front = passed; rest = rest; members = has.members ∙ split }
+        record {
+          link = has.link;
+          is_link = has.is_link;
+          held = has.held;
+          owner = has.owner;
+          front = passed;
+          rest = rest;
+          members = has.members ∙ split;
+        }
 
     pub member_at : (whole : Type 0) (maps : List LeafMap) (head : Value) (before : List Value)
         (steps_before i : ℕ) (at : Value) (now : List Value) (steps : ℕ)
@@ -202,7 +221,10 @@ module _ {M : Type 0} (rule : M → Rule) (heads nexts : Tree M) (valid : IsRing
         → Fits (member_kind rule nexts) m
     more_fit passed at m fit at_fits h = elim (in_cases m passed (at ∷ []) h) [
       | inl k ↦ fit m k
-      | inr k ↦ elim k [ inl e ↦ subst (Fits (member_kind rule nexts)) (sym e) at_fits | inr f ↦ absurd f ]
+      | inr k ↦ elim k [
+        | inl e ↦ subst (Fits (member_kind rule nexts)) (sym e) at_fits
+        | inr f ↦ absurd f
+      ]
     ]
 
     module _ (whole : Type 0) (maps : List LeafMap) (head : Value) (before : List Value)
@@ -306,4 +328,11 @@ module _ {M : Type 0} (rule : M → Rule) (heads nexts : Tree M) (valid : IsRing
         → most_members ≤ i → whole → HasChain rule heads nexts maps head → ⊥
     no_step whole maps head before steps_before i at now steps step past w has =
         let s = step.so_far w has in
-        omega (arith, step.count, past, ap length (has.members ∙ s.split), length-append step.passed (at ∷ s.rest), has.is_link.few has.owner)
+        omega (
+          arith,
+          step.count,
+          past,
+          ap length (has.members ∙ s.split),
+          length-append step.passed (at ∷ s.rest),
+          has.is_link.few has.owner,
+        )

@@ -114,12 +114,22 @@ pub row_cases : (o : Value) (ms : List Value) (p : Part) → In p (ring_rows o m
     → ((p.child ≡ 0) × IsHead o ms p.rec) ⊎ ((p.child ≡ 1) × In p.rec (chain o ms))
 row_cases o [] p h = absurd h
 row_cases o (m ∷ ms) p (inl e) =
-    inl
-    (ap (λ (q : Part). q.child) e, record { member = m; others = ms; members = refl; is = ap (λ (q : Part). q.rec) e })
+    inl (
+      ap (λ (q : Part). q.child) e,
+      record {
+        member = m;
+        others = ms;
+        members = refl;
+        is = ap (λ (q : Part). q.rec) e;
+      },
+    )
 row_cases o (m ∷ ms) p (inr h) =
     let r = from_map (part_for 1) p (chain o (m ∷ ms)) h in
-    inr
-    (ap (λ (q : Part). q.child) r.2, subst (λ x. In x (chain o (m ∷ ms))) (sym (ap (λ (q : Part). q.rec) r.2)) r.1)
+    inr (
+      ap (λ (q : Part). q.child) r.2,
+      subst (λ x. In x (chain o (m ∷ ms)))
+          (sym (ap (λ (q : Part). q.rec) r.2)) r.1,
+    )
 
 -- ---- the rows of a link
 
@@ -251,10 +261,18 @@ module _ (owner member : Kind) (heads nexts : Form) (head_keys : kinds_of heads.
       → ((m : Value) → In m ms → Fits member m) → In p (ring_rows o ms)
       → (p.child < 2) × IsOf (two_forms heads nexts p.child) p.rec
   row_fits o ms p fit_o fit_ms h = elim (row_cases o ms p h) [
-    | inl x ↦
-        (omega (arith, x.0), subst (λ c. IsOf (two_forms heads nexts c) p.rec) (sym x.0) (subst (IsOf heads) (sym x.1.is) (head_fits o x.1.member fit_o (fit_ms x.1.member (subst (In x.1.member) (sym x.1.members) (inl refl))))))
-    | inr x ↦
-        (omega (arith, x.0), subst (λ c. IsOf (two_forms heads nexts c) p.rec) (sym x.0) (fits_in_chain o ms p.rec fit_o fit_ms x.1))
+    | inl x ↦ (
+      omega (arith, x.0),
+      subst (λ c. IsOf (two_forms heads nexts c) p.rec) (sym x.0)
+          (subst (IsOf heads) (sym x.1.is)
+          (head_fits o x.1.member fit_o
+          (fit_ms x.1.member (subst (In x.1.member) (sym x.1.members) (inl refl))))),
+    )
+    | inr x ↦ (
+      omega (arith, x.0),
+      subst (λ c. IsOf (two_forms heads nexts c) p.rec) (sym x.0)
+          (fits_in_chain o ms p.rec fit_o fit_ms x.1),
+    )
   ]
 
   pub ring_row_laws : RowLaws owner member (two_forms heads nexts) 2 ring_rows

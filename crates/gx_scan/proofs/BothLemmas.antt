@@ -1,4 +1,5 @@
--- The record whose two groups of data fields stand in entries of two leaves, and what is read of them.
+-- The record whose two groups of data fields stand in entries of two leaves, and what is read of
+-- them.
 use Rattle.std.proofs.Common.{[], ◌≡◌, ℕ, ◌+◌, ◌-◌, ◌<◌, ◌≤◌, ◌++◌, List, ◌∷◌, length, length-append, take, drop, get_or, map, cond, Bool, true, false, Option, None, Some, inl, inr, refl, sym, ap, subst, ◌∙◌, arith}
 use Rattle.std.specs.Prelude.{pos, filter, not, slice_get}
 use Rattle.std.specs.FinMap as fin

@@ -94,7 +94,13 @@ few_below (suc n) xs once below = elim (in_or_not n xs) [
       let many = few_below n (s.front ++ s.back) rest.1
       (λ x k. below_last n x (below x (subst (In x) (sym s.is) (around n x s.front s.back k)))
       (λ e. rest.0 (subst (λ y. In y (s.front ++ s.back)) e k))) in
-      omega (arith, many, ap length s.is, length-append s.front s.back, length-append s.front (n ∷ s.back)))
+      omega (
+        arith,
+        many,
+        ap length s.is,
+        length-append s.front s.back,
+        length-append s.front (n ∷ s.back),
+      ))
   | inr absent ↦ (
       let many = few_below n xs once
       (λ x k. below_last n x (below x k) (λ e. absent (subst (λ y. In y xs) e k))) in

@@ -90,7 +90,12 @@ pub entry_at : (P : Row → Type 0) (made : Row → List ℕ × List ℕ) (rs : 
 entry_at P made rs es i e all same lt item =
     let x = row_at P made rs i e all
     (omega (arith, ap length same, length-map rs (λ (r : Row). entry_of (made r)))) in
-    record { row = x.0; fits = x.1; is = item ∙ ap (λ (l : List Entry). get_or l i e) same ∙ x.2; more = ap (λ n. take n rs) (let y : i + 1 ≡ suc i = omega arith in y) ∙ x.3 }
+    record {
+      row = x.0;
+      fits = x.1;
+      is = item ∙ ap (λ (l : List Entry). get_or l i e) same ∙ x.2;
+      more = ap (λ n. take n rs) (let y : i + 1 ≡ suc i = omega arith in y) ∙ x.3;
+    }
 
 -- ---- the values behind the lengths of a body
 

@@ -44,7 +44,13 @@ pub record IsThere (f : File) (q : Rec) : Type 0 where
 pub in_there : (f : File) (q : Rec) → In q (file_records f) → IsThere f q
 in_there f q h =
     let r = from_map rec_of q (fin.entries f) h in
-    record { key = r.0.0; values = r.0.1; is = r.2; found = fin.get-entries f r.0.0 ∙ in_find value_cmp_total r.0 (fin.entries f) (fin.entries_sorted f) r.1 }
+    record {
+      key = r.0.0;
+      values = r.0.1;
+      is = r.2;
+      found = fin.get-entries f r.0.0
+          ∙ in_find value_cmp_total r.0 (fin.entries f) (fin.entries_sorted f) r.1;
+    }
 
 pub there_in : (f : File) (k : Value) (vs : List Value) → fin.get f k ≡ Some vs
     → In (rec_of (k, vs)) (file_records f)

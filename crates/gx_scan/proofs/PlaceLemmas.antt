@@ -103,7 +103,8 @@ mutual
       → In n (kids_leaves ks)
   kids_data_in rest no_kids n h = absurd h
   kids_data_in rest (kid t ks) n h =
-      elim (in_cases n (if rest 0 then data_leaves t else []) (kids_data (λ c. rest (suc c)) ks) h) [
+      elim (in_cases n (if rest 0 then data_leaves t else [])
+      (kids_data (λ c. rest (suc c)) ks) h) [
         | inl a ↦ in_left n (leaves_of t) (kids_leaves ks)
             (data_in t n (if_in (rest 0) n (data_leaves t) a).1)
         | inr b ↦ in_right n (leaves_of t) (kids_leaves ks)
@@ -136,7 +137,14 @@ mutual
   kids_data_few rest (kid t ks) =
       let one = if_few (rest 0) (data_leaves t) (length (leaves_of t)) (data_few t) in
       let more = kids_data_few (λ c. rest (suc c)) ks in
-      omega (arith, one, more, length-append (if rest 0 then data_leaves t else []) (kids_data (λ c. rest (suc c)) ks), length-append (leaves_of t) (kids_leaves ks))
+      omega (
+        arith,
+        one,
+        more,
+        length-append (if rest 0 then data_leaves t else [])
+            (kids_data (λ c. rest (suc c)) ks),
+        length-append (leaves_of t) (kids_leaves ks),
+      )
 
 -- those below one child
 abbrev below_child : Kids AnyMapping → ℕ → List ℕ
@@ -150,7 +158,8 @@ below_at [] c n l = absurd (omega arith)
 below_at (x ∷ ns) zero n l = refl
 below_at (x ∷ ns) (suc c) n l = below_at ns c n (omega arith)
 
--- where an entry of a part stands in one of these leaves, the part's child is a data child and the leaf is below it
+-- where an entry of a part stands in one of these leaves, the part's child is a data child and the
+-- leaf is below it
 part_leaf : (rest : ℕ → Bool) (forms : ℕ → Form) (ks : Kids AnyMapping) (c : ℕ) (r : Rec)
     (e : LeafEntry) → AreValid any_rule forms ks → In e (kid_entries any_rule ks c r)
     → In e.leaf (kids_data rest ks) → (rest c ≡ true) × In e.leaf (below_child ks c)
@@ -374,7 +383,11 @@ index_passes (any.Index m) n cs is = record {
     rest = refl;
     others = drop 1 ((any_rule (any.Index m)).parts (below n cs r));
     parts = refl;
-    beside = λ p h. elim h [ inl e ↦ ap (λ (q : Part). (any_rule (any.Index m)).holds_rest q.child) e | inr none ↦ absurd none ];
+    beside = λ p h. elim h [
+      | inl e ↦ ap (λ (q : Part). (any_rule (any.Index m)).holds_rest q.child)
+          e
+      | inr none ↦ absurd none
+    ];
     coded = coded;
   };
   plain = first;

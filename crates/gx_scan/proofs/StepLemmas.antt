@@ -90,7 +90,12 @@ whole_most file t f most places (r ∷ rs) are form keyed fit few there =
     (row_fits file r keyed (all_in (IsRowOf file) (fin.entries f) r fit here)) in
     let stands = are.stand (rec_of r) fits tt in
     let one : 1 ≤ most = omega (arith, few r here, ap length stands.3.first) in
-    omega (arith, one, whole_most file t f most places rs are form keyed fit few (λ q h. there q (inr h)))
+    omega (
+      arith,
+      one,
+      whole_most file t f most places rs are form keyed fit few
+          (λ q h. there q (inr h)),
+    )
 
 -- ---- the records that an index finds
 

@@ -77,14 +77,18 @@ first_of_name : (before fs : List Field) (i : ℕ) → AreFields before fs → i
 first_of_name before [] i are lt = absurd (omega arith)
 first_of_name before (f ∷ fs) zero are lt =
     let same : pointwise nat_eq f.name f.name ≡ true =
-    (slice_eq-Decides Decides-eqb f.name f.name (pointwise nat_eq f.name f.name) refl).1 refl in
-    (ap (λ (b : Bool). b || is_field fs f.name) same, ap (λ (b : Bool). cond b 0 (suc (first_in fs f.name))) same)
+    (slice_eq-Decides Decides-eqb f.name f.name (pointwise nat_eq f.name f.name) refl).1 refl in (
+      ap (λ (b : Bool). b || is_field fs f.name) same,
+      ap (λ (b : Bool). cond b 0 (suc (first_in fs f.name))) same,
+    )
 first_of_name before (f ∷ fs) (suc i) are lt =
     let name = (get_or fs i no_field).name in
     let rest = first_of_name (before ++ f ∷ []) fs i are.1 (omega arith) in
     let other : pointwise nat_eq f.name name ≡ false =
-    (has_more before f name (not_before (before ++ f ∷ []) fs i are.1 (omega arith))).1 in
-    (ap (λ (b : Bool). b || is_field fs name) other ∙ rest.0, ap (λ (b : Bool). cond b 0 (suc (first_in fs name))) other ∙ ap suc rest.1)
+    (has_more before f name (not_before (before ++ f ∷ []) fs i are.1 (omega arith))).1 in (
+      ap (λ (b : Bool). b || is_field fs name) other ∙ rest.0,
+      ap (λ (b : Bool). cond b 0 (suc (first_in fs name))) other ∙ ap suc rest.1,
+    )
 
 pub file_named : (file : FileDef) → HasRules file → AreNamed file
 file_named file rules i lt = behind_key file.fields rules.fields lt

@@ -164,8 +164,10 @@ rows_found f (r ∷ rs) there =
 
 distinct_rows : (rs : List Row) → Ascends key_cmp rs → AreDistinct rs
 distinct_rows [] up = tt
-distinct_rows (r ∷ rs) up =
-    (λ h. not_before_itself value_cmp_total r.0 (all_in (λ y. key_cmp r y ≡ Less) rs r up.0 h), distinct_rows rs up.1)
+distinct_rows (r ∷ rs) up = (
+  λ h. not_before_itself value_cmp_total r.0 (all_in (λ y. key_cmp r y ≡ Less) rs r up.0 h),
+  distinct_rows rs up.1,
+)
 
 -- the records at the keys that an index gives, where they meet the conditions
 pub found_where : (file : FileDef) (t : Tree AnyMapping) (field : ℕ) (span : Span)
@@ -219,7 +221,8 @@ found_where file t field span conds f steps_before steps keys before now form na
           (distinct_filter meets (map row_of recs) (own_rows f recs there are.once)) to from;
     }
 
--- where the span has the field of each record that meets the conditions, those found by it are all that meet them
+-- where the span has the field of each record that meets the conditions, those found by it are all
+-- that meet them
 pub covered_where : (field : ℕ) (span : Span) (conds : List Cond) (f : File) (before now : List Row)
     → ((r : Row) → In r (fin.entries f) → meets_conds conds r ≡ true
     → is_inside span.lo span.hi (bytes_of (value_at r field)) ≡ true) → before ≡ []

@@ -34,10 +34,16 @@ use Rattle.gx_schema.proofs.TextFound.{StartIs, start_case}
 
 start_reason : (s : Schema) (t : Lexeme) → HasReason t (an_item_start s t)
 start_reason s (Word w) =
-    cond_both (pointwise nat_eq w (codes "file")) (cond (leb 32 (length s.files)) (Err why.Count) (Ok Starts_file)) (cond (pointwise nat_eq w (codes "link")) (cond (leb 32 (length s.links)) (Err why.Count) (Ok Starts_link)) (Err why.Unexpected)) (HasReason (Word w))
+    cond_both (pointwise nat_eq w (codes "file"))
+    (cond (leb 32 (length s.files)) (Err why.Count) (Ok Starts_file))
+    (cond (pointwise nat_eq w (codes "link"))
+    (cond (leb 32 (length s.links)) (Err why.Count) (Ok Starts_link)) (Err why.Unexpected))
+    (HasReason (Word w))
     (λ _. cond_both (leb 32 (length s.files)) (Err why.Count) (Ok Starts_file) (HasReason (Word w))
     (λ _. tt) (λ _. tt))
-    (λ _. cond_both (pointwise nat_eq w (codes "link")) (cond (leb 32 (length s.links)) (Err why.Count) (Ok Starts_link)) (Err why.Unexpected) (HasReason (Word w))
+    (λ _. cond_both (pointwise nat_eq w (codes "link"))
+    (cond (leb 32 (length s.links)) (Err why.Count) (Ok Starts_link)) (Err why.Unexpected)
+    (HasReason (Word w))
     (λ _. cond_both (leb 32 (length s.links)) (Err why.Count) (Ok Starts_link) (HasReason (Word w))
     (λ _. tt) (λ _. tt))
     (λ _ e. absurd cc))
@@ -50,19 +56,27 @@ start_reason s Equals = λ e. absurd cc
 start_reason s End = cond_both (eqb (length s.files) 0) (Err why.End) (Ok Ends) (HasReason End)
     (λ _. refl) (λ _. tt)
 
-file_shape : (bytes mid rest : List ℕ) → the (Word (codes "file")) bytes mid → FileShape mid rest → ItemShape bytes rest
+file_shape : (bytes mid rest : List ℕ) → the (Word (codes "file")) bytes mid → FileShape mid rest
+    → ItemShape bytes rest
 file_shape bytes mid rest word file = inl (mid, word, file)
 
-link_shape : (bytes mid rest : List ℕ) → the (Word (codes "link")) bytes mid → LinkShape mid rest → ItemShape bytes rest
+link_shape : (bytes mid rest : List ℕ) → the (Word (codes "link")) bytes mid → LinkShape mid rest
+    → ItemShape bytes rest
 link_shape bytes mid rest word link = inr (mid, word, link)
 
 file_is_word : IsProper (Word (codes "file"))
-file_is_word = record { starts = refl; each = (refl, (refl, (refl, (refl, tt)))); short = omega arith }
+file_is_word = record {
+  starts = refl;
+  each = (refl, (refl, (refl, (refl, tt))));
+  short = omega arith;
+}
 
 some_item : IsInhabited {A = Option Item} (λ _. ItemShape)
 some_item =
-    some_both {A = Unit {0}} (λ _. the (Word (codes "file"))) (λ _ _. FileShape) (λ _. ItemShape) (λ a b bytes mid rest f g. file_shape bytes mid rest f g)
-    (some_token (λ _. the (Word (codes "file"))) tt (Word (codes "file")) file_is_word (λ bytes rest h. h)) (λ _. some_file_shape None)
+    some_both {A = Unit {0}} (λ _. the (Word (codes "file"))) (λ _ _. FileShape) (λ _. ItemShape)
+    (λ a b bytes mid rest f g. file_shape bytes mid rest f g)
+    (some_token (λ _. the (Word (codes "file"))) tt (Word (codes "file")) file_is_word
+    (λ bytes rest h. h)) (λ _. some_file_shape None)
 
 -- what a start is, apart from how many files and links there may be
 abbrev StartShape : Start → List ℕ → List ℕ → Type 0
@@ -132,8 +146,12 @@ item_by : (s : Schema) (bytes : List ℕ) (w : Result (Start × List ℕ) Fault)
     → want (an_item_start s) bytes ≡ w
     → ItemOutcome s bytes (w >>= λ start. item_from s start.0 start.1)
 unfolding item_at
-item_by s bytes (Err f) e =
-    ([], first_fault (want (an_item_start s)) (λ start. item_from s start.0 start.1) bytes f [] (want_fault (an_item_start s) bytes f (start_reason s) e), front_none (λ _. ItemShape) some_item)
+item_by s bytes (Err f) e = (
+  [],
+  first_fault (want (an_item_start s)) (λ start. item_from s start.0 start.1) bytes f []
+      (want_fault (an_item_start s) bytes f (start_reason s) e),
+  front_none (λ _. ItemShape) some_item,
+)
 item_by s bytes (Ok (Ends, rest)) e = tt
 item_by s bytes (Ok (Starts_file, rest)) e =
     let r = map_ok as_file (file_behind s rest) in
@@ -189,12 +207,19 @@ items_by : (room : ℕ) (s : Schema) (bytes : List ℕ) (o : Result (Option Item
     → FaultInFront (λ b. item_at s b >>= λ x. after_item room s x.0 x.1) bytes f
 items_by room s bytes (Err d) f t more e =
     let same : d ≡ f = cc in
-    subst (FaultInFront (λ b. item_at s b >>= λ x. after_item room s x.0 x.1) bytes) same
-    (t.0, first_fault (item_at s) (λ x. after_item room s x.0 x.1) bytes d t.0 t.1, front_item t.0 t.2)
+    subst (FaultInFront (λ b. item_at s b >>= λ x. after_item room s x.0 x.1) bytes) same (
+      t.0,
+      first_fault (item_at s) (λ x. after_item room s x.0 x.1) bytes d t.0 t.1,
+      front_item t.0 t.2,
+    )
 items_by room s bytes (Ok (None, rest)) f t more e = absurd cc
 items_by room s bytes (Ok (Some i, rest)) f t more e =
-    let g = more i rest e in
-    (t.taken ++ g.0, later_fault (item_at s) (λ _. ItemShape) (after_item room s) bytes (Some i, rest) f g.0 t g.1, front_items s bytes (Some i, rest) g.0 t g.2)
+    let g = more i rest e in (
+      t.taken ++ g.0,
+      later_fault (item_at s) (λ _. ItemShape) (after_item room s) bytes
+          (Some i, rest) f g.0 t g.1,
+      front_items s bytes (Some i, rest) g.0 t g.2,
+    )
 
 abbrev no_more_reader : List ℕ → Result (Schema × List ℕ) Fault
 no_more_reader = want (λ _. Err why.Count)
@@ -205,8 +230,12 @@ no_more_fault : (bytes : List ℕ) (f : Fault) (r : Result (Schema × List ℕ) 
 no_more_fault bytes f (Ok y) is e = absurd cc
 no_more_fault bytes f (Err d) is e =
     let same : d ≡ f = cc in
-    subst (FaultInFront no_more_items bytes) same
-    ([], first_fault no_more_reader (λ x. Ok x.0) bytes d [] (want_fault (λ _. Err why.Count) bytes d (λ t. tt) is), front_item [] (front_none (λ _. ItemShape) some_item))
+    subst (FaultInFront no_more_items bytes) same (
+      [],
+      first_fault no_more_reader (λ x. Ok x.0) bytes d []
+          (want_fault (λ _. Err why.Count) bytes d (λ t. tt) is),
+      front_item [] (front_none (λ _. ItemShape) some_item),
+    )
 
 items_fault : (room : ℕ) (s : Schema) (bytes : List ℕ) (f : Fault)
     → items_behind room s bytes ≡ Err f

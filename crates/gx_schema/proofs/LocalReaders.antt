@@ -45,8 +45,11 @@ int_is_word = record { starts = refl; each = (refl, (refl, (refl, tt))); short =
 
 kind_reason : (word : List ℕ) → HasReason (Word word) (a_kind (Word word))
 kind_reason word =
-    cond_both (pointwise nat_eq word (codes "int")) (Ok false) (cond (pointwise nat_eq word (codes "text")) (Ok true) (Err why.Unexpected)) (HasReason (Word word)) (λ _. tt)
-    (λ _. cond_both (pointwise nat_eq word (codes "text")) (Ok true) (Err why.Unexpected) (HasReason (Word word)) (λ _. tt) (λ _ e. absurd cc))
+    cond_both (pointwise nat_eq word (codes "int")) (Ok false)
+    (cond (pointwise nat_eq word (codes "text")) (Ok true) (Err why.Unexpected))
+    (HasReason (Word word)) (λ _. tt)
+    (λ _. cond_both (pointwise nat_eq word (codes "text")) (Ok true) (Err why.Unexpected)
+    (HasReason (Word word)) (λ _. tt) (λ _ e. absurd cc))
 
 -- what stands behind the word of a kind
 abbrev BehindKind : Bool → Kind → List ℕ → List ℕ → Type 0
@@ -57,7 +60,8 @@ kind_joins : (is_text : Bool) (kind : Kind) (bytes mid rest : List ℕ)
     → the (Word (kind_word is_text)) bytes mid → BehindKind is_text kind mid rest
     → KindShape bytes rest
 kind_joins true kind bytes mid rest word number = inr (mid, word, number)
-kind_joins false kind bytes mid rest word same = inl (subst (λ (z : List ℕ). the (Word (codes "int")) bytes z) same word)
+kind_joins false kind bytes mid rest word same = inl
+    (subst (λ (z : List ℕ). the (Word (codes "int")) bytes z) same word)
 
 some_behind_kind : (is_text : Bool) → IsInhabited (BehindKind is_text)
 some_behind_kind true = some_number kinds.Int
@@ -104,12 +108,14 @@ local_field before =
     (λ name b. kind_at (eqb (length before) 0) b >>= λ kind. Ok
     (made_field name kind.0, kind.1)) AWord KindShape
     (λ name. some_kind (made_field name kinds.Int))
-    (local_want (a_field_name before) (λ _. AWord) (takes_word _ (codes "a") (field_name_reason before)))
+    (local_want (a_field_name before) (λ _. AWord)
+    (takes_word _ (codes "a") (field_name_reason before)))
     (λ name. local_value (kind_at (eqb (length before) 0)) (made_field name) KindShape
     (local_kind (eqb (length before) 0)))
 
 some_field : {A : Type 0} (x : A) → IsInhabited {A = A} (λ _. FieldShape)
-some_field x = some_both {A = List ℕ} (λ _. AWord) (λ _ _. KindShape) (λ _. FieldShape) (λ a b bytes mid rest f g. (mid, f, g)) (some_word (codes "a")) (λ _. some_kind x)
+some_field x = some_both {A = List ℕ} (λ _. AWord) (λ _ _. KindShape) (λ _. FieldShape)
+    (λ a b bytes mid rest f g. (mid, f, g)) (some_word (codes "a")) (λ _. some_kind x)
 
 some_fields : {A : Type 0} (x : A) → IsInhabited {A = A} (λ _. SomeFields)
 some_fields x = some_both {A = Unit {0}} (λ _. FieldShape) (λ _ _. the Close) (λ _. SomeFields)
@@ -150,7 +156,12 @@ local_behind_mark room before true h = h
 local_behind_mark room before false h = local_done before
 
 no_fields : TakesToken {A = List Field} (λ _. Err why.Count) (λ _. SomeFields)
-no_fields = record { proper = λ x e. absurd cc; shaped = λ t x bytes rest e h. absurd cc; reason = λ t. tt; some = some_fields [] }
+no_fields = record {
+  proper = λ x e. absurd cc;
+  shaped = λ t x bytes rest e h. absurd cc;
+  reason = λ t. tt;
+  some = some_fields [];
+}
 
 local_fields : (room : ℕ) (before : List Field) → IsLocal (fields_at room before) (λ _. SomeFields)
 unfolding fields_at
@@ -177,7 +188,8 @@ new_name_reason s word =
     (Err why.NameUse) (Ok word) (HasReason (Word word)) (λ _. tt) (λ _. tt)
 
 local_new_name : (s : Schema) → IsLocal (want (a_new_name s)) (λ _. AWord)
-local_new_name s = local_want (a_new_name s) (λ _. AWord) (takes_word _ (codes "a") (new_name_reason s))
+local_new_name s = local_want (a_new_name s) (λ _. AWord)
+    (takes_word _ (codes "a") (new_name_reason s))
 
 number_reason : (word : List ℕ) (o : Option ℕ) → HasReason (Word word) (number_from o)
 number_reason word None = tt

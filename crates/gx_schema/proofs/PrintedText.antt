@@ -32,13 +32,25 @@ int_is_word : IsWord (codes "int")
 int_is_word = record { starts = refl; each = (refl, (refl, (refl, tt))); short = omega arith }
 
 text_is_word : IsWord (codes "text")
-text_is_word = record { starts = refl; each = (refl, (refl, (refl, (refl, tt)))); short = omega arith }
+text_is_word = record {
+  starts = refl;
+  each = (refl, (refl, (refl, (refl, tt))));
+  short = omega arith;
+}
 
 file_is_word : IsWord (codes "file")
-file_is_word = record { starts = refl; each = (refl, (refl, (refl, (refl, tt)))); short = omega arith }
+file_is_word = record {
+  starts = refl;
+  each = (refl, (refl, (refl, (refl, tt))));
+  short = omega arith;
+}
 
 link_is_word : IsWord (codes "link")
-link_is_word = record { starts = refl; each = (refl, (refl, (refl, (refl, tt)))); short = omega arith }
+link_is_word = record {
+  starts = refl;
+  each = (refl, (refl, (refl, (refl, tt))));
+  short = omega arith;
+}
 
 size_is : (n : ℕ) → n ≤ 200 → natural_up_to 200 (number_value (decimal n)) ≡ Some n
 size_is n most = ap (natural_up_to 200) (number_value-decimal n (omega arith))
@@ -46,12 +58,18 @@ size_is n most = ap (natural_up_to 200) (number_value-decimal n (omega arith))
 
 kind_printed : (first : Bool) (k : Kind) (rest : List ℕ) → IsKind first k
     → continues_run rest ≡ false → KindText k (32 ∷ (kind_text k ++ rest)) rest
-kind_printed first kinds.Int rest fits apart = behind_space _ _ _ (word_printed (codes "int") rest int_is_word apart)
+kind_printed first kinds.Int rest fits apart = behind_space _ _ _
+    (word_printed (codes "int") rest int_is_word apart)
 kind_printed first (kinds.Text n) rest fits apart =
     let most = fits.1 in (
       32 ∷ (decimal n ++ rest),
       behind_space _ _ _ (word_printed (codes "text") (32 ∷ (decimal n ++ rest)) text_is_word refl),
-      (decimal n, size_is n most, behind_space _ _ _ (token_printed (Number (decimal n)) rest (IsNumber-decimal n (omega arith)) apart)),
+      (
+        decimal n,
+        size_is n most,
+        behind_space _ _ _
+            (token_printed (Number (decimal n)) rest (IsNumber-decimal n (omega arith)) apart),
+      ),
     )
 kind_printed first (kinds.Bytes n) rest fits apart = absurd fits
 
@@ -60,8 +78,12 @@ field_printed : (before : List Field) (f : Field) (rest : List ℕ) → IsField 
 field_printed before f rest h apart =
     let whole : field_text f ++ rest ≡ f.name ++ (32 ∷ (kind_text f.kind ++ rest)) =
     append_assoc f.name (32 ∷ kind_text f.kind) rest in
-    let mid = 32 ∷ (kind_text f.kind ++ rest) in
-    (mid, subst (λ (b : List ℕ). the (Word f.name) b mid) (sym whole) (word_printed f.name mid h.name.word refl), kind_printed _ f.kind rest h.kind apart)
+    let mid = 32 ∷ (kind_text f.kind ++ rest) in (
+      mid,
+      subst (λ (b : List ℕ). the (Word f.name) b mid) (sym whole)
+          (word_printed f.name mid h.name.word refl),
+      kind_printed _ f.kind rest h.kind apart,
+    )
 
 fields_space : (f : Field) (fs : List Field) (bytes rest : List ℕ) → FieldsText (f ∷ fs) bytes rest
     → FieldsText (f ∷ fs) (32 ∷ bytes) rest
@@ -80,8 +102,15 @@ fields_printed before f (g ∷ gs) rest h apart =
     simp append_assoc in
     let first : FieldText f (fields_text (f ∷ g ∷ gs) ++ rest) (44 ∷ 32 ∷ more) =
     subst (λ (b : List ℕ). FieldText f b (44 ∷ 32 ∷ more)) (sym whole)
-    (field_printed before f (44 ∷ 32 ∷ more) h.0 refl) in
-    (44 ∷ 32 ∷ more, first, (32 ∷ more, token_printed Comma (32 ∷ more) tt tt, fields_space g gs more rest (fields_printed (before ++ f ∷ []) g gs rest h.1 apart)))
+    (field_printed before f (44 ∷ 32 ∷ more) h.0 refl) in (
+      44 ∷ 32 ∷ more,
+      first,
+      (
+        32 ∷ more,
+        token_printed Comma (32 ∷ more) tt tt,
+        fields_space g gs more rest (fields_printed (before ++ f ∷ []) g gs rest h.1 apart),
+      ),
+    )
 
 some_fields_printed : (fs : List Field) (rest : List ℕ) → 0 < length fs → AreFields [] fs
     → continues_run rest ≡ false → FieldsText fs (fields_text fs ++ rest) rest
@@ -98,14 +127,19 @@ file_printed before f rest h =
     let inner = f.name ++ (32 ∷ 40 ∷ fields) in
     let whole : file_text f ++ rest ≡ codes "file " ++ inner = simp append_assoc in (
       32 ∷ inner,
-      subst (λ (b : List ℕ). the (Word (codes "file")) b (32 ∷ inner)) (sym whole) (word_printed (codes "file") (32 ∷ inner) file_is_word refl),
+      subst (λ (b : List ℕ). the (Word (codes "file")) b (32 ∷ inner)) (sym whole)
+          (word_printed (codes "file") (32 ∷ inner) file_is_word refl),
       (
         32 ∷ 40 ∷ fields,
         behind_space _ _ _ (word_printed f.name (32 ∷ 40 ∷ fields) h.name.word refl),
         (
           fields,
           behind_space _ _ _ (token_printed Open fields tt tt),
-          (close, some_fields_printed f.fields close h.some h.fields refl, token_printed Close (10 ∷ rest) tt tt),
+          (
+            close,
+            some_fields_printed f.fields close h.some h.fields refl,
+            token_printed Close (10 ∷ rest) tt tt,
+          ),
         ),
       ),
     )
@@ -160,8 +194,11 @@ own_number files number h lt =
 name_printed : (files : List FileDef) (number : ℕ) (rest : List ℕ) → AreFiles [] files
     → number < length files → continues_run rest ≡ false
     → FileNameText files number (name_at files number ++ rest) rest
-name_printed files number rest h lt apart =
-    (name_at files number, own_number files number h lt, word_printed (name_at files number) rest (name_is_word [] files number h lt) apart)
+name_printed files number rest h lt apart = (
+  name_at files number,
+  own_number files number h lt,
+  word_printed (name_at files number) rest (name_is_word [] files number h lt) apart,
+)
 
 name_space : (files : List FileDef) (number : ℕ) (bytes rest : List ℕ)
     → FileNameText files number bytes rest → FileNameText files number (32 ∷ bytes) rest
@@ -179,7 +216,8 @@ link_printed files before l rest all h =
     let inner = l.name ++ (32 ∷ 40 ∷ owner) in
     let whole : link_text files l ++ rest ≡ codes "link " ++ inner = simp append_assoc in (
       32 ∷ inner,
-      subst (λ (b : List ℕ). the (Word (codes "link")) b (32 ∷ inner)) (sym whole) (word_printed (codes "link") (32 ∷ inner) link_is_word refl),
+      subst (λ (b : List ℕ). the (Word (codes "link")) b (32 ∷ inner)) (sym whole)
+          (word_printed (codes "link") (32 ∷ inner) link_is_word refl),
       (
         32 ∷ 40 ∷ owner,
         behind_space _ _ _ (word_printed l.name (32 ∷ 40 ∷ owner) h.name.word refl),
@@ -192,7 +230,12 @@ link_printed files before l rest all h =
             (
               32 ∷ member,
               token_printed Comma (32 ∷ member) tt tt,
-              (close, name_space files l.member member close (name_printed files l.member close all h.member refl), token_printed Close (10 ∷ rest) tt tt),
+              (
+                close,
+                name_space files l.member member close
+                    (name_printed files l.member close all h.member refl),
+                token_printed Close (10 ∷ rest) tt tt,
+              ),
             ),
           ),
         ),
@@ -227,8 +270,11 @@ links_printed : (files : List FileDef) (before ls : List LinkDef) → AreFiles [
     → ItemsToEnd (schema_with files before) (link_items ls) (links_text files ls) []
 links_printed files before [] all h = the_end
 links_printed files before (l ∷ ls) all h =
-    let others = links_printed files (before ++ l ∷ []) ls all h.1 in
-    (10 ∷ links_text files ls, link_printed files before l (links_text files ls) all h.0, items_line _ (link_items ls) (links_text files ls) [] others)
+    let others = links_printed files (before ++ l ∷ []) ls all h.1 in (
+      10 ∷ links_text files ls,
+      link_printed files before l (links_text files ls) all h.0,
+      items_line _ (link_items ls) (links_text files ls) [] others,
+    )
 
 files_printed : (before fs : List FileDef) (others : List Item) (bytes rest : List ℕ)
     → AreFiles before fs → ItemsToEnd (schema_with (before ++ fs) []) others bytes rest
@@ -243,8 +289,12 @@ files_printed before (f ∷ fs) others bytes rest h text =
     (sym (append_assoc before (f ∷ []) fs)) text in
     let ih = files_printed (before ++ f ∷ []) fs others bytes rest h.1 later in
     let whole : files_text (f ∷ fs) ++ bytes ≡ file_text f ++ more =
-    append_assoc (file_text f) (files_text fs) bytes in
-    (10 ∷ more, subst (λ (b : List ℕ). FileText f b (10 ∷ more)) (sym whole) (file_printed before f more h.0), items_line _ (file_items fs others) more rest ih)
+    append_assoc (file_text f) (files_text fs) bytes in (
+      10 ∷ more,
+      subst (λ (b : List ℕ). FileText f b (10 ∷ more)) (sym whole)
+          (file_printed before f more h.0),
+      items_line _ (file_items fs others) more rest ih,
+    )
 
 links_are_items : (files : List FileDef) (before ls : List LinkDef) → AreLinks files before ls
     → AreItems (schema_with files before) (link_items ls)
@@ -256,8 +306,12 @@ files_are_items : (before fs : List FileDef) (others : List Item) → AreFiles b
     → AreItems (schema_with before []) (file_items fs others)
 files_are_items before [] others h rules =
     subst (λ (z : List FileDef). AreItems (schema_with z []) others) (append-nil before) rules
-files_are_items before (f ∷ fs) others h rules =
-    ((h.0, refl), files_are_items (before ++ f ∷ []) fs others h.1 (subst (λ (z : List FileDef). AreItems (schema_with z []) others) (sym (append_assoc before (f ∷ []) fs)) rules))
+files_are_items before (f ∷ fs) others h rules = (
+  (h.0, refl),
+  files_are_items (before ++ f ∷ []) fs others h.1
+      (subst (λ (z : List FileDef). AreItems (schema_with z []) others)
+      (sym (append_assoc before (f ∷ []) fs)) rules),
+)
 
 with_link_items : (files : List FileDef) (before ls : List LinkDef)
     → with_items (schema_with files before) (link_items ls) ≡ schema_with files (before ++ ls)

@@ -34,8 +34,11 @@ files_more : (before fs : List FileDef) (f : FileDef) → AreFiles before fs →
     → AreFiles before (fs ++ f ∷ [])
 files_more before [] f all one =
     (subst (λ (z : List FileDef). IsFile z f) (append-nil before) one, tt)
-files_more before (g ∷ fs) f all one =
-    (all.0, files_more (before ++ g ∷ []) fs f all.1 (subst (λ (z : List FileDef). IsFile z f) (sym (append_assoc before (g ∷ []) fs)) one))
+files_more before (g ∷ fs) f all one = (
+  all.0,
+  files_more (before ++ g ∷ []) fs f all.1
+      (subst (λ (z : List FileDef). IsFile z f) (sym (append_assoc before (g ∷ []) fs)) one),
+)
 
 -- one more link at the end
 links_more : (files : List FileDef) (before ls : List LinkDef) (l : LinkDef)
@@ -43,8 +46,11 @@ links_more : (files : List FileDef) (before ls : List LinkDef) (l : LinkDef)
     → AreLinks files before (ls ++ l ∷ [])
 links_more files before [] l all one =
     (subst (λ (z : List LinkDef). IsLink files z l) (append-nil before) one, tt)
-links_more files before (g ∷ ls) l all one =
-    (all.0, links_more files (before ++ g ∷ []) ls l all.1 (subst (λ (z : List LinkDef). IsLink files z l) (sym (append_assoc before (g ∷ []) ls)) one))
+links_more files before (g ∷ ls) l all one = (
+  all.0,
+  links_more files (before ++ g ∷ []) ls l all.1
+      (subst (λ (z : List LinkDef). IsLink files z l) (sym (append_assoc before (g ∷ []) ls)) one),
+)
 
 -- the links stay links where a file comes whose name none of them has
 links_stay : (files : List FileDef) (before ls : List LinkDef) (f : FileDef)
@@ -73,7 +79,10 @@ record AreValid (s : Schema) : Type 0 where
 
 valid_item : (s : Schema) (i : Item) → AreValid s → IsItem s i → AreValid (with_item s i)
 valid_item s (items.File f) valid rules =
-    record { files = files_more [] s.files f valid.files rules.0; links = links_stay s.files [] s.links f rules.1 valid.links }
+    record {
+      files = files_more [] s.files f valid.files rules.0;
+      links = links_stay s.files [] s.links f rules.1 valid.links;
+    }
 valid_item s (items.Link l) valid rules =
     record { files = valid.files; links = links_more s.files [] s.links l valid.links rules }
 

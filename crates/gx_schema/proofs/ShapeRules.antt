@@ -67,7 +67,8 @@ goes_kind : (first : Bool) (bytes rest : List ℕ) → KindShape bytes rest
     → Goes (kind_at first bytes) rest
 unfolding kind_at
 goes_kind first bytes rest (inl h) = rw (first_again bytes (Word (codes "int")) rest h) refl
-goes_kind first bytes rest (inr h) = rw (first_again bytes (Word (codes "text")) h.0 h.1) (goes_size first h.0 rest h.2)
+goes_kind first bytes rest (inr h) = rw (first_again bytes (Word (codes "text")) h.0 h.1)
+    (goes_size first h.0 rest h.2)
 
 goes_field : (before : List Field) (bytes rest : List ℕ) → FieldShape bytes rest
     → Goes (field_behind before bytes) rest

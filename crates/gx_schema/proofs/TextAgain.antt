@@ -41,8 +41,11 @@ size_again first n bytes rest h fits =
 kind_again : (first : Bool) (k : Kind) (bytes rest : List ℕ) → KindText k bytes rest
     → IsKind first k → kind_at first bytes ≡ Ok (k, rest)
 unfolding kind_at
-kind_again first kinds.Int bytes rest h fits = rw (want_again a_kind bytes rest (Word (codes "int")) false h refl) refl
-kind_again first (kinds.Text n) bytes rest h fits = rw (want_again a_kind bytes h.0 (Word (codes "text")) true h.1 refl) (size_again first n h.0 rest h.2 fits)
+kind_again first kinds.Int bytes rest h fits = rw
+    (want_again a_kind bytes rest (Word (codes "int")) false h refl) refl
+kind_again first (kinds.Text n) bytes rest h fits =
+    rw (want_again a_kind bytes h.0 (Word (codes "text")) true h.1 refl)
+    (size_again first n h.0 rest h.2 fits)
 kind_again first (kinds.Bytes n) bytes rest h fits = absurd h
 
 name_again : (before : List Field) (w bytes rest : List ℕ) → the (Word w) bytes rest
@@ -56,7 +59,10 @@ field_again : (before : List Field) (f : Field) (bytes rest : List ℕ) → Fiel
     → IsField before f → field_behind before bytes ≡ Ok (f, rest)
 unfolding field_behind
 field_again before f bytes rest h rules =
-    rw (name_again before f.name bytes h.0 h.1 rules.name.letter rules.new rules.room, kind_again (eqb (length before) 0) f.kind h.0 rest h.2 rules.kind) refl
+    rw (
+      name_again before f.name bytes h.0 h.1 rules.name.letter rules.new rules.room,
+      kind_again (eqb (length before) 0) f.kind h.0 rest h.2 rules.kind,
+    ) refl
 
 fields_again : (room : ℕ) (before more : List Field) (bytes rest : List ℕ)
     → length before + room ≡ 33 → (FieldsText more ⨾ the Close) bytes rest → AreFields before more
@@ -85,7 +91,12 @@ file_again : (s : Schema) (f : FileDef) (bytes rest : List ℕ)
     → has_link s.links f.name ≡ false → file_behind s bytes ≡ Ok (f, rest)
 unfolding file_behind
 file_again s f bytes rest h rules no_link =
-    rw (new_name_again s f.name bytes h.0 h.1 rules.name rules.new no_link, open_again h.0 h.2.0 h.2.1, fields_again 33 [] f.fields h.2.0 rest refl h.2.2 rules.fields) refl
+    rw (
+      new_name_again s f.name bytes h.0 h.1 rules.name rules.new no_link,
+      open_again h.0 h.2.0 h.2.1,
+      fields_again 33 [] f.fields h.2.0 rest refl h.2.2
+          rules.fields,
+    ) refl
 
 place_again : (files : List FileDef) (place : ℕ) (bytes rest : List ℕ)
     → FileNameText files place bytes rest → want (a_file_name files) bytes ≡ Ok (place, rest)
@@ -102,18 +113,27 @@ link_again s l bytes rest h rules =
     let w = o.2 in
     let c = w.2 in
     let m = c.2 in
-    rw (new_name_again s l.name bytes h.0 h.1 rules.name rules.no_file rules.new, open_again h.0 o.0 o.1, place_again s.files l.owner o.0 w.0 w.1, comma_again w.0 c.0 c.1, place_again s.files l.member c.0 m.0 m.1, close_again m.0 rest m.2) refl
+    rw (
+      new_name_again s l.name bytes h.0 h.1 rules.name rules.no_file rules.new,
+      open_again h.0 o.0 o.1,
+      place_again s.files l.owner o.0 w.0 w.1,
+      comma_again w.0 c.0 c.1,
+      place_again s.files l.member c.0 m.0 m.1,
+      close_again m.0 rest m.2,
+    ) refl
 
 item_again : (s : Schema) (i : Item) (bytes rest : List ℕ) → ItemText s i bytes rest → IsItem s i
     → item_at s bytes ≡ Ok (Some i, rest)
 unfolding item_at
 item_again s (items.File f) bytes rest h rules =
     let room : leb 32 (length s.files) ≡ false = lt-leb 32 (length s.files) rules.0.room in
-    let e = want_again (an_item_start s) bytes h.0 (Word (codes "file")) Starts_file h.1 (rw room refl) in
+    let e = want_again (an_item_start s) bytes h.0 (Word (codes "file")) Starts_file h.1
+    (rw room refl) in
     rw (e, file_again s f h.0 rest h.2 rules.0 rules.1) refl
 item_again s (items.Link l) bytes rest h rules =
     let room : leb 32 (length s.links) ≡ false = lt-leb 32 (length s.links) rules.room in
-    let e = want_again (an_item_start s) bytes h.0 (Word (codes "link")) Starts_link h.1 (rw room refl) in
+    let e = want_again (an_item_start s) bytes h.0 (Word (codes "link")) Starts_link h.1
+    (rw room refl) in
     rw (e, link_again s l h.0 rest h.2 rules) refl
 
 end_again : (s : Schema) (bytes rest : List ℕ) → the End bytes rest → 0 < length s.files

@@ -44,8 +44,19 @@ size_case first digits None k is e = absurd cc
 size_case first digits (Some zero) k is e = absurd cc
 size_case first digits (Some (suc n)) k is e =
     let g = test_ok (first && ltb 100 (suc n)) why.KeyField (Ok (kinds.Text (suc n))) k e in
-    let most = natural_most (number_value digits) 200 (suc n) is in
-    (suc n, sym (means_is (kinds.Text (suc n)) k g.1), is, (omega arith, most, λ key. elim (and_cases first (ltb 100 (suc n)) g.0) [ inl other ↦ absurd cc | inr small ↦ ltb-false _ _ small ]))
+    let most = natural_most (number_value digits) 200 (suc n) is in (
+      suc n,
+      sym (means_is (kinds.Text (suc n)) k g.1),
+      is,
+      (
+        omega arith,
+        most,
+        λ key. elim (and_cases first (ltb 100 (suc n)) g.0) [
+          | inl other ↦ absurd cc
+          | inr small ↦ ltb-false _ _ small
+        ],
+      ),
+    )
 
 size_found : (first : Bool) (bytes : List ℕ) (y : Kind × List ℕ) → size_at first bytes ≡ Ok y
     → (n : ℕ) × (y.0 ≡ kinds.Text n) × KindSizeText n bytes y.1 × IsKind first (kinds.Text n)
@@ -64,11 +75,17 @@ abbrev pub kind_word : Bool → List ℕ
 kind_word true = codes "text"
 kind_word false = codes "int"
 
-pub kind_word_is : (word : List ℕ) (b : Bool) → cond (pointwise nat_eq word (codes "int")) (Ok false) (cond (pointwise nat_eq word (codes "text")) (Ok true) (Err why.Unexpected)) ≡ Ok b → word ≡ kind_word b
+pub kind_word_is : (word : List ℕ) (b : Bool)
+    → cond (pointwise nat_eq word (codes "int")) (Ok false)
+    (cond (pointwise nat_eq word (codes "text")) (Ok true) (Err why.Unexpected)) ≡ Ok b
+    → word ≡ kind_word b
 kind_word_is word b e =
-    cond_both (pointwise nat_eq word (codes "int")) (Ok false) (cond (pointwise nat_eq word (codes "text")) (Ok true) (Err why.Unexpected)) (λ (r : Result Bool Why). r ≡ Ok b → word ≡ kind_word b)
+    cond_both (pointwise nat_eq word (codes "int")) (Ok false)
+    (cond (pointwise nat_eq word (codes "text")) (Ok true) (Err why.Unexpected))
+    (λ (r : Result Bool Why). r ≡ Ok b → word ≡ kind_word b)
     (λ is h. (same_bytes word (codes "int")).0 is ∙ ap kind_word (means_is false b h))
-    (λ _ h. cond_both (pointwise nat_eq word (codes "text")) (Ok true) (Err why.Unexpected) (λ (r : Result Bool Why). r ≡ Ok b → word ≡ kind_word b)
+    (λ _ h. cond_both (pointwise nat_eq word (codes "text")) (Ok true) (Err why.Unexpected)
+    (λ (r : Result Bool Why). r ≡ Ok b → word ≡ kind_word b)
     (λ is k. (same_bytes word (codes "text")).0 is ∙ ap kind_word (means_is true b k))
     (λ _ k. absurd cc)
     h)
@@ -107,8 +124,12 @@ name_found before bytes y e =
     let h = test_ok (leb 32 (length before)) why.Count (Ok w) y.0 g.1 in
     let p = or_parts _ _ g.0 in
     subst (λ (z : List ℕ). the (Word z) bytes y.1 × IsName z × (has_field before z ≡ false)
-    × (length before < 32)) (means_is w y.0 h.1)
-    (f.first, record { word = f.first.begins.is_token; letter = not-false _ p.0 }, p.1, leb-false _ _ h.0)
+    × (length before < 32)) (means_is w y.0 h.1) (
+      f.first,
+      record { word = f.first.begins.is_token; letter = not-false _ p.0 },
+      p.1,
+      leb-false _ _ h.0,
+    )
 
 abbrev FieldIs : List Field → List ℕ → Field × List ℕ → Type 0
 FieldIs before bytes y = FieldText y.0 bytes y.1 × IsField before y.0
@@ -167,7 +188,12 @@ fields_step room before bytes f mid true after y field comma e others =
 fields_step room before bytes f mid false after y field close e others =
     subst (λ (z : List Field × List ℕ). FieldsAre before bytes z.0 z.1)
     (done_is (before ++ f ∷ [], after) y e)
-    (record { more = f ∷ []; text = (mid, field.0, list_mark_found mid (false, after) close); rules = (field.1, tt); whole = refl })
+    (record {
+      more = f ∷ [];
+      text = (mid, field.0, list_mark_found mid (false, after) close);
+      rules = (field.1, tt);
+      whole = refl;
+    })
 
 pub fields_found : (room : ℕ) (before : List Field) (bytes : List ℕ) (y : List Field × List ℕ)
     → fields_at room before bytes ≡ Ok y → FieldsAre before bytes y.0 y.1
@@ -236,7 +262,14 @@ file_found s bytes y e =
     × AreFields [] fs) more (f.text, f.rules) in
     let made : FileDef × List ℕ = (record { name = a.0.0; fields = c.0.0 }, c.0.1) in
     subst (FileIs s bytes) (done_is made y c.2)
-    (record { text = (a.0.1, n.0, (b.0.1, o, fields.0)); name = n.1; new = n.2; no_link = n.3; some = some_fields c.0.0 b.0.1 c.0.1 fields.0; fields = fields.1 })
+    (record {
+      text = (a.0.1, n.0, (b.0.1, o, fields.0));
+      name = n.1;
+      new = n.2;
+      no_link = n.3;
+      some = some_fields c.0.0 b.0.1 c.0.1 fields.0;
+      fields = fields.1;
+    })
 
 place_case : (o : Option ℕ) (place : ℕ) → number_from o ≡ Ok place → o ≡ Some place
 place_case None place e = absurd cc
@@ -294,7 +327,23 @@ link_found s bytes y e =
     let owner = place_found s.files b.0.1 c.0 c.1 in
     let member = place_found s.files d.0.1 g.0 g.1 in
     subst (LinkIs s bytes) (done_is made y h.2) (record {
-      text = (a.0.1, n.0, (b.0.1, open_found a.0.1 b.0 b.1, (c.0.1, owner, (d.0.1, comma_found c.0.1 d.0 d.1, (g.0.1, member, close_found g.0.1 h.0 h.1)))));
+      text = (
+        a.0.1,
+        n.0,
+        (
+          b.0.1,
+          open_found a.0.1 b.0 b.1,
+          (
+            c.0.1,
+            owner,
+            (
+              d.0.1,
+              comma_found c.0.1 d.0 d.1,
+              (g.0.1, member, close_found g.0.1 h.0 h.1),
+            ),
+          ),
+        ),
+      );
       name = n.1;
       no_file = n.2;
       new = n.3;
@@ -317,15 +366,27 @@ StartIs s Starts_link bytes rest = the (Word (codes "link")) bytes rest × (leng
 StartIs s Ends bytes rest = the End bytes rest × (0 < length s.files)
 
 start_word : (s : Schema) (text bytes rest : List ℕ) (start : Start) → the (Word text) bytes rest
-    → cond (pointwise nat_eq text (codes "file")) (cond (leb 32 (length s.files)) (Err why.Count) (Ok Starts_file)) (cond (pointwise nat_eq text (codes "link")) (cond (leb 32 (length s.links)) (Err why.Count) (Ok Starts_link)) (Err why.Unexpected)) ≡ Ok start
+    → cond (pointwise nat_eq text (codes "file"))
+    (cond (leb 32 (length s.files)) (Err why.Count) (Ok Starts_file))
+    (cond (pointwise nat_eq text (codes "link"))
+    (cond (leb 32 (length s.links)) (Err why.Count) (Ok Starts_link))
+    (Err why.Unexpected)) ≡ Ok start
     → StartIs s start bytes rest
 start_word s text bytes rest start word e =
-    cond_both (pointwise nat_eq text (codes "file")) _ _ (λ (r : Result Start Why). r ≡ Ok start → StartIs s start bytes rest)
+    cond_both (pointwise nat_eq text (codes "file")) _ _
+    (λ (r : Result Start Why). r ≡ Ok start → StartIs s start bytes rest)
     (λ is h. let g = test_ok (leb 32 (length s.files)) why.Count (Ok Starts_file) start h in
-    subst (λ (z : Start). StartIs s z bytes rest) (means_is Starts_file start g.1) (subst (λ (t : List ℕ). the (Word t) bytes rest) ((same_bytes text (codes "file")).0 is) word, leb-false _ _ g.0))
-    (λ _ h. cond_both (pointwise nat_eq text (codes "link")) _ _ (λ (r : Result Start Why). r ≡ Ok start → StartIs s start bytes rest)
+    subst (λ (z : Start). StartIs s z bytes rest) (means_is Starts_file start g.1) (
+      subst (λ (t : List ℕ). the (Word t) bytes rest) ((same_bytes text (codes "file")).0 is) word,
+      leb-false _ _ g.0,
+    ))
+    (λ _ h. cond_both (pointwise nat_eq text (codes "link")) _ _
+    (λ (r : Result Start Why). r ≡ Ok start → StartIs s start bytes rest)
     (λ is k. let g = test_ok (leb 32 (length s.links)) why.Count (Ok Starts_link) start k in
-    subst (λ (z : Start). StartIs s z bytes rest) (means_is Starts_link start g.1) (subst (λ (t : List ℕ). the (Word t) bytes rest) ((same_bytes text (codes "link")).0 is) word, leb-false _ _ g.0))
+    subst (λ (z : Start). StartIs s z bytes rest) (means_is Starts_link start g.1) (
+      subst (λ (t : List ℕ). the (Word t) bytes rest) ((same_bytes text (codes "link")).0 is) word,
+      leb-false _ _ g.0,
+    ))
     (λ _ k. absurd cc)
     h)
     e
@@ -349,13 +410,27 @@ item_case : (s : Schema) (start : Start) (bytes rest : List ℕ) (y : Items)
 item_case s Starts_file bytes rest y start e =
     let m = mapped_ok as_file (file_behind s rest) y e in
     let f = file_found s rest m.0 m.1 in
-    subst (λ (z : Items). ItemIs s bytes z.0 z.1) m.2
-    ((rest, start.0, f.text), (record { name = f.name; new = f.new; room = start.1; some = f.some; fields = f.fields }, f.no_link))
+    subst (λ (z : Items). ItemIs s bytes z.0 z.1) m.2 (
+      (rest, start.0, f.text),
+      (
+        record { name = f.name; new = f.new; room = start.1; some = f.some; fields = f.fields },
+        f.no_link,
+      ),
+    )
 item_case s Starts_link bytes rest y start e =
     let m = mapped_ok as_link (link_behind s rest) y e in
     let f = link_found s rest m.0 m.1 in
-    subst (λ (z : Items). ItemIs s bytes z.0 z.1) m.2
-    ((rest, start.0, f.text), record { name = f.name; no_file = f.no_file; new = f.new; room = start.1; owner = f.owner; member = f.member })
+    subst (λ (z : Items). ItemIs s bytes z.0 z.1) m.2 (
+      (rest, start.0, f.text),
+      record {
+        name = f.name;
+        no_file = f.no_file;
+        new = f.new;
+        room = start.1;
+        owner = f.owner;
+        member = f.member;
+      },
+    )
 item_case s Ends bytes rest y start e =
     subst (λ (z : Items). ItemIs s bytes z.0 z.1) (done_is (None, rest) y e) start
 
@@ -389,7 +464,14 @@ items_step room before bytes None mid all h e others =
     (record { listed = []; rest = mid; text = h.0; rules = tt; whole = refl; some = h.1 })
 items_step room before bytes (Some i) mid all h e others =
     let o = others i e in
-    record { listed = i ∷ o.listed; rest = o.rest; text = (mid, h.0, o.text); rules = (h.1, o.rules); whole = o.whole; some = o.some }
+    record {
+      listed = i ∷ o.listed;
+      rest = o.rest;
+      text = (mid, h.0, o.text);
+      rules = (h.1, o.rules);
+      whole = o.whole;
+      some = o.some;
+    }
 
 abbrev no_more_schema : Result Schema Why
 no_more_schema = Err why.Count
@@ -415,4 +497,11 @@ pub schema_found : (bytes : List ℕ) (all : Schema) → all_items bytes ≡ Ok 
     → IsSchemaText bytes all
 schema_found bytes all e =
     let i = items_found 65 no_schema bytes all e in
-    record { listed = i.listed; rest = i.rest; text = i.text; rules = i.rules; whole = i.whole; some = i.some }
+    record {
+      listed = i.listed;
+      rest = i.rest;
+      text = i.text;
+      rules = i.rules;
+      whole = i.whole;
+      some = i.some;
+    }

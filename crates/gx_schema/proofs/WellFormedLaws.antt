@@ -1,4 +1,5 @@
--- What a schema that some text means has: few files, fields and links, a key in each file, and links between its files.
+-- What a schema that some text means has: few files, fields and links, a key in each file, and
+-- links between its files.
 use Rattle.std.proofs.Common.{ℕ, zero, suc, ◌+◌, ◌<◌, ◌≤◌, List, [], ◌∷◌, ◌++◌, length, get_or, arith, length-append}
 use Rattle.gx_values.specs.declared.records.Field.{Field}
 use Rattle.gx_schema.specs.declared.schema.FileDef.{FileDef}
@@ -12,19 +13,34 @@ pub fields_few : (before fs : List Field) → AreFields before fs → length bef
     → length before + length fs ≤ 32
 fields_few before [] are few = omega arith
 fields_few before (f ∷ fs) are few =
-    omega (arith, fields_few (before ++ f ∷ []) fs are.1 (omega (arith, are.0.room, length-append before (f ∷ []))), length-append before (f ∷ []))
+    omega (
+      arith,
+      fields_few (before ++ f ∷ []) fs are.1
+          (omega (arith, are.0.room, length-append before (f ∷ []))),
+      length-append before (f ∷ []),
+    )
 
 pub files_few : (before fs : List FileDef) → AreFiles before fs → length before ≤ 32
     → length before + length fs ≤ 32
 files_few before [] are few = omega arith
 files_few before (f ∷ fs) are few =
-    omega (arith, files_few (before ++ f ∷ []) fs are.1 (omega (arith, are.0.room, length-append before (f ∷ []))), length-append before (f ∷ []))
+    omega (
+      arith,
+      files_few (before ++ f ∷ []) fs are.1
+          (omega (arith, are.0.room, length-append before (f ∷ []))),
+      length-append before (f ∷ []),
+    )
 
 pub links_few : (files : List FileDef) (before ls : List LinkDef) → AreLinks files before ls
     → length before ≤ 32 → length before + length ls ≤ 32
 links_few files before [] are few = omega arith
 links_few files before (l ∷ ls) are few =
-    omega (arith, links_few files (before ++ l ∷ []) ls are.1 (omega (arith, are.0.room, length-append before (l ∷ []))), length-append before (l ∷ []))
+    omega (
+      arith,
+      links_few files (before ++ l ∷ []) ls are.1
+          (omega (arith, are.0.room, length-append before (l ∷ []))),
+      length-append before (l ∷ []),
+    )
 
 pub few_files : (schema : Schema) → IsSchema schema → length schema.files ≤ 32
 few_files schema is = omega (arith, files_few [] schema.files is.files (omega arith))
@@ -52,6 +68,9 @@ well_formed schema is = record {
   few_files = omega (arith, few_files schema is);
   few_links = omega (arith, links_few schema.files [] schema.links is.links (omega arith));
   files = λ i lt. let rules = rules_at [] schema.files i is.files lt in
-      record { key = rules.some; few = omega (arith, fields_few [] (file_at schema i).fields rules.fields (omega arith)) };
+      record {
+        key = rules.some;
+        few = omega (arith, fields_few [] (file_at schema i).fields rules.fields (omega arith));
+      };
   links = λ i lt. ends_at schema [] schema.links i is.links lt;
 }

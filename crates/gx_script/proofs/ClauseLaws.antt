@@ -63,8 +63,18 @@ apart_from before [] h = record { old = tt; apart = tt }
 apart_from before (c ∷ cs) h =
     let others = apart_from (before ++ c ∷ []) cs h.1 in
     record {
-      old = (h.0, all_more (λ (d : Change). is_changed (before ++ c ∷ []) d.field ≡ false) (λ (d : Change). is_changed before d.field ≡ false) (λ d k. (not_changed before c d.field k).0) cs others.old);
-      apart = (all_more (λ (d : Change). is_changed (before ++ c ∷ []) d.field ≡ false) (λ (d : Change). c.field ≢ d.field) (λ d k. (not_changed before c d.field k).1) cs others.old, others.apart);
+      old = (
+        h.0,
+        all_more (λ (d : Change). is_changed (before ++ c ∷ []) d.field ≡ false)
+            (λ (d : Change). is_changed before d.field ≡ false)
+            (λ d k. (not_changed before c d.field k).0) cs others.old,
+      );
+      apart = (
+        all_more (λ (d : Change). is_changed (before ++ c ∷ []) d.field ≡ false)
+            (λ (d : Change). c.field ≢ d.field) (λ d k. (not_changed before c d.field k).1) cs
+            others.old,
+        others.apart,
+      );
     }
 
 pub apart_of_new : (cs : List Change) → AreNew [] cs → AreApart cs
@@ -112,7 +122,12 @@ new_field_at file before words w field y first is e =
     let past : 0 < field = omega arith in
     let same : field ≡ y.0 = ok_is field y.0 t.1 in
     let here : NewField file before words (field, y.1) =
-    record { text = (n.0, first ∙ ap (λ (v : Word). v ∷ y.1) n.1, n.2); past_key = past; in_file = field_within file n.0 field n.2; new = p.1 } in
+    record {
+      text = (n.0, first ∙ ap (λ (v : Word). v ∷ y.1) n.1, n.2);
+      past_key = past;
+      in_file = field_within file n.0 field n.2;
+      new = p.1;
+    } in
     subst (λ (f : ℕ). NewField file before words (f, y.1)) same here
 
 new_field_found : (file : FileDef) (before : List Change) (words : List Word) (y : ℕ × List Word)
@@ -199,7 +214,13 @@ changes_found (suc room) file before words y all e =
     (λ (r : Result (List Change × List Word) LineWhy). r ≡ Ok y
     → ChangesFound file before words y)
     (λ _ h. subst (ChangesFound file before words) (ok_is made y h)
-    (record { more = c ∷ []; whole = refl; text = f.text; rules = (f.rule, tt); new = (f.new, tt) }))
+    (record {
+      more = c ∷ [];
+      whole = refl;
+      text = f.text;
+      rules = (f.rule, tt);
+      new = (f.new, tt);
+    }))
     (λ _ h.
     let others = changes_found room file (before ++ c ∷ []) mid y f.rest h in
     record {
@@ -290,7 +311,9 @@ pub record CondsFound (file : FileDef) (before : List Cond) (words : List Word) 
   pub rules : AllByRecursion (IsCondOf file) more
   pub rest : AllWords y.1
 
-conds_cons : (file : FileDef) (c : Cond) (cs : List Cond) (words mid after rest : List Word) → CondWords file c words mid → the (codes "and") mid after → CondsWords file cs after rest → CondsWords file (c ∷ cs) words rest
+conds_cons : (file : FileDef) (c : Cond) (cs : List Cond) (words mid after rest : List Word)
+    → CondWords file c words mid → the (codes "and") mid after → CondsWords file cs after rest
+    → CondsWords file (c ∷ cs) words rest
 conds_cons file c [] words mid after rest one joined others = absurd others
 conds_cons file c (d ∷ cs) words mid after rest one joined others =
     (mid, one, (after, joined, others))
@@ -300,7 +323,8 @@ CondsReader = List Cond → List Word → Result (List Cond × List Word) LineWh
 
 conds_step : (room : ℕ) (file : FileDef) (before : List Cond) (words : List Word) (c : Cond)
     (mid : List Word) (y : List Cond × List Word) (o : Option (List Word))
-    → CondFound file words (c, mid) → behind (codes "and") mid ≡ o → more_conds (λ conds ws. conds_at room file conds ws) (before ++ c ∷ []) mid o ≡ Ok y
+    → CondFound file words (c, mid) → behind (codes "and") mid ≡ o
+    → more_conds (λ conds ws. conds_at room file conds ws) (before ++ c ∷ []) mid o ≡ Ok y
     → ((rest : List Word) → AllWords rest → conds_at room file (before ++ c ∷ []) rest ≡ Ok y
     → CondsFound file (before ++ c ∷ []) rest y)
     → CondsFound file before words y
@@ -327,9 +351,12 @@ conds_found zero file before words y all e = absurd cc
 conds_found (suc room) file before words y all e =
     let a = bind_ok (cond_at file words) _ y e in
     let f = cond_found file words a.0 all a.1 in
-    conds_step room file before words a.0.0 a.0.1 y (behind (codes "and") a.0.1) f refl a.2 (λ rest h k. conds_found room file (before ++ a.0.0 ∷ []) rest y h k)
+    conds_step room file before words a.0.0 a.0.1 y (behind (codes "and") a.0.1) f refl a.2
+    (λ rest h k. conds_found room file (before ++ a.0.0 ∷ []) rest y h k)
 
-pub conds_again : (room : ℕ) (file : FileDef) (before cs : List Cond) (words rest : List Word) → length words ≤ room → CondsWords file cs words rest → AllByRecursion (IsCondOf file) cs → behind (codes "and") rest ≡ None
+pub conds_again : (room : ℕ) (file : FileDef) (before cs : List Cond) (words rest : List Word)
+    → length words ≤ room → CondsWords file cs words rest → AllByRecursion (IsCondOf file) cs
+    → behind (codes "and") rest ≡ None
     → conds_at room file before words ≡ Ok (before ++ cs, rest)
 unfolding conds_at
 conds_again room file before [] words rest le t rules over = absurd t
@@ -350,7 +377,8 @@ conds_again (suc room) file before (c ∷ d ∷ cs) words rest le t rules over =
     let others = conds_again room file (before ++ c ∷ []) (d ∷ cs) t.2.0 rest fewer t.2.2 rules.1
     over in
     bind_is (cond_at file words) _ (c, t.0) _ one
-    (ap (more_conds (λ conds ws. conds_at room file conds ws) (before ++ c ∷ []) t.0) (behind_again (codes "and") t.0 t.2.0 joined)
+    (ap (more_conds (λ conds ws. conds_at room file conds ws) (before ++ c ∷ []) t.0)
+    (behind_again (codes "and") t.0 t.2.0 joined)
     ∙ (others ∙ ap (λ (all : List Cond). Ok (all, rest)) (append_assoc before (c ∷ []) (d ∷ cs))))
 
 -- ---- [where COND {and COND}]
@@ -361,17 +389,21 @@ pub record WhereFound (file : FileDef) (words : List Word) (y : List Cond × Lis
     pub rules : AllByRecursion (IsCondOf file) y.0
     pub rest : AllWords y.1
 
-where_some : (file : FileDef) (cs : List Cond) (words mid rest : List Word) → the (codes "where") words mid → CondsWords file cs mid rest → WhereWords file cs words rest
+where_some : (file : FileDef) (cs : List Cond) (words mid rest : List Word)
+    → the (codes "where") words mid → CondsWords file cs mid rest → WhereWords file cs words rest
 where_some file [] words mid rest w t = absurd t
 where_some file (c ∷ cs) words mid rest w t = (mid, w, t)
 
-where_step : (file : FileDef) (words : List Word) (o : Option (List Word)) (y : List Cond × List Word) → AllWords words → behind (codes "where") words ≡ o → where_from file words o ≡ Ok y → WhereFound file words y
+where_step : (file : FileDef) (words : List Word) (o : Option (List Word))
+    (y : List Cond × List Word) → AllWords words → behind (codes "where") words ≡ o
+    → where_from file words o ≡ Ok y → WhereFound file words y
 where_step file words None y all is e =
     let made : List Cond × List Word = ([], words) in
     subst (WhereFound file words) (ok_is made y e) (record { text = refl; rules = tt; rest = all })
 where_step file words (Some mid) y all is e =
     let w = behind_found (codes "where") words mid is in
-    let f = conds_found (length mid) file [] mid y (words_behind words (Bare (codes "where")) mid w all) e in
+    let f = conds_found (length mid) file [] mid y
+    (words_behind words (Bare (codes "where")) mid w all) e in
     record {
       text = where_some file y.0 words mid y.1 w
           (subst (λ (cs : List Cond). CondsWords file cs mid y.1) f.whole f.text);
@@ -384,7 +416,9 @@ pub where_found : (file : FileDef) (words : List Word) (y : List Cond × List Wo
 unfolding where_at
 where_found file words y all e = where_step file words (behind (codes "where") words) y all refl e
 
-pub where_again : (file : FileDef) (cs : List Cond) (words rest : List Word) → WhereWords file cs words rest → AllByRecursion (IsCondOf file) cs → behind (codes "where") rest ≡ None → behind (codes "and") rest ≡ None
+pub where_again : (file : FileDef) (cs : List Cond) (words rest : List Word)
+    → WhereWords file cs words rest → AllByRecursion (IsCondOf file) cs
+    → behind (codes "where") rest ≡ None → behind (codes "and") rest ≡ None
     → where_at file words ≡ Ok (cs, rest)
 unfolding where_at
 where_again file [] words rest t rules no_where no_and =
@@ -421,7 +455,11 @@ link_to_at schema file words w link y first is e =
     let n = bare_found why.Link (link_number schema.links) w link is in
     let t = held_ok (eqb (link_at schema link).member file) (Ok link) why.Link y.0 e in
     let here : LinkTo schema file words (link, y.1) =
-    record { text = (n.0, first ∙ ap (λ (v : Word). v ∷ y.1) n.1, n.2); link = link_within schema n.0 link n.2; member = eqb-true (link_at schema link).member file t.0 } in
+    record {
+      text = (n.0, first ∙ ap (λ (v : Word). v ∷ y.1) n.1, n.2);
+      link = link_within schema n.0 link n.2;
+      member = eqb-true (link_at schema link).member file t.0;
+    } in
     subst (λ (l : ℕ). LinkTo schema file words (l, y.1)) (ok_is link y.0 t.1) here
 
 link_to_found : (schema : Schema) (file : ℕ) (words : List Word) (y : ℕ × List Word)
@@ -465,7 +503,9 @@ owner_of_again schema file of words rest t rule =
     (bind_is (want (a_value k) t.0) _ (of.owner, rest) _
     (value_again k of.owner t.0 rest t.2 rule.2) refl)
 
-of_step : (schema : Schema) (file : ℕ) (words : List Word) (o : Option (List Word)) (y : Option Of × List Word) → AllWords words → behind (codes "of") words ≡ o → of_from schema file words o ≡ Ok y → OfFound schema file words y
+of_step : (schema : Schema) (file : ℕ) (words : List Word) (o : Option (List Word))
+    (y : Option Of × List Word) → AllWords words → behind (codes "of") words ≡ o
+    → of_from schema file words o ≡ Ok y → OfFound schema file words y
 of_step schema file words None y all is e =
     let made : Option Of × List Word = (None, words) in
     subst (OfFound schema file words) (ok_is made y e)
@@ -473,7 +513,8 @@ of_step schema file words None y all is e =
 of_step schema file words (Some mid) y all is e =
     let w = behind_found (codes "of") words mid is in
     let a = bind_ok (owner_of_at schema file mid) _ y e in
-    let f = owner_of_found schema file mid a.0 (words_behind words (Bare (codes "of")) mid w all) a.1 in
+    let f = owner_of_found schema file mid a.0
+    (words_behind words (Bare (codes "of")) mid w all) a.1 in
     let made : Option Of × List Word = (Some a.0.0, a.0.1) in
     subst (OfFound schema file words) (ok_is made y a.2)
     (record { text = (mid, w, f.text); rule = f.rule; rest = f.rest })
@@ -481,9 +522,12 @@ of_step schema file words (Some mid) y all is e =
 pub of_found : (schema : Schema) (file : ℕ) (words : List Word) (y : Option Of × List Word)
     → AllWords words → of_at schema file words ≡ Ok y → OfFound schema file words y
 unfolding of_at
-of_found schema file words y all e = of_step schema file words (behind (codes "of") words) y all refl e
+of_found schema file words y all e = of_step schema file words
+    (behind (codes "of") words) y all refl e
 
-pub of_again : (schema : Schema) (file : ℕ) (of : Option Of) (words rest : List Word) → OfWords schema of words rest → IsOfOf schema file of → behind (codes "of") rest ≡ None → of_at schema file words ≡ Ok (of, rest)
+pub of_again : (schema : Schema) (file : ℕ) (of : Option Of) (words rest : List Word)
+    → OfWords schema of words rest → IsOfOf schema file of → behind (codes "of") rest ≡ None
+    → of_at schema file words ≡ Ok (of, rest)
 unfolding of_at
 of_again schema file None words rest t rule no_of =
     let none : behind (codes "of") words ≡ None = ap (behind (codes "of")) t ∙ no_of in
@@ -499,9 +543,13 @@ record DescFound (field : ℕ) (words : List Word) (y : OrderBy × List Word) : 
   pub same : y.0.field ≡ field
   pub text : DescWords y.0.desc words y.1
 
-desc_step : (field : ℕ) (words : List Word) (o : Option (List Word)) → behind (codes "desc") words ≡ o → DescFound field words (desc_from field words o)
+desc_step : (field : ℕ) (words : List Word) (o : Option (List Word))
+    → behind (codes "desc") words ≡ o → DescFound field words (desc_from field words o)
 desc_step field words None is = record { same = refl; text = refl }
-desc_step field words (Some rest) is = record { same = refl; text = behind_found (codes "desc") words rest is }
+desc_step field words (Some rest) is = record {
+  same = refl;
+  text = behind_found (codes "desc") words rest is;
+}
 
 desc_found : (field : ℕ) (words : List Word) → DescFound field words (desc_at field words)
 unfolding desc_at
@@ -517,7 +565,9 @@ pub record OrderFound (file : FileDef) (words : List Word) (y : OrderBy × List 
   pub text : OrderWords file y.0 words y.1
   pub rule : IsOrderOf file y.0
 
-order_step : (file : FileDef) (words : List Word) (o : Option (List Word)) (y : OrderBy × List Word) → 0 < length file.fields → behind (codes "order") words ≡ o → order_from file words o ≡ Ok y → OrderFound file words y
+order_step : (file : FileDef) (words : List Word) (o : Option (List Word)) (y : OrderBy × List Word)
+    → 0 < length file.fields → behind (codes "order") words ≡ o → order_from file words o ≡ Ok y
+    → OrderFound file words y
 order_step file words None y key is e =
     let made : OrderBy × List Word = (record { field = 0; desc = false }, words) in
     subst (OrderFound file words) (ok_is made y e) (record { text = inl (refl, refl); rule = key })
@@ -553,13 +603,17 @@ order_again file order words (inr t) =
 -- ---- what may follow
 
 -- the words begin with no keyword other than `order`
-pub order_start : (file : FileDef) (order : OrderBy) (words : List Word) (keyword : List ℕ) → OrderWords file order words [] → is_text (codes "order") keyword ≡ false → behind keyword words ≡ None
+pub order_start : (file : FileDef) (order : OrderBy) (words : List Word) (keyword : List ℕ)
+    → OrderWords file order words [] → is_text (codes "order") keyword ≡ false
+    → behind keyword words ≡ None
 order_start file order words keyword (inl t) other = ap (behind keyword) t.1
 order_start file order words keyword (inr t) other = ap (behind keyword) t.1
     ∙ ap (λ (b : Bool). cond b (Some t.0) None) other
 
 -- or with no other than that and `of`
-pub of_start : (schema : Schema) (of : Option Of) (words mid : List Word) (keyword : List ℕ) → OfWords schema of words mid → is_text (codes "of") keyword ≡ false → behind keyword mid ≡ None → behind keyword words ≡ None
+pub of_start : (schema : Schema) (of : Option Of) (words mid : List Word) (keyword : List ℕ)
+    → OfWords schema of words mid → is_text (codes "of") keyword ≡ false → behind keyword mid ≡ None
+    → behind keyword words ≡ None
 of_start schema None words mid keyword t other none = ap (behind keyword) t ∙ none
 of_start schema (Some of) words mid keyword t other none = ap (behind keyword) t.1
     ∙ ap (λ (b : Bool). cond b (Some t.0) None) other

@@ -41,7 +41,10 @@ insert_found schema words y all e =
     let v = values_found fields [] a.0.1 b.0 (words_behind words (Bare n.0) a.0.1 n.1 all) b.1 in
     let made : Command × List Word = (command.Insert a.0.0 v.more, b.0.1) in
     let here : ArgumentsFound schema verb.Insert words made =
-    record { text = (words, refl, (a.0.1, n, v.text)); rules = (file_within schema n.0 a.0.0 n.2, v.fit) } in
+    record {
+      text = (words, refl, (a.0.1, n, v.text));
+      rules = (file_within schema n.0 a.0.0 n.2, v.fit);
+    } in
     let same : made ≡ y = ap (λ (vs : List Value). (command.Insert a.0.0 vs, b.0.1)) v.whole
     ∙ ok_is (command.Insert a.0.0 b.0.0, b.0.1) y b.2 in
     subst (ArgumentsFound schema verb.Insert words) same here
@@ -75,7 +78,10 @@ connect_found schema words y all e =
     let v = value_found k a.0.2 b.0 o.rest b.1 in
     let made : Command × List Word = (command.Connect a.0.0 a.0.1 b.0.0, b.0.1) in
     subst (ArgumentsFound schema verb.Connect words) (ok_is made y b.2)
-    (record { text = (words, refl, (o.text.0, o.text.1, (a.0.2, o.text.2, v.text))); rules = (o.link, o.owner, v.fits) })
+    (record {
+      text = (words, refl, (o.text.0, o.text.1, (a.0.2, o.text.2, v.text)));
+      rules = (o.link, o.owner, v.fits);
+    })
 
 members_found : (schema : Schema) (words : List Word) (y : Command × List Word)
     → IsWellFormed schema → AllWords words → members_at schema words ≡ Ok y
@@ -91,7 +97,10 @@ members_found schema words y whole all e =
     let order = order_found file a.0.2 b.0 has.key b.1 in
     let made : Command × List Word = (command.Members a.0.0 a.0.1 b.0.0, b.0.1) in
     subst (ArgumentsFound schema verb.Members words) (ok_is made y b.2)
-    (record { text = (words, refl, (o.text.0, o.text.1, (a.0.2, o.text.2, order.text))); rules = (o.link, o.owner, order.rule) })
+    (record {
+      text = (words, refl, (o.text.0, o.text.1, (a.0.2, o.text.2, order.text)));
+      rules = (o.link, o.owner, order.rule);
+    })
 
 find_found : (schema : Schema) (words : List Word) (y : Command × List Word) → IsWellFormed schema
     → AllWords words → find_at schema words ≡ Ok y → ArgumentsFound schema verb.Find words y
@@ -128,7 +137,10 @@ structure_at schema words w rest name None (Some link) c first bare f_is l_is e 
     let n : the name words rest = first ∙ ap (λ (v : Word). v ∷ rest) bare in
     subst (λ (d : Command). ArgumentsFound schema verb.Reorganize words (d, rest))
     (ok_is (command.ReorganizeLink link) c e)
-    (record { text = (words, refl, (name, n, f_is, l_is)); rules = link_within schema name link l_is })
+    (record {
+      text = (words, refl, (name, n, f_is, l_is));
+      rules = link_within schema name link l_is;
+    })
 structure_at schema words w rest name None None c first bare f_is l_is e = absurd cc
 
 structure_by : (schema : Schema) (words : List Word) (w : Word) (y : Command × List Word)
@@ -303,8 +315,10 @@ reading_again schema words (command.Find q) m =
     let of = conds.2 in
     let file = file_at schema q.file in
     let no_of = order_start file q.order of.0 (codes "of") of.2 refl in
-    let no_where = of_start schema q.of conds.0 of.0 (codes "where") of.1 refl (order_start file q.order of.0 (codes "where") of.2 refl) in
-    let no_and = of_start schema q.of conds.0 of.0 (codes "and") of.1 refl (order_start file q.order of.0 (codes "and") of.2 refl) in
+    let no_where = of_start schema q.of conds.0 of.0 (codes "where") of.1 refl
+    (order_start file q.order of.0 (codes "where") of.2 refl) in
+    let no_and = of_start schema q.of conds.0 of.0 (codes "and") of.1 refl
+    (order_start file q.order of.0 (codes "and") of.2 refl) in
     command_by schema verb.Find words t.0 (command.Find q) t.1
     (bind_is (want (a_file schema) t.0) _ (q.file, named.0) _
     (name_again why.File (file_number schema.files) t.0 named.1.0 q.file named.0 named.1.1

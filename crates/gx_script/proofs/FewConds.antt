@@ -32,7 +32,12 @@ conds_few : (file : FileDef) (cs : List Cond) (words rest : List Word)
 conds_few file [] words rest h = absurd h
 conds_few file (c ∷ []) words rest h = omega (arith, cond_less file c words rest h)
 conds_few file (c ∷ d ∷ cs) words rest h =
-    omega (arith, cond_less file c words h.0 h.1, ap length h.2.1, conds_few file (d ∷ cs) h.2.0 rest h.2.2)
+    omega (
+      arith,
+      cond_less file c words h.0 h.1,
+      ap length h.2.1,
+      conds_few file (d ∷ cs) h.2.0 rest h.2.2,
+    )
 
 where_few : (file : FileDef) (cs : List Cond) (words rest : List Word)
     → WhereWords file cs words rest → length cs ≤ length words
@@ -43,7 +48,12 @@ where_few file (c ∷ cs) words rest h =
 command_few : (schema : Schema) (c : Command) (words : List Word) → CommandWords schema c words []
     → length (conds_of c) ≤ length words
 command_few schema (command.Find q) words h =
-    omega (arith, ap length h.1, ap length h.2.1.1, where_few (file_at schema q.file) q.conds h.2.0 h.2.2.0 h.2.2.1)
+    omega (
+      arith,
+      ap length h.1,
+      ap length h.2.1.1,
+      where_few (file_at schema q.file) q.conds h.2.0 h.2.2.0 h.2.2.1,
+    )
 command_few schema _ words h = omega arith
 
 line_few : (schema : Schema) (line : List ℕ) (c : Command) → IsLineOf schema line c

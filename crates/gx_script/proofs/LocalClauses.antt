@@ -40,7 +40,8 @@ some_none phrase = record { behind = []; are = tt; shaped = λ tail. inl refl }
 
 local_where : (file : FileDef) → IsLocal (where_at file) WhereShape
 unfolding where_at
-local_where file = local_optional (codes "where") [] (λ words o. where_from file words o) _ (Repeated CondsShape) (λ words. refl) (λ words rest. refl) (local_conds file)
+local_where file = local_optional (codes "where") [] (λ words o. where_from file words o) _
+    (Repeated CondsShape) (λ words. refl) (λ words rest. refl) (local_conds file)
 
 local_owner_of : (schema : Schema) (file : ℕ) → IsLocal (owner_of_at schema file) NameAndValue
 unfolding owner_of_at
@@ -57,23 +58,36 @@ some_of of = Some of
 
 local_of : (schema : Schema) (file : ℕ) → IsLocal (of_at schema file) OfShape
 unfolding of_at some_of
-local_of schema file = local_optional (codes "of") None (λ words o. of_from schema file words o) (λ rest. owner_of_at schema file rest >>= λ of. Ok (Some of.0, of.1)) NameAndValue (λ words. refl) (λ words rest. refl)
+local_of schema file = local_optional (codes "of") None (λ words o. of_from schema file words o)
+    (λ rest. owner_of_at schema file rest >>= λ of. Ok (Some of.0, of.1)) NameAndValue
+    (λ words. refl)
+    (λ words rest. refl)
     (local_map some_of (owner_of_at schema file) NameAndValue (local_owner_of schema file))
 
-desc_shape : (words rest : List Word) → Perhaps (the (codes "desc") ⨾ NoWord) words rest → Perhaps (the (codes "desc")) words rest
+desc_shape : (words rest : List Word) → Perhaps (the (codes "desc") ⨾ NoWord) words rest
+    → Perhaps (the (codes "desc")) words rest
 desc_shape words rest (inl none) = inl none
 desc_shape words rest (inr h) = inr (subst (λ (r : List Word). the (codes "desc") words r) h.2 h.1)
 
-local_desc : (field : ℕ) → IsLocal {A = OrderBy} (λ words. Ok (desc_at field words)) (Perhaps (the (codes "desc")))
+local_desc : (field : ℕ) → IsLocal {A = OrderBy} (λ words. Ok (desc_at field words))
+    (Perhaps (the (codes "desc")))
 unfolding desc_at
-local_desc field = local_as (λ words. Ok (desc_from field words (behind (codes "desc") words))) (Perhaps (the (codes "desc") ⨾ NoWord)) (Perhaps (the (codes "desc"))) desc_shape
-    (local_optional (codes "desc") (record { field = field; desc = false }) (λ words o. Ok (desc_from field words o)) (λ rest. Ok (record { field = field; desc = true }, rest)) NoWord (λ words. refl) (λ words rest. refl)
+local_desc field = local_as (λ words. Ok (desc_from field words (behind (codes "desc") words)))
+    (Perhaps (the (codes "desc") ⨾ NoWord)) (Perhaps (the (codes "desc"))) desc_shape
+    (local_optional (codes "desc") (record { field = field; desc = false })
+    (λ words o. Ok (desc_from field words o))
+    (λ rest. Ok (record { field = field; desc = true }, rest)) NoWord (λ words. refl)
+    (λ words rest. refl)
     (local_none (record { field = field; desc = true })))
 
 local_order : (file : FileDef) → IsLocal (order_at file) OrderShape
 unfolding order_at
-local_order file = local_optional (codes "order") (record { field = 0; desc = false }) (λ words o. order_from file words o) (λ rest. want (a_field file) rest >>= λ field. Ok (desc_at field.0 field.1)) (AName ⨾ Perhaps (the (codes "desc"))) (λ words. refl) (λ words rest. refl)
-    (local_bind (want (a_field file)) (λ field ws. Ok (desc_at field ws)) AName (Perhaps (the (codes "desc"))) (local_field file) (some_none (the (codes "desc"))) local_desc)
+local_order file = local_optional (codes "order") (record { field = 0; desc = false })
+    (λ words o. order_from file words o)
+    (λ rest. want (a_field file) rest >>= λ field. Ok (desc_at field.0 field.1))
+    (AName ⨾ Perhaps (the (codes "desc"))) (λ words. refl) (λ words rest. refl)
+    (local_bind (want (a_field file)) (λ field ws. Ok (desc_at field ws)) AName
+    (Perhaps (the (codes "desc"))) (local_field file) (some_none (the (codes "desc"))) local_desc)
 
 -- ---- commands, behind their first word
 

@@ -45,9 +45,21 @@ loop_by : {A : Type 0} (loop : ℕ → List Word → Result (A × List Word) Lin
     → List Word → Type 0) (words : List Word) (r : Result (A × List Word) LineWhy)
     → LoopOutcome loop phrase words r → Outcome (λ ws. loop (length ws) ws) phrase words r
 loop_by loop phrase words (Ok y) t =
-    record { taken = t.taken; parts = t.parts; others = λ other same. t.others (length (t.taken ++ other)) other (omega arith) same; shaped = t.shaped }
-loop_by loop phrase words (Err reason) (before, s, front) =
-    (before, record { here = s.here; parts = s.parts; others = λ other same. s.others (length (before ++ other)) other (omega arith) same }, front)
+    record {
+      taken = t.taken;
+      parts = t.parts;
+      others = λ other same. t.others (length (t.taken ++ other)) other (omega arith) same;
+      shaped = t.shaped;
+    }
+loop_by loop phrase words (Err reason) (before, s, front) = (
+  before,
+  record {
+    here = s.here;
+    parts = s.parts;
+    others = λ other same. s.others (length (before ++ other)) other (omega arith) same;
+  },
+  front,
+)
 
 pub local_loop : {A : Type 0} (loop : ℕ → List Word → Result (A × List Word) LineWhy)
     (phrase : List Word → List Word → Type 0)
@@ -118,11 +130,23 @@ module _ (file : FileDef) (before : List Change) (words : List Word)
               let all = append_assoc t.taken u.taken other in
               let g = changes_go_on file before (t.taken ++ (u.taken ++ other)) x (u.taken ++ other)
               (changes_at more file before (t.taken ++ (u.taken ++ other)))
-              (record { room = more; enough = subst (λ (vs : List Word). length vs ≤ more) all le; same = refl }) (t.others (u.taken ++ other) first) (end_same (u.taken ++ other) (w ∷ ws) first) in
+              (record {
+                room = more;
+                enough = subst (λ (vs : List Word). length vs ≤ more) all le;
+                same = refl;
+              }) (t.others (u.taken ++ other) first)
+              (end_same (u.taken ++ other) (w ∷ ws) first) in
               ap (λ (vs : List Word). changes_at more file before vs) all ∙ sym g.same
               ∙ u.others g.room other g.enough same;
-          shaped = λ other. let s = u.shaped other in
-              (suc s.0, (u.taken ++ other, subst (λ (vs : List Word). NameAndValue vs (u.taken ++ other)) (sym (append_assoc t.taken u.taken other)) (t.shaped (u.taken ++ other)), s.1));
+          shaped = λ other. let s = u.shaped other in (
+            suc s.0,
+            (
+              u.taken ++ other,
+              subst (λ (vs : List Word). NameAndValue vs (u.taken ++ other))
+                  (sym (append_assoc t.taken u.taken other)) (t.shaped (u.taken ++ other)),
+              s.1,
+            ),
+          );
         }
         | Err reason ↦ λ o. (
           t.taken ++ o.0,
@@ -135,15 +159,28 @@ module _ (file : FileDef) (before : List Change) (words : List Word)
                 let all = append_assoc t.taken o.0 other in
                 let g = changes_go_on file before (t.taken ++ (o.0 ++ other)) x (o.0 ++ other)
                 (changes_at more file before (t.taken ++ (o.0 ++ other)))
-                (record { room = more; enough = subst (λ (vs : List Word). length vs ≤ more) all le; same = refl }) (t.others (o.0 ++ other) first) (end_same (o.0 ++ other) (w ∷ ws) first) in
+                (record {
+                  room = more;
+                  enough = subst (λ (vs : List Word). length vs ≤ more) all le;
+                  same = refl;
+                }) (t.others (o.0 ++ other) first)
+                (end_same (o.0 ++ other) (w ∷ ws) first) in
                 ap (λ (vs : List Word). changes_at more file before vs) all ∙ sym g.same
                 ∙ o.1.others g.room other g.enough same;
           },
           record {
             behind = o.2.behind;
             are = o.2.are;
-            shaped = λ tail. let s = o.2.shaped tail in
-                (suc s.0, (o.0 ++ (o.2.behind ++ tail), subst (λ (vs : List Word). NameAndValue vs (o.0 ++ (o.2.behind ++ tail))) (sym (append_assoc t.taken o.0 (o.2.behind ++ tail))) (t.shaped (o.0 ++ (o.2.behind ++ tail))), s.1));
+            shaped = λ tail. let s = o.2.shaped tail in (
+              suc s.0,
+              (
+                o.0 ++ (o.2.behind ++ tail),
+                subst (λ (vs : List Word). NameAndValue vs (o.0 ++ (o.2.behind ++ tail)))
+                    (sym (append_assoc t.taken o.0 (o.2.behind ++ tail)))
+                    (t.shaped (o.0 ++ (o.2.behind ++ tail))),
+                s.1,
+              ),
+            );
           },
         )
       ]
@@ -177,7 +214,11 @@ local_changes file = local_loop (changes_loop file []) (Repeated ChangesShape)
     (local_change file [] words))
 
 pub some_changes : IsFrontOf (Repeated ChangesShape) []
-some_changes = record { behind = some_pair.behind; are = some_pair.are; shaped = λ tail. (0, some_pair.shaped tail) }
+some_changes = record {
+  behind = some_pair.behind;
+  are = some_pair.are;
+  shaped = λ tail. (0, some_pair.shaped tail);
+}
 
 -- ---- conditions
 
@@ -221,41 +262,80 @@ module _ (file : FileDef) (before : List Cond) (words : List Word)
         record { behind = front.behind; are = front.are; shaped = λ tail. (0, front.shaped tail) },
       )
 
-  conds_last : (x : Cond) (after : List Word) → total ≡ Ok (before ++ x ∷ [], after) → behind (codes "and") after ≡ None → Takes (cond_at file) CondShape words (x, after) → LoopOutcome (conds_loop file before) (Repeated CondsShape) words total
+  conds_last : (x : Cond) (after : List Word) → total ≡ Ok (before ++ x ∷ [], after)
+      → behind (codes "and") after ≡ None → Takes (cond_at file) CondShape words (x, after)
+      → LoopOutcome (conds_loop file before) (Repeated CondsShape) words total
   conds_last x after is none t =
       subst (LoopOutcome (conds_loop file before) (Repeated CondsShape) words) (sym is) (record {
         taken = t.taken;
         parts = t.parts;
-        others = λ more other le same. conds_end file before (t.taken ++ other) x other (conds_at more file before (t.taken ++ other)) (record { room = more; enough = le; same = refl }) (t.others other same) (behind_same (codes "and") after other same none);
+        others = λ more other le same. conds_end file before (t.taken ++ other) x other
+            (conds_at more file before (t.taken ++ other))
+            (record { room = more; enough = le; same = refl }) (t.others other same)
+            (behind_same (codes "and") after other same none);
         shaped = λ other. (0, t.shaped other);
       })
 
-  conds_behind : (x : Cond) (after ws : List Word) → the (codes "and") after ws → Takes (cond_at file) CondShape words (x, after) → LoopOutcome (conds_loop file (before ++ x ∷ [])) (Repeated CondsShape) ws total → LoopOutcome (conds_loop file before) (Repeated CondsShape) words total
+  conds_behind : (x : Cond) (after ws : List Word) → the (codes "and") after ws
+      → Takes (cond_at file) CondShape words (x, after)
+      → LoopOutcome (conds_loop file (before ++ x ∷ [])) (Repeated CondsShape) ws total
+      → LoopOutcome (conds_loop file before) (Repeated CondsShape) words total
   conds_behind x after ws is t =
       elim total as (λ r. LoopOutcome (conds_loop file (before ++ x ∷ [])) (Repeated CondsShape) ws
       r → LoopOutcome (conds_loop file before) (Repeated CondsShape) words r) [
         | Ok z ↦ λ u. record {
           taken = t.taken ++ (Bare (codes "and") ∷ u.taken);
-          parts = t.parts ∙ ap (λ (vs : List Word). t.taken ++ vs) (is ∙ ap (λ (vs : List Word). Bare (codes "and") ∷ vs) u.parts) ∙ sym (append_assoc t.taken (Bare (codes "and") ∷ u.taken) z.1);
+          parts = t.parts ∙ ap (λ (vs : List Word). t.taken ++ vs)
+              (is ∙ ap (λ (vs : List Word). Bare (codes "and") ∷ vs) u.parts)
+              ∙ sym (append_assoc t.taken (Bare (codes "and") ∷ u.taken) z.1);
           others = λ more other le same.
               let all = append_assoc t.taken (Bare (codes "and") ∷ u.taken) other in
-              let g = conds_go_on file before (t.taken ++ (Bare (codes "and") ∷ (u.taken ++ other))) x (Bare (codes "and") ∷ (u.taken ++ other)) (u.taken ++ other) (conds_at more file before (t.taken ++ (Bare (codes "and") ∷ (u.taken ++ other)))) (record { room = more; enough = subst (λ (vs : List Word). length vs ≤ more) all le; same = refl })
-              (t.others (Bare (codes "and") ∷ (u.taken ++ other)) (ap next_of (sym is))) (behind_again (codes "and") (Bare (codes "and") ∷ (u.taken ++ other)) (u.taken ++ other) refl) in
+              let g = conds_go_on file before (t.taken ++ (Bare (codes "and") ∷ (u.taken ++ other)))
+              x (Bare (codes "and") ∷ (u.taken ++ other)) (u.taken ++ other)
+              (conds_at more file before (t.taken ++ (Bare (codes "and") ∷ (u.taken ++ other))))
+              (record {
+                room = more;
+                enough = subst (λ (vs : List Word). length vs ≤ more) all le;
+                same = refl;
+              })
+              (t.others (Bare (codes "and") ∷ (u.taken ++ other)) (ap next_of (sym is)))
+              (behind_again (codes "and") (Bare (codes "and") ∷ (u.taken ++ other))
+              (u.taken ++ other) refl) in
               ap (λ (vs : List Word). conds_at more file before vs) all ∙ sym g.same
               ∙ u.others g.room other g.enough same;
           shaped = λ other.
-              let s = u.shaped other in
-              (suc s.0, (Bare (codes "and") ∷ (u.taken ++ other), subst (λ (vs : List Word). CondShape vs (Bare (codes "and") ∷ (u.taken ++ other))) (sym (append_assoc t.taken (Bare (codes "and") ∷ u.taken) other)) (t.shaped (Bare (codes "and") ∷ (u.taken ++ other))), (u.taken ++ other, refl, s.1)));
+              let s = u.shaped other in (
+                suc s.0,
+                (
+                  Bare (codes "and") ∷ (u.taken ++ other),
+                  subst (λ (vs : List Word). CondShape vs (Bare (codes "and") ∷ (u.taken ++ other)))
+                      (sym (append_assoc t.taken (Bare (codes "and") ∷ u.taken) other))
+                      (t.shaped (Bare (codes "and") ∷ (u.taken ++ other))),
+                  (u.taken ++ other, refl, s.1),
+                ),
+              );
         }
         | Err reason ↦ λ o. (
           t.taken ++ (Bare (codes "and") ∷ o.0),
           record {
             here = o.1.here;
-            parts = t.parts ∙ ap (λ (vs : List Word). t.taken ++ vs) (is ∙ ap (λ (vs : List Word). Bare (codes "and") ∷ vs) o.1.parts) ∙ sym (append_assoc t.taken (Bare (codes "and") ∷ o.0) o.1.here);
+            parts = t.parts ∙ ap (λ (vs : List Word). t.taken ++ vs)
+                (is ∙ ap (λ (vs : List Word). Bare (codes "and") ∷ vs) o.1.parts)
+                ∙ sym (append_assoc t.taken (Bare (codes "and") ∷ o.0) o.1.here);
             others = λ more other le same.
                 let all = append_assoc t.taken (Bare (codes "and") ∷ o.0) other in
-                let g = conds_go_on file before (t.taken ++ (Bare (codes "and") ∷ (o.0 ++ other))) x (Bare (codes "and") ∷ (o.0 ++ other)) (o.0 ++ other) (conds_at more file before (t.taken ++ (Bare (codes "and") ∷ (o.0 ++ other)))) (record { room = more; enough = subst (λ (vs : List Word). length vs ≤ more) all le; same = refl })
-                (t.others (Bare (codes "and") ∷ (o.0 ++ other)) (ap next_of (sym is))) (behind_again (codes "and") (Bare (codes "and") ∷ (o.0 ++ other)) (o.0 ++ other) refl) in
+                let g = conds_go_on file before (t.taken ++ (Bare (codes "and") ∷ (o.0 ++ other))) x
+                (Bare (codes "and") ∷ (o.0 ++ other)) (o.0 ++ other)
+                (conds_at more file before (t.taken ++ (Bare (codes "and") ∷ (o.0 ++ other))))
+                (record {
+                  room = more;
+                  enough = subst (λ (vs : List Word). length vs ≤ more) all
+                      le;
+                  same = refl;
+                })
+                (t.others (Bare (codes "and") ∷ (o.0 ++ other)) (ap next_of (sym is)))
+                (behind_again (codes "and") (Bare (codes "and") ∷ (o.0 ++ other))
+                (o.0 ++ other) refl) in
                 ap (λ (vs : List Word). conds_at more file before vs) all ∙ sym g.same
                 ∙ o.1.others g.room other g.enough same;
           },
@@ -263,13 +343,25 @@ module _ (file : FileDef) (before : List Cond) (words : List Word)
             behind = o.2.behind;
             are = o.2.are;
             shaped = λ tail.
-                let s = o.2.shaped tail in
-                (suc s.0, (Bare (codes "and") ∷ (o.0 ++ (o.2.behind ++ tail)), subst (λ (vs : List Word). CondShape vs (Bare (codes "and") ∷ (o.0 ++ (o.2.behind ++ tail)))) (sym (append_assoc t.taken (Bare (codes "and") ∷ o.0) (o.2.behind ++ tail))) (t.shaped (Bare (codes "and") ∷ (o.0 ++ (o.2.behind ++ tail)))), (o.0 ++ (o.2.behind ++ tail), refl, s.1)));
+                let s = o.2.shaped tail in (
+                  suc s.0,
+                  (
+                    Bare (codes "and") ∷ (o.0 ++ (o.2.behind ++ tail)),
+                    subst (λ (vs : List Word). CondShape vs
+                        (Bare (codes "and") ∷ (o.0 ++ (o.2.behind ++ tail))))
+                        (sym (append_assoc t.taken (Bare (codes "and") ∷ o.0) (o.2.behind ++ tail)))
+                        (t.shaped (Bare (codes "and") ∷ (o.0 ++ (o.2.behind ++ tail)))),
+                    (o.0 ++ (o.2.behind ++ tail), refl, s.1),
+                  ),
+                );
           },
         )
       ]
 
-conds_after : (file : FileDef) (before : List Cond) (words : List Word) (total : Result (List Cond × List Word) LineWhy) (x : Cond) (after : List Word) (o : Option (List Word)) → CondsGo file before words total → cond_at file words ≡ Ok (x, after) → behind (codes "and") after ≡ o → Takes (cond_at file) CondShape words (x, after)
+conds_after : (file : FileDef) (before : List Cond) (words : List Word)
+    (total : Result (List Cond × List Word) LineWhy) (x : Cond) (after : List Word)
+    (o : Option (List Word)) → CondsGo file before words total → cond_at file words ≡ Ok (x, after)
+    → behind (codes "and") after ≡ o → Takes (cond_at file) CondShape words (x, after)
     → ((rest : List Word) → length rest < length words → CondsGo file (before ++ x ∷ []) rest total
     → LoopOutcome (conds_loop file (before ++ x ∷ [])) (Repeated CondsShape) rest total)
     → LoopOutcome (conds_loop file before) (Repeated CondsShape) words total
@@ -277,7 +369,12 @@ conds_after file before words total x after None g e b t later =
     conds_last file before words total x after (conds_end file before words x after total g e b) b t
 conds_after file before words total x after (Some rest) g e b t later =
     conds_behind file before words total x after rest (behind_found (codes "and") after rest b) t
-    (later rest (omega (arith, cond_shorter file words (x, after) e, behind_shorter (codes "and") after rest b)) (conds_go_on file before words x after rest total g e b))
+    (later rest (omega (
+      arith,
+      cond_shorter file words (x, after) e,
+      behind_shorter (codes "and") after rest b,
+    ))
+    (conds_go_on file before words x after rest total g e b))
 
 conds_outcome : (fuel : ℕ) (file : FileDef) (before : List Cond) (words : List Word)
     (total : Result (List Cond × List Word) LineWhy) (r : Result (Cond × List Word) LineWhy)
@@ -287,7 +384,9 @@ conds_outcome : (fuel : ℕ) (file : FileDef) (before : List Cond) (words : List
 conds_outcome fuel file before words total (Err reason) le g e o =
     conds_err file before words total reason
     (cond_fails file before words (no_command.Bad reason) total g e) o
-conds_outcome zero file before words total (Ok (x, after)) le g e t = conds_after file before words total x after (behind (codes "and") after) g e refl t (λ rest lt go. absurd (omega arith))
+conds_outcome zero file before words total (Ok (x, after)) le g e t =
+    conds_after file before words total x after (behind (codes "and") after) g e refl t
+    (λ rest lt go. absurd (omega arith))
 conds_outcome (suc fuel) file before words total (Ok (x, after)) le g e t =
     conds_after file before words total x after (behind (codes "and") after) g e refl t
     (λ rest lt go. conds_outcome fuel file (before ++ x ∷ []) rest total (cond_at file rest)
@@ -302,4 +401,8 @@ local_conds file = local_loop (conds_loop file []) (Repeated CondsShape)
     (local_cond file words))
 
 pub some_conds : IsFrontOf (Repeated CondsShape) []
-some_conds = record { behind = some_cond.behind; are = some_cond.are; shaped = λ tail. (0, some_cond.shaped tail) }
+some_conds = record {
+  behind = some_cond.behind;
+  are = some_cond.are;
+  shaped = λ tail. (0, some_cond.shaped tail);
+}

@@ -1,4 +1,5 @@
--- The readers of names, values and parts of commands depend on the words that they read, and those before a fault could go on.
+-- The readers of names, values and parts of commands depend on the words that they read, and those
+-- before a fault could go on.
 use Rattle.std.proofs.Common.{◌≡◌, ℕ, ◌<◌, true, ℤ, List, [], ◌∷◌, ◌++◌, length, Option, None, Some, Result, Ok, Err, refl, ap, subst, ◌∙◌, arith}
 use Rattle.std.specs.Prelude.{codes}
 use Rattle.gx_tokens.specs.Numbers.{is_number, signed_number}
@@ -26,13 +27,25 @@ use Rattle.gx_script.proofs.LocalWords.{IsFrontOf, IsLocal, local_want, local_bi
 -- ---- single words
 
 pub some_name : IsFrontOf AName []
-some_name = record { behind = Bare (codes "x") ∷ []; are = ((λ e. omega arith, (refl, tt)), tt); shaped = λ tail. (codes "x", refl) }
+some_name = record {
+  behind = Bare (codes "x") ∷ [];
+  are = ((λ e. omega arith, (refl, tt)), tt);
+  shaped = λ tail. (codes "x", refl);
+}
 
 pub some_value : IsFrontOf AValue []
-some_value = record { behind = Quoted [] ∷ []; are = (tt, tt); shaped = λ tail. (Quoted [], refl, tt) }
+some_value = record {
+  behind = Quoted [] ∷ [];
+  are = (tt, tt);
+  shaped = λ tail. (Quoted [], refl, tt);
+}
 
 pub some_op : IsFrontOf AnOp []
-some_op = record { behind = Bare (codes "=") ∷ []; are = ((λ e. omega arith, (refl, tt)), tt); shaped = λ tail. (op.Equal, refl) }
+some_op = record {
+  behind = Bare (codes "=") ∷ [];
+  are = ((λ e. omega arith, (refl, tt)), tt);
+  shaped = λ tail. (op.Equal, refl);
+}
 
 name_shape : {A : Type 0} (reason : LineWhy) (meaning : List ℕ → Option A) (w : Word) (x : A)
     → bare_or reason meaning w ≡ Ok x → (rest : List Word) → AName (w ∷ rest) rest
@@ -190,7 +203,11 @@ local_values fields some =
     (repeated_values fields some) (values_local fields [])
 
 pub some_repeated : IsFrontOf (Repeated ValuesShape) []
-some_repeated = record { behind = some_value.behind; are = some_value.are; shaped = λ tail. (0, some_value.shaped tail) }
+some_repeated = record {
+  behind = some_value.behind;
+  are = some_value.are;
+  shaped = λ tail. (0, some_value.shaped tail);
+}
 
 -- ---- one change
 

@@ -1,5 +1,5 @@
--- What is read depends on the words that are read and on the next one, and a fault on those up to it; and the words before a
--- fault could go on.
+-- What is read depends on the words that are read and on the next one, and a fault on those up to
+-- it; and the words before a fault could go on.
 use Rattle.std.proofs.Common.{◌≡◌, ℕ, Bool, true, false, cond, List, [], ◌∷◌, ◌++◌, Option, None, Some, Result, Ok, Err, refl, sym, ap, subst, ◌∙◌, append_assoc, inl, inr}
 use Rattle.std.proofs.lemmas.Option.{same_Some}
 use Rattle.gx_commands.specs.declared.command.LineWhy.{LineWhy}
@@ -75,14 +75,24 @@ want_by {A} meaning phrase says some w ws (Ok x) e = record {
   others = λ other _. ap (λ (r : Result A LineWhy). met r other) e;
   shaped = λ other. says w x e other;
 }
-want_by meaning phrase says some w ws (Err reason) e =
-    ([], record { here = w ∷ ws; parts = refl; others = λ other same. same_next meaning w reason other e same }, some)
+want_by meaning phrase says some w ws (Err reason) e = (
+  [],
+  record {
+    here = w ∷ ws;
+    parts = refl;
+    others = λ other same. same_next meaning w reason other e same;
+  },
+  some,
+)
 
 pub local_want : {A : Type 0} (meaning : Word → Result A LineWhy) (phrase : List Word → List Word
     → Type 0) → ((w : Word) (x : A) → meaning w ≡ Ok x → (rest : List Word)
     → phrase (w ∷ rest) rest) → IsFrontOf phrase [] → IsLocal (want meaning) phrase
-local_want meaning phrase says some [] =
-    ([], record { here = []; parts = refl; others = λ other same. nothing_next meaning other same }, some)
+local_want meaning phrase says some [] = (
+  [],
+  record { here = []; parts = refl; others = λ other same. nothing_next meaning other same },
+  some,
+)
 local_want meaning phrase says some (w ∷ ws) =
     want_by meaning phrase says some w ws (meaning w) refl
 
@@ -103,7 +113,12 @@ pub front_then : (a b : List Word → List Word → Type 0) (before : List Word)
 front_then a b before f g = record {
   behind = f.behind ++ g.behind;
   are = are_both f.behind g.behind f.are g.are;
-  shaped = λ tail. (g.behind ++ tail, subst (λ (ws : List Word). a (before ++ ws) (g.behind ++ tail)) (sym (append_assoc f.behind g.behind tail)) (f.shaped (g.behind ++ tail)), g.shaped tail);
+  shaped = λ tail. (
+    g.behind ++ tail,
+    subst (λ (ws : List Word). a (before ++ ws) (g.behind ++ tail))
+        (sym (append_assoc f.behind g.behind tail)) (f.shaped (g.behind ++ tail)),
+    g.shaped tail,
+  );
 }
 
 module _ {A B : Type 0} (reader : List Word → Result (A × List Word) LineWhy) (f : A → List Word
@@ -128,7 +143,12 @@ module _ {A B : Type 0} (reader : List Word → Result (A × List Word) LineWhy)
         ∙ sym (append_assoc t.taken u.taken z.1);
     others = λ other same. then_others y t u.taken other (next_behind u.taken other z.1 same
         ∙ ap next_of (sym u.parts)) ∙ u.others other same;
-    shaped = λ other. (u.taken ++ other, subst (λ (ws : List Word). a ws (u.taken ++ other)) (sym (append_assoc t.taken u.taken other)) (t.shaped (u.taken ++ other)), u.shaped other);
+    shaped = λ other. (
+      u.taken ++ other,
+      subst (λ (ws : List Word). a ws (u.taken ++ other))
+          (sym (append_assoc t.taken u.taken other)) (t.shaped (u.taken ++ other)),
+      u.shaped other,
+    );
   }
   then_by y t (Err reason) (before, s, front) = (
     t.taken ++ before,
@@ -142,7 +162,13 @@ module _ {A B : Type 0} (reader : List Word → Result (A × List Word) LineWhy)
     record {
       behind = front.behind;
       are = front.are;
-      shaped = λ tail. (before ++ (front.behind ++ tail), subst (λ (ws : List Word). a ws (before ++ (front.behind ++ tail))) (sym (append_assoc t.taken before (front.behind ++ tail))) (t.shaped (before ++ (front.behind ++ tail))), front.shaped tail);
+      shaped = λ tail. (
+        before ++ (front.behind ++ tail),
+        subst (λ (ws : List Word). a ws (before ++ (front.behind ++ tail)))
+            (sym (append_assoc t.taken before (front.behind ++ tail)))
+            (t.shaped (before ++ (front.behind ++ tail))),
+        front.shaped tail,
+      );
     },
   )
 
@@ -152,7 +178,12 @@ module _ {A B : Type 0} (reader : List Word → Result (A × List Word) LineWhy)
   bind_by some (Ok y) e next t = then_by y t (f y.0 y.1) (next y e y.1)
   bind_by some (Err reason) e next (before, s, front) = (
     before,
-    record { here = s.here; parts = s.parts; others = λ other same. ap (λ (r : Result (A × List Word) LineWhy). r >>= λ y. f y.0 y.1) (s.others other same) },
+    record {
+      here = s.here;
+      parts = s.parts;
+      others = λ other same. ap (λ (r : Result (A × List Word) LineWhy). r >>= λ y. f y.0 y.1)
+          (s.others other same);
+    },
     front_then a b before front some,
   )
 
@@ -176,9 +207,23 @@ map_by : {A B : Type 0} (g : A → B) (reader : List Word → Result (A × List 
     → Outcome {A = B} (λ ws. reader ws >>= λ y. Ok (g y.0, y.1)) phrase words
     (r >>= λ y. Ok (g y.0, y.1))
 map_by {A} {B} g reader phrase words (Ok y) t =
-    record { taken = t.taken; parts = t.parts; others = λ other same. ap (λ (r : Result (A × List Word) LineWhy). r >>= λ z. Ok (g z.0, z.1)) (t.others other same); shaped = t.shaped }
-map_by {A} {B} g reader phrase words (Err reason) (before, s, front) =
-    (before, record { here = s.here; parts = s.parts; others = λ other same. ap (λ (r : Result (A × List Word) LineWhy). r >>= λ z. Ok (g z.0, z.1)) (s.others other same) }, front)
+    record {
+      taken = t.taken;
+      parts = t.parts;
+      others = λ other same. ap (λ (r : Result (A × List Word) LineWhy). r >>= λ z. Ok (g z.0, z.1))
+          (t.others other same);
+      shaped = t.shaped;
+    }
+map_by {A} {B} g reader phrase words (Err reason) (before, s, front) = (
+  before,
+  record {
+    here = s.here;
+    parts = s.parts;
+    others = λ other same. ap (λ (r : Result (A × List Word) LineWhy). r >>= λ z. Ok
+        (g z.0, z.1)) (s.others other same);
+  },
+  front,
+)
 
 -- the same words, another value
 pub local_map : {A B : Type 0} (g : A → B) (reader : List Word → Result (A × List Word) LineWhy)
@@ -191,9 +236,21 @@ as_by : {A : Type 0} (reader : List Word → Result (A × List Word) LineWhy) (a
     → (words : List Word) (r : Result (A × List Word) LineWhy) → Outcome reader a words r
     → Outcome reader b words r
 as_by reader a b f words (Ok y) t =
-    record { taken = t.taken; parts = t.parts; others = t.others; shaped = λ other. f _ other (t.shaped other) }
-as_by reader a b f words (Err reason) (before, s, front) =
-    (before, s, record { behind = front.behind; are = front.are; shaped = λ tail. f _ tail (front.shaped tail) })
+    record {
+      taken = t.taken;
+      parts = t.parts;
+      others = t.others;
+      shaped = λ other. f _ other (t.shaped other);
+    }
+as_by reader a b f words (Err reason) (before, s, front) = (
+  before,
+  s,
+  record {
+    behind = front.behind;
+    are = front.are;
+    shaped = λ tail. f _ tail (front.shaped tail);
+  },
+)
 
 -- the same reading, a wider phrase
 pub local_as : {A : Type 0} (reader : List Word → Result (A × List Word) LineWhy) (a b : List Word
@@ -211,7 +268,12 @@ local_same {A} reader other phrase same local =
 
 -- nothing is read
 pub local_none : {A : Type 0} (x : A) → IsLocal {A = A} (λ words. Ok (x, words)) NoWord
-local_none x words = record { taken = []; parts = refl; others = λ other same. refl; shaped = λ other. refl }
+local_none x words = record {
+  taken = [];
+  parts = refl;
+  others = λ other same. refl;
+  shaped = λ other. refl;
+}
 
 -- ---- a phrase behind a keyword, if it stands there
 
@@ -262,7 +324,11 @@ module _ {A : Type 0} (keyword : List ℕ) (d : A) (from : List Word → Option 
       parts = is ∙ ap (λ (ws : List Word). Bare keyword ∷ ws) s.parts;
       others = λ other same. there (before ++ other) ∙ s.others other same;
     },
-    record { behind = front.behind; are = front.are; shaped = λ tail. inr (before ++ (front.behind ++ tail), refl, front.shaped tail) },
+    record {
+      behind = front.behind;
+      are = front.are;
+      shaped = λ tail. inr (before ++ (front.behind ++ tail), refl, front.shaped tail);
+    },
   )
 
   optional_by : IsLocal inner b → (words : List Word) (o : Option (List Word))

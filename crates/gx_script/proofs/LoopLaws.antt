@@ -76,7 +76,12 @@ change_shorter file before words y e =
     let b = bind_ok (want (a_value (field_at file a.0.0).kind) a.0.1)
     (λ x. Ok (record { field = a.0.0; value = x.0 }, x.1)) y a.2 in
     let made : Change × List Word = (record { field = a.0.0; value = b.0.0 }, b.0.1) in
-    omega (arith, want_shorter (a_new_field file before) words a.0 a.1, want_shorter (a_value (field_at file a.0.0).kind) a.0.1 b.0 b.1, ap (λ (z : Change × List Word). length z.1) (ok_is made y b.2))
+    omega (
+      arith,
+      want_shorter (a_new_field file before) words a.0 a.1,
+      want_shorter (a_value (field_at file a.0.0).kind) a.0.1 b.0 b.1,
+      ap (λ (z : Change × List Word). length z.1) (ok_is made y b.2),
+    )
 
 abbrev ChangesTotal : Type 0
 ChangesTotal = Result (List Change × List Word) LineWhy
@@ -166,7 +171,13 @@ cond_shorter file words y e =
     let b = bind_ok (want (a_value (field_at file a.0.0).kind) o.0.1)
     (λ x. Ok (record { field = a.0.0; op = o.0.0; bound = x.0 }, x.1)) y o.2 in
     let made : Cond × List Word = (record { field = a.0.0; op = o.0.0; bound = b.0.0 }, b.0.1) in
-    omega (arith, want_shorter (a_field file) words a.0 a.1, want_shorter an_op a.0.1 o.0 o.1, want_shorter (a_value (field_at file a.0.0).kind) o.0.1 b.0 b.1, ap (λ (z : Cond × List Word). length z.1) (ok_is made y b.2))
+    omega (
+      arith,
+      want_shorter (a_field file) words a.0 a.1,
+      want_shorter an_op a.0.1 o.0 o.1,
+      want_shorter (a_value (field_at file a.0.0).kind) o.0.1 b.0 b.1,
+      ap (λ (z : Cond × List Word). length z.1) (ok_is made y b.2),
+    )
 
 behind_if : (b : Bool) (ws rest : List Word) → cond b (Some ws) None ≡ Some rest → ws ≡ rest
 behind_if true ws rest e = cc
@@ -191,11 +202,14 @@ pub record CondsGo (file : FileDef) (before : List Cond) (words : List Word)
 
 conds_on : (room : ℕ) (file : FileDef) (before : List Cond) (words : List Word) (x : Cond)
     (after rest : List Word) (total : CondsTotal) → length words ≤ room → length rest < length words
-    → cond_at file words ≡ Ok (x, after) → behind (codes "and") after ≡ Some rest → conds_at room file before words ≡ total → CondsGo file (before ++ x ∷ []) rest total
+    → cond_at file words ≡ Ok (x, after) → behind (codes "and") after ≡ Some rest
+    → conds_at room file before words ≡ total → CondsGo file (before ++ x ∷ []) rest total
 unfolding conds_at
 conds_on zero file before words x after rest total le less h more so_far = absurd (omega arith)
 conds_on (suc room) file before words x after rest total le less h more so_far =
-    let first = ap (λ (r : Result (Cond × List Word) LineWhy). r >>= λ y. more_conds (λ conds ws. conds_at room file conds ws) (before ++ y.0 ∷ []) y.1 (behind (codes "and") y.1)) h in
+    let first = ap (λ (r : Result (Cond × List Word) LineWhy). r >>= λ y. more_conds
+    (λ conds ws. conds_at room file conds ws) (before ++ y.0 ∷ []) y.1
+    (behind (codes "and") y.1)) h in
     let one : conds_at (suc room) file before words ≡ conds_at room file (before ++ x ∷ []) rest =
     first ∙ ap (more_conds (λ conds ws. conds_at room file conds ws) (before ++ x ∷ []) after)
     more in
@@ -203,18 +217,26 @@ conds_on (suc room) file before words x after rest total le less h more so_far =
 
 pub conds_go_on : (file : FileDef) (before : List Cond) (words : List Word) (x : Cond)
     (after rest : List Word) (total : CondsTotal) → CondsGo file before words total
-    → cond_at file words ≡ Ok (x, after) → behind (codes "and") after ≡ Some rest → CondsGo file (before ++ x ∷ []) rest total
+    → cond_at file words ≡ Ok (x, after) → behind (codes "and") after ≡ Some rest
+    → CondsGo file (before ++ x ∷ []) rest total
 conds_go_on file before words x after rest total g h more =
-    let less : length rest < length words = omega (arith, cond_shorter file words (x, after) h, behind_shorter (codes "and") after rest more) in
+    let less : length rest < length words = omega (
+      arith,
+      cond_shorter file words (x, after) h,
+      behind_shorter (codes "and") after rest more,
+    ) in
     conds_on g.room file before words x after rest total g.enough less h more g.same
 
 conds_over : (room : ℕ) (file : FileDef) (before : List Cond) (words : List Word) (x : Cond)
     (after : List Word) (total : CondsTotal) → length words ≤ room → length after < length words
-    → cond_at file words ≡ Ok (x, after) → behind (codes "and") after ≡ None → conds_at room file before words ≡ total → total ≡ Ok (before ++ x ∷ [], after)
+    → cond_at file words ≡ Ok (x, after) → behind (codes "and") after ≡ None
+    → conds_at room file before words ≡ total → total ≡ Ok (before ++ x ∷ [], after)
 unfolding conds_at
 conds_over zero file before words x after total le less h over so_far = absurd (omega arith)
 conds_over (suc room) file before words x after total le less h over so_far =
-    let first = ap (λ (r : Result (Cond × List Word) LineWhy). r >>= λ y. more_conds (λ conds ws. conds_at room file conds ws) (before ++ y.0 ∷ []) y.1 (behind (codes "and") y.1)) h in
+    let first = ap (λ (r : Result (Cond × List Word) LineWhy). r >>= λ y. more_conds
+    (λ conds ws. conds_at room file conds ws) (before ++ y.0 ∷ []) y.1
+    (behind (codes "and") y.1)) h in
     let one : conds_at (suc room) file before words ≡ Ok (before ++ x ∷ [], after) =
     first ∙ ap (more_conds (λ conds ws. conds_at room file conds ws) (before ++ x ∷ []) after)
     over in
@@ -222,7 +244,8 @@ conds_over (suc room) file before words x after total le less h over so_far =
 
 pub conds_end : (file : FileDef) (before : List Cond) (words : List Word) (x : Cond)
     (after : List Word) (total : CondsTotal) → CondsGo file before words total
-    → cond_at file words ≡ Ok (x, after) → behind (codes "and") after ≡ None → total ≡ Ok (before ++ x ∷ [], after)
+    → cond_at file words ≡ Ok (x, after) → behind (codes "and") after ≡ None
+    → total ≡ Ok (before ++ x ∷ [], after)
 conds_end file before words x after total g h over =
     conds_over g.room file before words x after total g.enough
     (cond_shorter file words (x, after) h) h over g.same

@@ -35,7 +35,12 @@ record_found schema words y all e =
     let v = value_found k a.0.1 b.0 (words_behind words (Bare n.0) a.0.1 n.1 all) b.1 in
     let made : ℕ × Value × List Word = (a.0.0, b.0.0, b.0.1) in
     subst (RecordFound schema words) (ok_is made y b.2)
-    (record { text = (a.0.1, n, v.text); file = file_within schema n.0 a.0.0 n.2; key = v.fits; rest = v.rest })
+    (record {
+      text = (a.0.1, n, v.text);
+      file = file_within schema n.0 a.0.0 n.2;
+      key = v.fits;
+      rest = v.rest;
+    })
 
 pub record_again : (schema : Schema) (file : ℕ) (key : Value) (words rest : List Word)
     → (FileName schema file ⨾ Literal key) words rest → IsKeyOf (file_at schema file) key
@@ -67,7 +72,12 @@ owner_found schema words y all e =
     let v = value_found k a.0.1 b.0 (words_behind words (Bare n.0) a.0.1 n.1 all) b.1 in
     let made : ℕ × Value × List Word = (a.0.0, b.0.0, b.0.1) in
     subst (OwnerFound schema words) (ok_is made y b.2)
-    (record { text = (a.0.1, n, v.text); link = link_within schema n.0 a.0.0 n.2; owner = v.fits; rest = v.rest })
+    (record {
+      text = (a.0.1, n, v.text);
+      link = link_within schema n.0 a.0.0 n.2;
+      owner = v.fits;
+      rest = v.rest;
+    })
 
 pub owner_again : (schema : Schema) (link : ℕ) (owner : Value) (words rest : List Word)
     → (LinkName schema link ⨾ Literal owner) words rest
@@ -98,7 +108,12 @@ member_found schema words y all e =
     let v = value_found k a.0.1 b.0 (words_behind words (Bare n.0) a.0.1 n.1 all) b.1 in
     let made : ℕ × Value × List Word = (a.0.0, b.0.0, b.0.1) in
     subst (MemberFound schema words) (ok_is made y b.2)
-    (record { text = (a.0.1, n, v.text); link = link_within schema n.0 a.0.0 n.2; member = v.fits; rest = v.rest })
+    (record {
+      text = (a.0.1, n, v.text);
+      link = link_within schema n.0 a.0.0 n.2;
+      member = v.fits;
+      rest = v.rest;
+    })
 
 pub member_again : (schema : Schema) (link : ℕ) (member : Value) (words rest : List Word)
     → (LinkName schema link ⨾ Literal member) words rest

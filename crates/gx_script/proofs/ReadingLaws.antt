@@ -32,9 +32,19 @@ pub words_read : (schema : Schema) (line : List ℕ) (r : Result Command NoComma
     → Gives (λ c. c) r (reading schema (words_in line))
     → AnswersUnlessNoMemory r (IsReading schema line)
 words_read schema line (Ok c) no_comment characters words e =
-    inr (inr (inr (no_comment, characters, (words.0, words.1, sym e ∙ ap (reading schema) (words_of_line line words.0 words.1)))))
+    inr
+    (inr (inr (
+      no_comment,
+      characters,
+      (words.0, words.1, sym e ∙ ap (reading schema) (words_of_line line words.0 words.1)),
+    )))
 words_read schema line (Err (no_command.Bad reason)) no_comment characters words e =
-    inr (inr (inr (no_comment, characters, (words.0, words.1, sym e ∙ ap (reading schema) (words_of_line line words.0 words.1)))))
+    inr
+    (inr (inr (
+      no_comment,
+      characters,
+      (words.0, words.1, sym e ∙ ap (reading schema) (words_of_line line words.0 words.1)),
+    )))
 words_read schema line (Err no_command.NoMemory) no_comment characters words e = tt
 
 pub line_found : (schema : Schema) (line : List ℕ) (c : Command) → IsWellFormed schema

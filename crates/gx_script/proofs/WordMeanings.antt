@@ -286,7 +286,11 @@ pub value_found : (k : Kind) (words : List Word) (y : Value × List Word) → Al
 value_found k words y all e =
     let w = want_ok (a_value k) words y e in
     let v = value_is k w.word y.0 (word_first words w.word y.1 w.first all) w.is in
-    record { text = (w.word, w.first, v.0); fits = v.1; rest = words_behind words w.word y.1 w.first all }
+    record {
+      text = (w.word, w.first, v.0);
+      fits = v.1;
+      rest = words_behind words w.word y.1 w.first all;
+    }
 
 pub value_again : (k : Kind) (v : Value) (words rest : List Word) → Literal v words rest → Fits k v
     → want (a_value k) words ≡ Ok (v, rest)

@@ -27,7 +27,12 @@ ends_shown g sound start now block same below none = record {
 pub ends_well : {S T : Type 0} (g : Ghosts S) (sound : Type 0) (start now : S) (x : T)
     → g.faults now ≡ g.faults start → EndsFile {T = T} g sound start now (Ok x)
 ends_well g sound start now x same = record {
-  cause = record { later = omega (arith, same); fault = λ is. absurd (cc); counted = λ is. same; damaged = λ b is has. absurd (cc) };
+  cause = record {
+    later = omega (arith, same);
+    fault = λ is. absurd (cc);
+    counted = λ is. same;
+    damaged = λ b is has. absurd (cc);
+  };
   home = λ b is. absurd (cc);
 }
 

@@ -43,7 +43,11 @@ scanned_holds bytes place rest seen scan = record { fit = scan.fit; rest = rest;
 pub scanned_count : (bytes : List ℕ) (place : ℕ) (rest : List ℕ) (seen : List Bool)
     → Scanned bytes place rest seen → HoldsCount place bytes
 scanned_count bytes place rest seen scan =
-    record { held = scan.entries; count = scan.count; holds = scanned_holds bytes place rest seen scan }
+    record {
+      held = scan.entries;
+      count = scan.count;
+      holds = scanned_holds bytes place rest seen scan;
+    }
 
 pub scanned_entries : (bytes : List ℕ) (place : ℕ) (rest : List ℕ) (seen : List Bool)
     (scan : Scanned bytes place rest seen) → scan.entries ≡ entries_in place bytes

@@ -49,7 +49,12 @@ next i p ps vs e = by_test (nat_eq p.child i) (column_values (suc i) ps) refl re
         → Some vs ≡ cond b (option_map (λ ws. first_value p.rec.fields ∷ ws) o) None
         → IsNext i p ps vs
     by_test true (Some ws) here rest e =
-        record { child = equal_from_nat_eq p.child i (sym here); later = ws; more = rest; is = (let same : vs ≡ first_value p.rec.fields ∷ ws = cc in same) }
+        record {
+          child = equal_from_nat_eq p.child i (sym here);
+          later = ws;
+          more = rest;
+          is = (let same : vs ≡ first_value p.rec.fields ∷ ws = cc in same);
+        }
     by_test true None here rest e = absurd (none e)
       where
         none : ◌≡◌ {A = Option (List Value)} (Some vs) None → ⊥
@@ -155,8 +160,12 @@ module _ (form : Form) (key : List Value) (ps : List Part)
       (whole_key form.keys key p.rec.key req.key_fits of.fits.key of.under, are_alone p there)) in
       let fit = columns_fit form.fields 0 ps vs
       (λ p there. (one_value (get_or form.fields p.child no_field) p.rec.fields
-      (req.each p there).fits.fields).1) is (omega (arith, count)) in
-      (record { key = subst (AreFit form.keys) (sym copied) req.key_fits; fields = fit }, copied, all_data (columns copy 0 vs) ∙ ap (λ (k : List Value). columns k 0 vs) copied ∙ columns_are key 0 ps vs each is)
+      (req.each p there).fits.fields).1) is (omega (arith, count)) in (
+        record { key = subst (AreFit form.keys) (sym copied) req.key_fits; fields = fit },
+        copied,
+        all_data (columns copy 0 vs) ∙ ap (λ (k : List Value). columns k 0 vs) copied
+            ∙ columns_are key 0 ps vs each is,
+      )
 
   pub none_by_count : (length ps ≡ length form.fields → ⊥)
       → IsGathered (transpose_rule form) key ps None

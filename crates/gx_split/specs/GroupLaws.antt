@@ -56,13 +56,19 @@ merged (b ∷ mask) [] first others same f g = absurd (omega arith)
 merged (true ∷ mask) (x ∷ fs) [] others same f g = absurd f
 merged (true ∷ mask) (x ∷ fs) (v ∷ first) others same f g =
     let rest = merged mask fs first others (omega arith) f.1 g in
-    record
-    { fit = (f.0, rest.fit); first_is = ap (λ (ws : List Value). v ∷ ws) rest.first_is; others_are = rest.others_are }
+    record {
+      fit = (f.0, rest.fit);
+      first_is = ap (λ (ws : List Value). v ∷ ws) rest.first_is;
+      others_are = rest.others_are;
+    }
 merged (false ∷ mask) (x ∷ fs) first [] same f g = absurd g
 merged (false ∷ mask) (x ∷ fs) first (v ∷ others) same f g =
     let rest = merged mask fs first others (omega arith) f g.1 in
-    record
-    { fit = (g.0, rest.fit); first_is = rest.first_is; others_are = ap (λ (ws : List Value). v ∷ ws) rest.others_are }
+    record {
+      fit = (g.0, rest.fit);
+      first_is = rest.first_is;
+      others_are = ap (λ (ws : List Value). v ∷ ws) rest.others_are;
+    }
 
 -- ---- defaults
 

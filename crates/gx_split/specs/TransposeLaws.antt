@@ -39,8 +39,12 @@ column_of key i (v ∷ vs) p (inl same) =
 column_of key i (v ∷ vs) p (inr there) =
     let later = column_of key (suc i) vs p there in
     let one : suc i + later.at ≡ i + suc later.at = omega arith in
-    record
-    { at = suc later.at; within = omega (arith, later.within); is = later.is ∙ ap (λ (n : ℕ). column_part key n (get_or vs later.at no_value)) one }
+    record {
+      at = suc later.at;
+      within = omega (arith, later.within);
+      is = later.is
+          ∙ ap (λ (n : ℕ). column_part key n (get_or vs later.at no_value)) one;
+    }
 
 column_there : (key : List Value) (i at : ℕ) (vs : List Value) → at < length vs
     → In (column_part key (i + at) (get_or vs at no_value)) (columns key i vs)
@@ -226,8 +230,11 @@ transpose_laws form some = record {
       sym (column_key r.key r.fields p i) ∙ key ∙ column_key s.key s.fields q j;
   has_data = λ r is.
       let n = fit_length form.fields r.fields is.fields in
-      let first = column_there r.key 0 0 r.fields (omega arith) in
-      (column_part r.key (0 + 0) (get_or r.fields 0 no_value), subst (In (column_part r.key (0 + 0) (get_or r.fields 0 no_value))) (sym (all_data (columns r.key 0 r.fields))) first);
+      let first = column_there r.key 0 0 r.fields (omega arith) in (
+        column_part r.key (0 + 0) (get_or r.fields 0 no_value),
+        subst (In (column_part r.key (0 + 0) (get_or r.fields 0 no_value)))
+            (sym (all_data (columns r.key 0 r.fields))) first,
+      );
   told = λ r s is_r is_s e.
       parts_tell form r s some is_r is_s
       (sym (all_data (columns r.key 0 r.fields)) ∙ e ∙ all_data (columns s.key 0 s.fields));

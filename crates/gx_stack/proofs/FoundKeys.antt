@@ -39,8 +39,10 @@ own_once (f ∷ fs) own = (λ h. own.0 f h refl, own_once fs own.1)
 
 pub ascending_once : (fs : List Rec) → Ascends rec_cmp fs → AreOnceEach fs
 ascending_once [] up = tt
-ascending_once (f ∷ fs) up =
-    (λ h. not_before_itself rec_total f (all_in (λ y. rec_cmp f y ≡ Less) fs f up.0 h), ascending_once fs up.1)
+ascending_once (f ∷ fs) up = (
+  λ h. not_before_itself rec_total f (all_in (λ y. rec_cmp f y ≡ Less) fs f up.0 h),
+  ascending_once fs up.1,
+)
 
 own_append : (xs ys : List Rec) → AreUnderOwnKeys xs → AreUnderOwnKeys ys
     → ((x y : Rec) → In x xs → In y ys → y.key ≢ x.key) → AreUnderOwnKeys (xs ++ ys)
@@ -55,7 +57,8 @@ own_append (x ∷ xs) ys own more apart = (
 
 -- ---- the records that one child's records come from
 
--- what was found comes from the record: `key` gives the record's key of it, and `test` what the record's test gives
+-- what was found comes from the record: `key` gives the record's key of it, and `test` what the
+-- record's test gives
 pub record IsLift (rule : Rule) (R : List Rec) (c : ℕ) (key : Rec
     → List Value) (test record_test : Rec → Bool) (f r : Rec) : Type 0 where
   pub there : In r R
@@ -306,11 +309,21 @@ pub record AreFoundBelow (rule : Rule) (name : List ℕ) (span : Span) (R : List
 pub none_found : (rule : Rule) (name : List ℕ) (span : Span) (R : List Rec)
     → AreFoundBelow rule name span R 0 []
 none_found rule name span R =
-    record { sound = λ r h. absurd h; carried = λ r h. absurd h; complete = λ r h e is. absurd (let lt = is.below in omega arith); once = tt }
+    record {
+      sound = λ r h. absurd h;
+      carried = λ r h. absurd h;
+      complete = λ r h e is. absurd (let lt = is.below in omega arith);
+      once = tt;
+    }
 
 later_carried : {rule : Rule} {name : List ℕ} {c : ℕ} {r : Rec} → IsCarriedBelow rule name c r
     → IsCarriedBelow rule name (c + 1) r
-later_carried is = record { part = is.part; there = is.there; carries = is.carries; below = (let lt = is.below in omega arith) }
+later_carried is = record {
+  part = is.part;
+  there = is.there;
+  carries = is.carries;
+  below = (let lt = is.below in omega arith);
+}
 
 -- a child that doesn't carry it
 pub found_skip : (rule : Rule) (name : List ℕ) (span : Span) (R : List Rec) (c : ℕ)
@@ -322,7 +335,12 @@ found_skip rule name span R c recs none are = record {
   complete = λ r h e is. elim (nat_cases is.part.child c) [
     | inl same ↦ absurd (true≢false (sym is.carries ∙ ap (λ n. rule.carries n name) same ∙ none))
     | inr other ↦ are.complete r h e
-        (record { part = is.part; there = is.there; carries = is.carries; below = (let lt = is.below in omega arith) })
+        (record {
+          part = is.part;
+          there = is.there;
+          carries = is.carries;
+          below = (let lt = is.below in omega arith);
+        })
   ];
   once = are.once;
 }
@@ -353,15 +371,24 @@ found_add {rule} laws R set name span c recs fs rs below carries are lifts sound
       carried = λ r h. elim (in_cases r recs rs h) [
         | inl i ↦ later_carried (are.carried r i)
         | inr i ↦ (let f = lifted_from laws R set c key test whether single lift fs rs r lifts i in
-            record { part = part_for c f.0; there = f.2.part; carries = carries; below = omega arith })
+            record {
+              part = part_for c f.0;
+              there = f.2.part;
+              carries = carries;
+              below = omega arith;
+            })
       ];
       complete = λ r h e is. elim (nat_cases is.part.child c) [
         | inl same ↦ in_right r recs rs
             (lifted_complete laws R set c key test whether single lift fs rs lifts complete r
             is.part h is.there same e)
         | inr other ↦ in_left r recs rs
-            (are.complete r h e (record
-            { part = is.part; there = is.there; carries = is.carries; below = (let lt = is.below in omega arith) }))
+            (are.complete r h e (record {
+              part = is.part;
+              there = is.there;
+              carries = is.carries;
+              below = (let lt = is.below in omega arith);
+            }))
       ];
       once = own_append recs rs are.once
           (lifted_once laws R set c key test whether single lift fs rs lifts once) (λ x y i k e.

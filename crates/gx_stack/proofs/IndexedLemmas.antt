@@ -118,7 +118,11 @@ module _ {M : Type 0} (rule : M → Rule) (name : List ℕ) where
 
   pub below_none : (ns : List (Node M)) (carries : ℕ → Bool) → AreIndexedBelow ns carries 0 false
   below_none ns carries =
-      record { some = λ e. absurd (true≢false (sym e)); none = λ e d lt. absurd (omega arith); each = λ d k lt read e. absurd (omega arith) }
+      record {
+        some = λ e. absurd (true≢false (sym e));
+        none = λ e d lt. absurd (omega arith);
+        each = λ d k lt read e. absurd (omega arith);
+      }
 
   -- a child that carries it and is indexed by it
   pub below_carried : (ns : List (Node M)) (carries : ℕ → Bool) (c : ℕ) (carried : Bool)

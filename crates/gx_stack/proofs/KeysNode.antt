@@ -68,7 +68,12 @@ module _ {M : Type 0} (rule : M → Rule) (laws : (m : M) → MappingLaws (rule 
     appended = none;
     fit = λ key h. absurd h;
     those = λ w R set held.
-        record { recs = []; same = refl; found = none_found (rule l.mapping) name span R; few_steps = omega arith };
+        record {
+          recs = [];
+          same = refl;
+          found = none_found (rule l.mapping) name span R;
+          few_steps = omega arith;
+        };
   }
 
   -- a child that doesn't carry the field
@@ -85,7 +90,12 @@ module _ {M : Type 0} (rule : M → Rule) (laws : (m : M) → MappingLaws (rule 
     those = λ w R set held.
         let at = are.those w R set held in
         let more = leaves_below_more l.kids.items c n (child_there rule n l is c valid below) in
-        record { recs = at.recs; same = at.same; found = found_skip (rule l.mapping) name span R c at.recs none at.found; few_steps = omega (arith, at.few_steps, more) };
+        record {
+          recs = at.recs;
+          same = at.same;
+          found = found_skip (rule l.mapping) name span R c at.recs none at.found;
+          few_steps = omega (arith, at.few_steps, more);
+        };
   }
 
   -- and one that does
@@ -198,9 +208,20 @@ module _ {M : Type 0} (rule : M → Rule) (laws : (m : M) → MappingLaws (rule 
               complete = λ q h e.
                   let c = carrier.each q (set'.fits q h) in
                   found.complete q h (ap (λ (f : Form). is_where f name span q) (sym form) ∙ e)
-                  (record { part = c.part; there = c.there; carries = c.carries; below = ((laws m).fit q c.part (set'.fits q h) c.there).0 });
+                  (record {
+                    part = c.part;
+                    there = c.there;
+                    carries = c.carries;
+                    below = ((laws m).fit q c.part (set'.fits q h) c.there).0;
+                  });
               once = found.once;
-              few_steps = omega (arith, at.few_steps, leaves_below_all r.kids ks, ap (λ x. length (leaves_of x)) seen, ap (λ x. entry_total rule x at.recs) seen);
+              few_steps = omega (
+                arith,
+                at.few_steps,
+                leaves_below_all r.kids ks,
+                ap (λ x. length (leaves_of x)) seen,
+                ap (λ x. entry_total rule x at.recs) seen,
+              );
             };
       }
     where
@@ -274,7 +295,15 @@ module _ {M : Type 0} (rule : M → Rule) (laws : (m : M) → MappingLaws (rule 
                   (ap (λ (f : Form). is_where f name span q) (sym form) ∙ e);
               once = lifted_once (laws m) R set' c key test whether single lift found rs lifts.1
                   (ascending_once found (ascends rec_cmp found sel.in_order));
-              few_steps = omega (arith, few, weight, more', leaves_below_all (c + 1) ks, ap (λ x. length (leaves_of x)) seen, ap (λ x. entry_total rule x rs) seen);
+              few_steps = omega (
+                arith,
+                few,
+                weight,
+                more',
+                leaves_below_all (c + 1) ks,
+                ap (λ x. length (leaves_of x)) seen,
+                ap (λ x. entry_total rule x rs) seen,
+              );
             };
       }
     where

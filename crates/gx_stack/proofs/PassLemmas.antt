@@ -30,7 +30,11 @@ pub record Passes {S : Type 0} (g : Ghosts S) (old new : S) : Type 0 where
 
 module _ {S : Type 0} (g : Ghosts S) where
   pub passes_joined : {a b c : S} → Passes g a b → Passes g b c → Passes g a c
-  passes_joined x y = record { reads = reads_joined g x.reads y.reads; whole = λ h. y.whole (x.whole h); counted = y.counted ∙ x.counted }
+  passes_joined x y = record {
+    reads = reads_joined g x.reads y.reads;
+    whole = λ h. y.whole (x.whole h);
+    counted = y.counted ∙ x.counted;
+  }
 
   -- a call passes where it answers Ok
   pub passes : {T : Type 0} {a b : S} {sound : Type 0} {x : T} → Reads g a b

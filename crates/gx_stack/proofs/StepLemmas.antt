@@ -1,4 +1,5 @@
--- How many steps it takes to read the leaves of a node: one for each and one for each of its entries.
+-- How many steps it takes to read the leaves of a node: one for each and one for each of its
+-- entries.
 use Rattle.std.proofs.Common.{◌≡◌, ◌<◌, ◌≤◌, ◌+◌, ◌-◌, ◌^◌, ℕ, zero, suc, Bool, true, false, cond, List, [], ◌∷◌, refl, sym, ap, ◌∙◌, subst, length, map, min, get_or, arith}
 use Rattle.std.specs.List.{sum_by, filter}
 use Rattle.std.specs.FinMap.{entries, len, len-entries}
@@ -30,13 +31,25 @@ fewer {A} f (x ∷ xs) = go (f x) (fewer f xs)
 selected_fewer : (lo hi : List ℕ) (m : LeafMap) → length (selected lo hi m) ≤ len m
 selected_fewer lo hi m =
     let all = filter (λ (e : List ℕ × List ℕ). is_inside lo hi e.0) (entries m) in
-    omega (arith, length-map all entry_of, fewer (λ (e : List ℕ × List ℕ). is_inside lo hi e.0) (entries m), len-entries m)
+    omega (
+      arith,
+      length-map all entry_of,
+      fewer (λ (e : List ℕ × List ℕ). is_inside lo hi e.0)
+          (entries m),
+      len-entries m,
+    )
 
 pub few_read : (before now k : ℕ) (lo hi : List ℕ) (m : LeafMap) (out : List Entry)
     → now ≡ counted before (1 + (length out - k)) → out ≡ selected lo hi m
     → now ≤ before + (1 + len m)
 few_read before now k lo hi m out is same =
-    omega (arith, is, capped (before + (1 + (length out - k))) (2 ^ 64 - 1), ap length same, selected_fewer lo hi m)
+    omega (
+      arith,
+      is,
+      capped (before + (1 + (length out - k))) (2 ^ 64 - 1),
+      ap length same,
+      selected_fewer lo hi m,
+    )
   where
     capped : (a b : ℕ) → min a b ≤ a
     capped a b = omega arith
@@ -57,7 +70,12 @@ below_all : {M : Type 0} (maps : List LeafMap) (c : ℕ) (ks : Kids M)
 below_all maps zero ks = omega arith
 below_all maps (suc c) no_kids = omega arith
 below_all maps (suc c) (kid t ks) =
-    omega (arith, below_all maps c ks, sum_by-append (λ n. 1 + len (map_at maps n)) (leaves_of t) (kids_leaves ks))
+    omega (
+      arith,
+      below_all maps c ks,
+      sum_by-append (λ n. 1 + len (map_at maps n)) (leaves_of t)
+          (kids_leaves ks),
+    )
 
 below_more : {M : Type 0} (maps : List LeafMap) (ns : List (Node M)) (c : ℕ) (n : Node M)
     → c < length ns → steps_below maps (c + 1) (kids_from (map tree_of ns)) ≡ steps_below maps c

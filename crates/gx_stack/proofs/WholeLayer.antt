@@ -48,7 +48,13 @@ Tells rule holds = (d : ℕ) (R S : List Rec) → d < rule.kids → IsSet (rule.
     → IsSet (rule.kid_form d) S → holds d R → holds d S → (r : Rec) → In r R → In r S
 
 pub read_none : (rule : Rule) (holds : ℕ → List Rec → Type 0) → AreRead rule holds 0 [] []
-read_none rule holds = record { data_in_order = tt; others_in_order = tt; data_below = λ p h. absurd h; others_below = λ p h. absurd h; held = λ d lt. absurd (omega arith) }
+read_none rule holds = record {
+  data_in_order = tt;
+  others_in_order = tt;
+  data_below = λ p h. absurd h;
+  others_below = λ p h. absurd h;
+  held = λ d lt. absurd (omega arith);
+}
 
 -- the parts of one child more stand behind those before it
 child_behind : (c : ℕ) (ps : List Part) (found : List Rec) → ((p : Part) → In p ps → p.child < c)
@@ -117,8 +123,11 @@ module _ (rule : Rule) (holds : ℕ → List Rec → Type 0) (by_members : IsByM
               [ inl j ↦ inl (in_left p main others j) | inr j ↦ inr j ]
           | inr k ↦ inl (in_right p main others k)
         ])
-        (λ p h. elim (in_cases p main others h)
-        [ inl k ↦ in_left p (main ++ map (part_for c) found) others (in_left p main (map (part_for c) found) k) | inr k ↦ in_right p (main ++ map (part_for c) found) others k ])
+        (λ p h. elim (in_cases p main others h) [
+          | inl k ↦ in_left p (main ++ map (part_for c) found) others
+              (in_left p main (map (part_for c) found) k)
+          | inr k ↦ in_right p (main ++ map (part_for c) found) others k
+        ])
         (λ p h. in_left p (main ++ map (part_for c) found) others
         (in_right p main (map (part_for c) found) h))
         are.held;
@@ -144,8 +153,11 @@ module _ (rule : Rule) (holds : ℕ → List Rec → Type 0) (by_members : IsByM
           | inr k ↦ elim (in_cases p others (map (part_for c) found) k)
               [ inl j ↦ inl (in_right p main others j) | inr j ↦ inr j ]
         ])
-        (λ p h. elim (in_cases p main others h)
-        [ inl k ↦ in_left p main (others ++ map (part_for c) found) k | inr k ↦ in_right p main (others ++ map (part_for c) found) (in_left p others (map (part_for c) found) k) ])
+        (λ p h. elim (in_cases p main others h) [
+          | inl k ↦ in_left p main (others ++ map (part_for c) found) k
+          | inr k ↦ in_right p main (others ++ map (part_for c) found)
+              (in_left p others (map (part_for c) found) k)
+        ])
         (λ p h. in_right p main (others ++ map (part_for c) found)
         (in_right p others (map (part_for c) found) h))
         are.held;
@@ -161,8 +173,10 @@ both_equal Greater b e = absurd (let x : Greater ≡ Equal = e in cc)
 -- parts that tie have one child and one key
 pub tied_parts : (p q : Part) → part_cmp p q ≡ Equal → (p.child ≡ q.child) × (p.rec.key ≡ q.rec.key)
 tied_parts p q e =
-    let b = both_equal (nat_cmp p.child q.child) (values_cmp p.rec.key q.rec.key) e in
-    (nat_cmp-IsAntisymmetric p.child q.child b.0, slice_cmp-IsAntisymmetric value_cmp_same p.rec.key q.rec.key b.1)
+    let b = both_equal (nat_cmp p.child q.child) (values_cmp p.rec.key q.rec.key) e in (
+      nat_cmp-IsAntisymmetric p.child q.child b.0,
+      slice_cmp-IsAntisymmetric value_cmp_same p.rec.key q.rec.key b.1,
+    )
 
 pub distinct_append : {A : Type 0} (E : A → A → Bool) (xs ys : List A) → IsDistinct E xs
     → IsDistinct E ys → ((x y : A) → In x xs → In y ys → E x y ≡ false) → IsDistinct E (xs ++ ys)
@@ -199,7 +213,11 @@ module _ {rule : Rule} (laws : MappingLaws rule) where
   -- the records that were made have no two keys alike
   made_set : (main : List Part) (found : List Rec) → AreMade rule main found → IsSet rule.form found
   made_set main found made =
-      record { fits = made.fit; one = λ r s h k e. ascends_once found r s (ascends rec_cmp found made.in_order) h k e }
+      record {
+        fits = made.fit;
+        one = λ r s h k e. ascends_once found r s
+            (ascends rec_cmp found made.in_order) h k e;
+      }
 
   -- each child holds the parts for it
   pub all_held : (holds : ℕ → List Rec → Type 0) → IsByMembers rule.kids holds

@@ -34,7 +34,11 @@ ChildHolds {M} rule kids maps d R = (k : Node M) → k ≡ get_or kids d k
 pub held_set : {M : Type 0} (rule : M → Rule) (t : Tree M) (whole : Type 0) (maps : List LeafMap)
     (found : List Rec) → AreHeld rule t whole maps found → whole → IsSet (tree_form rule t) found
 held_set rule t whole maps found are w =
-    record { fits = are.fit; one = λ r s h k e. ascends_once found r s (ascends rec_cmp found (are.in_order w)) h k e }
+    record {
+      fits = are.fit;
+      one = λ r s h k e. ascends_once found r s
+          (ascends rec_cmp found (are.in_order w)) h k e;
+    }
 
 pub found_set : {M : Type 0} (rule : M → Rule) (t : Tree M) (whole : Type 0) (maps : List LeafMap)
     (o : Option (List Rec)) → IsHeld rule t whole maps o → is_some o ≡ true → whole
@@ -66,8 +70,11 @@ kids_hold : {M : Type 0} (rule : M → Rule) (maps : List LeafMap) (ns : List (N
     → List Rec) → ((d : ℕ) → d < length ns → ChildHolds rule ns maps d (Rs d))
     → AreInternal rule (kids_from (map tree_of ns)) Rs maps
 kids_hold rule maps [] Rs hold = tt
-kids_hold rule maps (n ∷ ns) Rs hold =
-    (hold 0 (omega arith) n refl, kids_hold rule maps ns (λ d. Rs (suc d)) (λ d lt k read. hold (suc d) (omega arith) k read))
+kids_hold rule maps (n ∷ ns) Rs hold = (
+  hold 0 (omega arith) n refl,
+  kids_hold rule maps ns (λ d. Rs (suc d))
+      (λ d lt k read. hold (suc d) (omega arith) k read),
+)
 
 pub leaf_node_held : {M : Type 0} (rule : M → Rule) (n : Node M) (l : LeafNode) → n ≡ V.Leaf l
     → (whole : Type 0) (maps : List LeafMap) (o : Option (List Rec))

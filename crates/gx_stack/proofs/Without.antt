@@ -12,8 +12,11 @@ use Rattle.gx_gather.proofs.Orders.{values_itself, values_other}
 pub from_without : (R : List Rec) (o r : Rec) → In r (changed R (Some o) None)
     → In r R × (r.key ≢ o.key)
 from_without R o r h =
-    let f = in_filter (λ q. not (has_key_of o q)) r R h in
-    (f.0, λ e. true≢false (sym (values_itself o.key) ∙ ap (λ k. eq_by_cmp values_cmp k o.key) (sym e) ∙ not-true _ f.1))
+    let f = in_filter (λ q. not (has_key_of o q)) r R h in (
+      f.0,
+      λ e. true≢false (sym (values_itself o.key)
+          ∙ ap (λ k. eq_by_cmp values_cmp k o.key) (sym e) ∙ not-true _ f.1),
+    )
 
 pub to_without : (R : List Rec) (o r : Rec) → In r R → r.key ≢ o.key
     → In r (changed R (Some o) None)

@@ -41,7 +41,11 @@ pub counted_refusal : (stop : AttachStop) (a b : ℕ) → a ≤ b → (stop ≡ 
     → ((stop ≡ attach.Fault → ⊥) → b ≡ a)
     → Counted (not (is_fault (not_attached stop))) a b
 counted_refusal attach.Fault a b later rose same =
-    record { later = later; rose = λ e. rose refl; same = λ e. absurd (let f : false ≡ true = e in cc) }
+    record {
+      later = later;
+      rose = λ e. rose refl;
+      same = λ e. absurd (let f : false ≡ true = e in cc);
+    }
 counted_refusal attach.Missing a b later rose same =
     let still = same (λ (e : attach.Missing ≡ attach.Fault). cc) in
     record { later = later; rose = λ e. absurd (let f : true ≡ false = e in cc); same = λ e. still }

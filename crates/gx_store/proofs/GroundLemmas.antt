@@ -1,4 +1,5 @@
--- What leaves are on pages depends on the numbers of pages alone: on no head, and on no count of blocks.
+-- What leaves are on pages depends on the numbers of pages alone: on no head, and on no count of
+-- blocks.
 use Rattle.std.proofs.Common.{◌≡◌, ℕ, ◌<◌, ◌≤◌, List, [], ◌∷◌, refl, sym, ap, subst, ◌∙◌}
 use Rattle.gx_ports.specs.declared.kinds.LeafKind.{LeafKind}
 use Rattle.gx_ports.specs.declared.kinds.LeafKind.TheVariants as kinds

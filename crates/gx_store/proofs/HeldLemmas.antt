@@ -59,14 +59,25 @@ module _ (base : Ground) (specs : List LeafSpec) (maps : List LeafMap) (sheets :
             (v.working s.pages) ground places working;
       };
       was_whole =
-          record { told = told; settled = steady; laid = laid_at (v.ground s.pages) s.places.items (v.kept s.pages) ground places kept };
+          record {
+            told = told;
+            settled = steady;
+            laid = laid_at (v.ground s.pages) s.places.items
+                (v.kept s.pages) ground places kept;
+          };
     }
 
 -- where the numbers and the head are those of the blocks, so is the ground
 pub ground_same : (blocks : List (List ℕ)) (size count : ℕ) (head : List (List ℕ))
     → size ≡ pages_of (length blocks) → count ≡ length blocks
     → head ≡ head_of blocks
-    → ground_on blocks ≡ record { size = size; tables = 16; blocks = count; first = 7 + size; head = head }
+    → ground_on blocks ≡ record {
+      size = size;
+      tables = 16;
+      blocks = count;
+      first = 7 + size;
+      head = head;
+    }
 ground_same blocks size count head e n h =
     let es = sym e in
     let ns = sym n in

@@ -25,8 +25,8 @@ module _ {M : Type 0} {g : device.Ghosts M} where
   module _ {v : page_view.Ghosts (Paged M g)} (old new : PagedLeaves (Paged M g) v)
       (schema equation : List ℕ) (specs : List LeafSpec)
       (blocks : List (List ℕ)) where
-    -- Leaves that were whole when they were opened, and were only read since, leave blocks that are settled with the same maps. The
-    -- last premise is what `close` says of its blocks.
+    -- Leaves that were whole when they were opened, and were only read since, leave blocks that are
+    -- settled with the same maps. The last premise is what `close` says of its blocks.
     pub settled_still : IsHeadOf schema equation specs (head_of old) → IsJustOpened old
         → IsWhole old → head_of new ≡ head_of old
         → kept_of new ≡ kept_of old → (WasWhole old → WasWhole new)
@@ -45,7 +45,8 @@ module _ {M : Type 0} {g : device.Ghosts M} where
           leaves = λ i. specs_of (places_in new);
         }) (still (just.was_whole whole))))
 
-  -- While what is stored stays, and no commit has failed, the same is read from the blocks, whether the leaves are whole or not.
+  -- While what is stored stays, and no commit has failed, the same is read from the blocks, whether
+  -- the leaves are whole or not.
   pub alike_still : (old new : Journal M g) → IsTrue g.tells
       → g.size old.device ≡ length (content_of old).now.blocks
       → g.size new.device ≡ length (content_of new).now.blocks

@@ -34,7 +34,13 @@ proper-append (t ∷ ts) us p q = (p.0, proper-append ts us p.1 q)
 pub between_blanks : (t : Lexeme) (rest : List ℕ) → IsProper t
     → FirstToken (32 ∷ (spelling t ++ 32 ∷ rest)) t (32 ∷ rest)
 between_blanks t rest proper = let p = parts t rest proper in
-    record { blanks = 32 ∷ []; here = spelling t ++ 32 ∷ rest; parts = refl; are_blanks = inr (refl, tt); begins = record { parts = refl; is_token = p.0; follows = p.1 } }
+    record {
+      blanks = 32 ∷ [];
+      here = spelling t ++ 32 ∷ rest;
+      parts = refl;
+      are_blanks = inr (refl, tt);
+      begins = record { parts = refl; is_token = p.0; follows = p.1 };
+    }
   where
     parts : (t : Lexeme) (rest : List ℕ) → IsProper t → IsToken t × MayFollow t (32 ∷ rest)
     parts (Word w) rest p = (p, refl)
@@ -54,7 +60,10 @@ record Written (ts : List Lexeme) (rest : List ℕ) : Type 0 where
 written : (ts : List Lexeme) (rest : List ℕ) → AllByRecursion IsProper ts → Written ts rest
 written [] rest p = record { text = rest; lexed = refl }
 written (t ∷ ts) rest p = let w = written ts rest p.1 in
-    record { text = spelling t ++ 32 ∷ w.text; lexed = (32 ∷ w.text, between_blanks t w.text p.0, w.lexed) }
+    record {
+      text = spelling t ++ 32 ∷ w.text;
+      lexed = (32 ∷ w.text, between_blanks t w.text p.0, w.lexed);
+    }
 
 -- ---- fronts
 
@@ -74,8 +83,11 @@ pub front_first : {A B : Type 0} (first : A → List ℕ → List ℕ → Type 0
     → IsFront whole before
 front_first first second whole before join some f =
     let x = f.0 in
-    let y = (some x).0 in
-    (y, λ tail. let s = (some x).1 tail in let t = f.1 s.0 in (t.0, t.1, t.2, join x y (32 ∷ t.0) (32 ∷ s.0) (32 ∷ tail) t.3 s.1))
+    let y = (some x).0 in (
+      y,
+      λ tail. let s = (some x).1 tail in let t = f.1 s.0 in
+          (t.0, t.1, t.2, join x y (32 ∷ t.0) (32 ∷ s.0) (32 ∷ tail) t.3 s.1),
+    )
 
 -- a text of the tokens that a reader takes, and of those that another text begins with
 pub record Behind {A : Type 0} (shape : A → List ℕ → List ℕ → Type 0) (x : A) (tokens : List Lexeme)
@@ -90,7 +102,12 @@ pub text_behind : {A : Type 0} (reader : List ℕ → Result (A × List ℕ) Fau
     → Behind shape y.0 (t.taken ++ before) text mid
 text_behind reader shape bytes y before text mid t lexed =
     let w = written t.taken text t.proper in
-    record { whole = w.text; lexed = Lexes-append (32 ∷ w.text) t.taken (32 ∷ text) before mid w.lexed lexed; shaped = t.shaped (32 ∷ w.text) (32 ∷ text) w.lexed }
+    record {
+      whole = w.text;
+      lexed = Lexes-append (32 ∷ w.text) t.taken
+          (32 ∷ text) before mid w.lexed lexed;
+      shaped = t.shaped (32 ∷ w.text) (32 ∷ text) w.lexed;
+    }
 
 pub front_later : {A B : Type 0} (reader : List ℕ → Result (A × List ℕ) Fault) (first : A → List ℕ
     → List ℕ → Type 0) (second : A → B → List ℕ → List ℕ → Type 0) (whole : B → List ℕ → List ℕ
@@ -111,15 +128,24 @@ pub some_both : {A B : Type 0} (first : A → List ℕ → List ℕ → Type 0) 
     → IsInhabited whole
 some_both first second whole join f s =
     let x = f.0 in
-    let y = (s x).0 in
-    (y, λ tail. let b = (s x).1 tail in let a = f.1 b.0 in (a.0, join x y (32 ∷ a.0) (32 ∷ b.0) (32 ∷ tail) a.1 b.1))
+    let y = (s x).0 in (
+      y,
+      λ tail. let b = (s x).1 tail in let a = f.1 b.0 in
+          (a.0, join x y (32 ∷ a.0) (32 ∷ b.0) (32 ∷ tail) a.1 b.1),
+    )
 
 -- a token is a text of the shape
 pub some_token : {A : Type 0} (shape : A → List ℕ → List ℕ → Type 0) (x : A) (t : Lexeme)
     → IsProper t → ((bytes rest : List ℕ) → the t bytes rest → shape x bytes rest)
     → IsInhabited shape
-some_token shape x t proper is =
-    (x, λ tail. (spelling t ++ 32 ∷ tail, is (32 ∷ (spelling t ++ 32 ∷ tail)) (32 ∷ tail) (between_blanks t tail proper)))
+some_token shape x t proper is = (
+  x,
+  λ tail. (
+    spelling t ++ 32 ∷ tail,
+    is (32 ∷ (spelling t ++ 32 ∷ tail)) (32 ∷ tail)
+        (between_blanks t tail proper),
+  ),
+)
 
 -- ---- one token
 
@@ -220,8 +246,11 @@ want_met meaning shape bytes t rest (Ok x) takes h e =
     takes_token meaning shape bytes t x rest
     (proper_token meaning t x (takes.proper x) e h.begins.is_token) e
     (λ b r f. takes.shaped t x b r e f) h
-want_met meaning shape bytes t rest (Err reason) takes h e =
-    ([], inl (fault_here meaning bytes t rest reason (subst (HasReason t) e (takes.reason t)) h e), front_none shape takes.some)
+want_met meaning shape bytes t rest (Err reason) takes h e = (
+  [],
+  inl (fault_here meaning bytes t rest reason (subst (HasReason t) e (takes.reason t)) h e),
+  front_none shape takes.some,
+)
 
 want_by : {A : Type 0} (meaning : Lexeme → Result A Why) (shape : A → List ℕ → List ℕ
     → Type 0) (bytes : List ℕ) (n : Result (Lexeme × List ℕ) Fault) → TakesToken meaning shape
@@ -243,7 +272,13 @@ abbrev pub Nothing : {A : Type 0} → A → List ℕ → List ℕ → Type 0
 Nothing x bytes rest = bytes ≡ rest
 
 pub local_done : {A : Type 0} (x : A) → IsLocal (λ b. Ok (x, b)) Nothing
-local_done x bytes = record { taken = []; proper = tt; lexed = refl; others = λ other rest l. ap (λ (z : List ℕ). Ok (x, z)) l; shaped = λ other rest l. l }
+local_done x bytes = record {
+  taken = [];
+  proper = tt;
+  lexed = refl;
+  others = λ other rest l. ap (λ (z : List ℕ). Ok (x, z)) l;
+  shaped = λ other rest l. l;
+}
 
 pub some_nothing : {A : Type 0} (x : A) → IsInhabited (Nothing {A = A})
 some_nothing x = (x, λ tail. (tail, refl))
@@ -266,7 +301,12 @@ later_fault r shape k bytes y f before t (inl s) = inl (record {
       rw (t.others other p.0 p.1) (s.others p.0 there after p.2 first);
 })
 later_fault r shape k bytes y f before t (inr s) =
-    inr (record { here = s.here; lexed = Lexes-append bytes t.taken y.1 before s.here t.lexed s.lexed; none = s.none })
+    inr (record {
+      here = s.here;
+      lexed = Lexes-append bytes t.taken y.1 before s.here t.lexed
+          s.lexed;
+      none = s.none;
+    })
 
 -- a fault of the first one
 pub first_fault : {A C : Type 0} (r : List ℕ → Result (A × List ℕ) Fault) (k : A × List ℕ
@@ -300,8 +340,11 @@ both_take r k first second whole bytes y (Ok x) join t s = record {
   shaped = λ other rest l. let p = Lexes-split other t.taken s.taken rest l in
       join y.0 x.0 other p.0 rest (t.shaped other p.0 p.1) (s.shaped p.0 rest p.2);
 }
-both_take r k first second whole bytes y (Err f) join t s =
-    (t.taken ++ s.0, later_fault r first k bytes y f s.0 t s.1, front_later r first second whole bytes y s.0 join t s.2)
+both_take r k first second whole bytes y (Err f) join t s = (
+  t.taken ++ s.0,
+  later_fault r first k bytes y f s.0 t s.1,
+  front_later r first second whole bytes y s.0 join t s.2,
+)
 
 bind_by : {A B : Type 0} (r : List ℕ → Result (A × List ℕ) Fault) (k : A → List ℕ
     → Result (B × List ℕ) Fault) (first : A → List ℕ → List ℕ → Type 0) (second : A → B → List ℕ
@@ -312,8 +355,11 @@ bind_by : {A B : Type 0} (r : List ℕ → Result (A × List ℕ) Fault) (k : A 
     → Outcome (λ b. r b >>= λ z. k z.0 z.1) whole bytes (o >>= λ z. k z.0 z.1)
 bind_by r k first second whole bytes (Ok y) join some t each =
     both_take r k first second whole bytes y (k y.0 y.1) join t (each y.0 y.1)
-bind_by r k first second whole bytes (Err f) join some t each =
-    (t.0, first_fault r (λ z. k z.0 z.1) bytes f t.0 t.1, front_first first second whole t.0 join some t.2)
+bind_by r k first second whole bytes (Err f) join some t each = (
+  t.0,
+  first_fault r (λ z. k z.0 z.1) bytes f t.0 t.1,
+  front_first first second whole t.0 join some t.2,
+)
 
 pub local_bind : {A B : Type 0} (r : List ℕ → Result (A × List ℕ) Fault) (k : A → List ℕ
     → Result (B × List ℕ) Fault) (first : A → List ℕ → List ℕ → Type 0) (second : A → B → List ℕ
@@ -346,7 +392,17 @@ mapped_fault : {A B : Type 0} (g : A → B) (r : List ℕ → Result (A × List 
     (f : Fault) (before : List Lexeme) → FaultBehind r bytes f before
     → FaultBehind {C = B × List ℕ} (λ b. map_ok (λ x. (g x.0, x.1)) (r b)) bytes f before
 mapped_fault g r bytes f before (inl s) =
-    inl (record { here = s.here; token = s.token; rest = s.rest; lexed = s.lexed; first = s.first; reason = s.reason; is = s.is; others = λ other there after l first. ap (map_ok (λ x. (g x.0, x.1))) (s.others other there after l first) })
+    inl (record {
+      here = s.here;
+      token = s.token;
+      rest = s.rest;
+      lexed = s.lexed;
+      first = s.first;
+      reason = s.reason;
+      is = s.is;
+      others = λ other there after l first.
+          ap (map_ok (λ x. (g x.0, x.1))) (s.others other there after l first);
+    })
 mapped_fault g r bytes f before (inr s) = inr s
 
 mapped_by : {A B : Type 0} (g : A → B) (r : List ℕ → Result (A × List ℕ) Fault) (shape : A → List ℕ

@@ -17,10 +17,12 @@ a_is_word : IsWord (codes "a")
 a_is_word = record { starts = refl; each = (refl, tt); short = omega arith }
 
 pub some_word : {A : Type 0} (x : A) → IsInhabited {A = A} (λ _. AWord)
-some_word x = some_token (λ _. AWord) x (Word (codes "a")) a_is_word (λ bytes rest h. (codes "a", h))
+some_word x = some_token (λ _. AWord) x (Word (codes "a")) a_is_word
+    (λ bytes rest h. (codes "a", h))
 
 pub some_number : {A : Type 0} (x : A) → IsInhabited {A = A} (λ _. ANumber)
-some_number x = some_token (λ _. ANumber) x (Number (codes "1")) one_is_number (λ bytes rest h. (codes "1", h))
+some_number x = some_token (λ _. ANumber) x (Number (codes "1")) one_is_number
+    (λ bytes rest h. (codes "1", h))
 
 pub some_mark : {A : Type 0} (x : A) (t : Lexeme) → IsProper t → IsInhabited {A = A} (λ _. the t)
 some_mark x t proper = some_token (λ _. the t) x t proper (λ bytes rest h. h)
@@ -97,7 +99,12 @@ open_reason Equals = λ e. absurd cc
 open_reason End = refl
 
 pub takes_open : TakesToken an_open (λ _. the Open)
-takes_open = record { proper = λ y e. absurd cc; shaped = λ t u bytes rest e h. subst (λ (z : Lexeme). the z bytes rest) (is_open t u e) h; reason = open_reason; some = some_mark tt Open tt }
+takes_open = record {
+  proper = λ y e. absurd cc;
+  shaped = λ t u bytes rest e h. subst (λ (z : Lexeme). the z bytes rest) (is_open t u e) h;
+  reason = open_reason;
+  some = some_mark tt Open tt;
+}
 
 close_reason : (t : Lexeme) → HasReason t (a_close t)
 close_reason (Word w) = λ e. absurd cc
@@ -110,7 +117,12 @@ close_reason Equals = λ e. absurd cc
 close_reason End = refl
 
 pub takes_close : TakesToken a_close (λ _. the Close)
-takes_close = record { proper = λ y e. absurd cc; shaped = λ t u bytes rest e h. subst (λ (z : Lexeme). the z bytes rest) (is_close t u e) h; reason = close_reason; some = some_mark tt Close tt }
+takes_close = record {
+  proper = λ y e. absurd cc;
+  shaped = λ t u bytes rest e h. subst (λ (z : Lexeme). the z bytes rest) (is_close t u e) h;
+  reason = close_reason;
+  some = some_mark tt Close tt;
+}
 
 comma_reason : (t : Lexeme) → HasReason t (a_comma t)
 comma_reason (Word w) = λ e. absurd cc
@@ -123,7 +135,12 @@ comma_reason Equals = λ e. absurd cc
 comma_reason End = refl
 
 pub takes_comma : TakesToken a_comma (λ _. the Comma)
-takes_comma = record { proper = λ y e. absurd cc; shaped = λ t u bytes rest e h. subst (λ (z : Lexeme). the z bytes rest) (is_comma t u e) h; reason = comma_reason; some = some_mark tt Comma tt }
+takes_comma = record {
+  proper = λ y e. absurd cc;
+  shaped = λ t u bytes rest e h. subst (λ (z : Lexeme). the z bytes rest) (is_comma t u e) h;
+  reason = comma_reason;
+  some = some_mark tt Comma tt;
+}
 
 equals_reason : (t : Lexeme) → HasReason t (an_equals t)
 equals_reason (Word w) = λ e. absurd cc
@@ -136,7 +153,12 @@ equals_reason Equals = tt
 equals_reason End = refl
 
 pub takes_equals : TakesToken an_equals (λ _. the Equals)
-takes_equals = record { proper = λ y e. absurd cc; shaped = λ t u bytes rest e h. subst (λ (z : Lexeme). the z bytes rest) (is_equals t u e) h; reason = equals_reason; some = some_mark tt Equals tt }
+takes_equals = record {
+  proper = λ y e. absurd cc;
+  shaped = λ t u bytes rest e h. subst (λ (z : Lexeme). the z bytes rest) (is_equals t u e) h;
+  reason = equals_reason;
+  some = some_mark tt Equals tt;
+}
 
 comma_or_close_reason : (t : Lexeme) → HasReason t (comma_or_close t)
 comma_or_close_reason (Word w) = λ e. absurd cc
@@ -169,4 +191,10 @@ pub local_close : IsLocal (want a_close) (λ _. the Close)
 local_close = local_want a_close (λ _. the Close) takes_close
 
 pub the_end : the End (32 ∷ []) []
-the_end = record { blanks = 32 ∷ []; here = []; parts = refl; are_blanks = inr (refl, tt); begins = record { parts = refl; is_token = tt; follows = refl } }
+the_end = record {
+  blanks = 32 ∷ [];
+  here = [];
+  parts = refl;
+  are_blanks = inr (refl, tt);
+  begins = record { parts = refl; is_token = tt; follows = refl };
+}

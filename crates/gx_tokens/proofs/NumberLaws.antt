@@ -32,12 +32,18 @@ value_after v [] d = omega arith
 value_after v (x ∷ xs) d = value_after (v * 10 + (x - 48)) xs d
 
 one_digit : (n : ℕ) → n < 10 → IsDecimal n ((48 + n) ∷ [])
-one_digit n lt = record { digits = record { some = omega arith; each = (digit_is n lt, tt) }; value = omega arith }
+one_digit n lt = record {
+  digits = record { some = omega arith; each = (digit_is n lt, tt) };
+  value = omega arith;
+}
 
 last_digit : (n : ℕ) (ds : List ℕ) → 10 ≤ n → IsDecimal (n / 10) ds
     → IsDecimal n (ds ++ ((48 + n % 10) ∷ []))
 last_digit n ds big h = record {
-  digits = record { some = omega (arith, length-append ds ((48 + n % 10) ∷ [])); each = each-append ds (48 + n % 10) h.digits.each (digit_is (n % 10) (omega arith)) };
+  digits = record {
+    some = omega (arith, length-append ds ((48 + n % 10) ∷ []));
+    each = each-append ds (48 + n % 10) h.digits.each (digit_is (n % 10) (omega arith));
+  };
   value = value_after 0 ds (n % 10) ∙ (ap (λ (v : ℕ). v * 10 + n % 10) h.value ∙ omega arith);
 }
 

@@ -11,17 +11,35 @@ use Rattle.gx_tokens.proofs.QuoteLaws.{IsQuoted-doubled}
 pub token_printed : (t : Lexeme) (rest : List ℕ) → IsToken t → MayFollow t rest
     → the t (spelling t ++ rest) rest
 token_printed t rest token follows =
-    record { blanks = []; here = spelling t ++ rest; parts = refl; are_blanks = tt; begins = record { parts = refl; is_token = token; follows = follows } }
+    record {
+      blanks = [];
+      here = spelling t ++ rest;
+      parts = refl;
+      are_blanks = tt;
+      begins = record { parts = refl; is_token = token; follows = follows };
+    }
 
 -- a space may stand before a token
 pub behind_space : (t : Lexeme) (bytes rest : List ℕ) → the t bytes rest → the t (32 ∷ bytes) rest
 behind_space t bytes rest h =
-    record { blanks = 32 ∷ h.blanks; here = h.here; parts = ap (λ (ys : List ℕ). 32 ∷ ys) h.parts; are_blanks = inr (refl, h.are_blanks); begins = h.begins }
+    record {
+      blanks = 32 ∷ h.blanks;
+      here = h.here;
+      parts = ap (λ (ys : List ℕ). 32 ∷ ys) h.parts;
+      are_blanks = inr (refl, h.are_blanks);
+      begins = h.begins;
+    }
 
 -- an LF may stand before a token
 pub behind_line : (t : Lexeme) (bytes rest : List ℕ) → the t bytes rest → the t (10 ∷ bytes) rest
 behind_line t bytes rest h =
-    record { blanks = 10 ∷ h.blanks; here = h.here; parts = ap (λ (ys : List ℕ). 10 ∷ ys) h.parts; are_blanks = inr (refl, h.are_blanks); begins = h.begins }
+    record {
+      blanks = 10 ∷ h.blanks;
+      here = h.here;
+      parts = ap (λ (ys : List ℕ). 10 ∷ ys) h.parts;
+      are_blanks = inr (refl, h.are_blanks);
+      begins = h.begins;
+    }
 
 pub word_printed : (word rest : List ℕ) → IsWord word → continues_run rest ≡ false
     → the (Word word) (word ++ rest) rest

@@ -50,7 +50,8 @@ pub doubled_plain : (text : List ℕ)
     → ((k : ℕ) → k < length text → (slice_index text k == 34) ≡ true → ⊥) → doubled text ≡ text
 doubled_plain [] none = refl
 doubled_plain (b ∷ bs) none =
-    elim (b == 34) as (λ t. (b == 34) ≡ t → cond t (34 ∷ 34 ∷ doubled bs) (b ∷ doubled bs) ≡ b ∷ bs) [
+    elim (b == 34) as (λ t. (b == 34) ≡ t → cond t (34 ∷ 34 ∷ doubled bs)
+    (b ∷ doubled bs) ≡ b ∷ bs) [
       | true ↦ λ is. absurd (none 0 (omega arith) is)
       | false ↦ λ _. ap (λ (ys : List ℕ). b ∷ ys)
           (doubled_plain bs (λ k lt. none (suc k) (omega arith)))
@@ -118,8 +119,11 @@ quote_found bytes (Some k) at first e =
     let same : k ≡ at = ap (λ o. unwrap_or o 0) e in
     subst (λ n. (n < length bytes)
     × (after_quote bytes ≡ cond (list_all is_printable (take n bytes))
-    (Some (drop (suc n) bytes)) None)) same
-    (first.0.high, quote_at bytes k first.0.high (λ j lt. first.0.before j (omega arith) lt) first.1)
+    (Some (drop (suc n) bytes)) None)) same (
+      first.0.high,
+      quote_at bytes k first.0.high
+          (λ j lt. first.0.before j (omega arith) lt) first.1,
+    )
 
 -- what follows the quote that was found, where all bytes before it are printable
 pub behind_printable : (bytes : List ℕ) (found : Option ℕ) (at : ℕ)

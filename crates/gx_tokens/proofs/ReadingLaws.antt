@@ -57,7 +57,12 @@ pub want_ok : {A : Type 0} (meaning : Lexeme → Result A Why) (bytes : List ℕ
 want_ok meaning bytes y e =
     let a = bind_ok (next_token bytes) (λ x. met bytes (meaning x.0) x.1) y e in
     let w = met_ok bytes (meaning a.0.0) a.0.1 y a.2 in
-    record { token = a.0.0; first = subst (FirstToken bytes a.0.0) w.1 (first_found bytes a.0 a.1); is = w.0 }
+    record {
+      token = a.0.0;
+      first = subst (FirstToken bytes a.0.0) w.1
+          (first_found bytes a.0 a.1);
+      is = w.0;
+    }
 
 pub want_again : {A : Type 0} (meaning : Lexeme → Result A Why) (bytes rest : List ℕ) (t : Lexeme)
     (x : A) → FirstToken bytes t rest → meaning t ≡ Ok x → want meaning bytes ≡ Ok (x, rest)

@@ -69,8 +69,13 @@ here_word [] rest word apart = absurd word.starts
 here_word (b ∷ bs) rest word apart =
     let starts : is_word_start b ≡ true = word.starts in
     let big : 95 ≤ b = word_start_from b starts in
-    no_mark b (bs ++ rest) (record
-    { not_open = λ e. omega arith; not_close = λ e. omega arith; not_comma = λ e. omega arith; not_equals = λ e. omega arith; not_quote = λ e. omega arith })
+    no_mark b (bs ++ rest) (record {
+      not_open = λ e. omega arith;
+      not_close = λ e. omega arith;
+      not_comma = λ e. omega arith;
+      not_equals = λ e. omega arith;
+      not_quote = λ e. omega arith;
+    })
     ∙ (cond-true (is_word_start b) _ _ starts
     ∙ ap (token_or Word (length (b ∷ (bs ++ rest)))) (word_again (b ∷ bs) rest word apart))
 
@@ -94,7 +99,14 @@ unsigned_again : (text rest : List ℕ) → prefix_len is_digit (text ++ rest) �
     → split_digits 0 (text ++ rest) ≡ Some (text, rest)
 unsigned_again text rest run some apart =
     let k : 0 + length text ≡ length text = omega arith in
-    rw (run, some, k, take_at text rest (length text) refl, drop_at text rest (length text) refl, apart) refl
+    rw (
+      run,
+      some,
+      k,
+      take_at text rest (length text) refl,
+      drop_at text rest (length text) refl,
+      apart,
+    ) refl
 
 plain_again : (b : ℕ) (bs rest : List ℕ) → AreDigits (b ∷ bs) → continues_run rest ≡ false
     → split_number (b ∷ (bs ++ rest)) ≡ Some (b ∷ bs, rest)
@@ -114,7 +126,14 @@ signed_again digits rest h apart =
     let text = 45 ∷ digits in
     let n = digits_again digits rest h apart in
     let k : 1 + length digits ≡ suc (length digits) = omega arith in
-    rw (n.0, n.1, k, take_at text rest (length text) refl, drop_at text rest (length text) refl, apart) refl
+    rw (
+      n.0,
+      n.1,
+      k,
+      take_at text rest (length text) refl,
+      drop_at text rest (length text) refl,
+      apart,
+    ) refl
 
 here_plain : (text rest : List ℕ) → AreDigits text → continues_run rest ≡ false
     → token_here (text ++ rest) ≡ Ok (Number text, rest)
@@ -123,8 +142,13 @@ here_plain (b ∷ bs) rest h apart =
     let range = digit_range b h.each.0 in
     let low : 48 ≤ b = range.0 in
     let high : b ≤ 57 = range.1 in
-    no_mark b (bs ++ rest) (record
-    { not_open = λ e. omega arith; not_close = λ e. omega arith; not_comma = λ e. omega arith; not_equals = λ e. omega arith; not_quote = λ e. omega arith })
+    no_mark b (bs ++ rest) (record {
+      not_open = λ e. omega arith;
+      not_close = λ e. omega arith;
+      not_comma = λ e. omega arith;
+      not_equals = λ e. omega arith;
+      not_quote = λ e. omega arith;
+    })
     ∙ (cond-false (is_word_start b) _ _ (low_no_word b high)
     ∙ ap (token_or Number (length (b ∷ (bs ++ rest)))) (plain_again b bs rest h apart))
 

@@ -81,7 +81,10 @@ number_by : (b : ℕ) (bs : List ℕ) (y : List ℕ × List ℕ) (t : Bool) → 
     → cond (eqb (prefix_len is_digit (drop (cond t 1 0) (b ∷ bs))) 0 || continues_run
     (drop (cond t 1 0 + prefix_len is_digit (drop (cond t 1 0) (b ∷ bs))) (b ∷ bs)))
     None
-    (Some (take (cond t 1 0 + prefix_len is_digit (drop (cond t 1 0) (b ∷ bs))) (b ∷ bs), drop (cond t 1 0 + prefix_len is_digit (drop (cond t 1 0) (b ∷ bs))) (b ∷ bs))) ≡ Some y
+    (Some (
+      take (cond t 1 0 + prefix_len is_digit (drop (cond t 1 0) (b ∷ bs))) (b ∷ bs),
+      drop (cond t 1 0 + prefix_len is_digit (drop (cond t 1 0) (b ∷ bs))) (b ∷ bs),
+    )) ≡ Some y
     → IsNumber y.0 × Taken (b ∷ bs) y.0 y.1
 number_by b bs y true sign e =
     let n = prefix_len is_digit bs in
@@ -141,8 +144,10 @@ closes false (b ∷ bs) rest e =
     ))
     (λ no h. cond_both (is_printable b) (after_quoted false bs) None
     (λ (r : Option (List ℕ)). r ≡ Some rest → Closes false (b ∷ bs) rest)
-    (λ printable k. let c = closes false bs rest k in
-    ((b ∷ c.0.0, ap (λ (ys : List ℕ). b ∷ ys) c.0.1, inr (eqb-false _ _ no, printable, c.0.2)), c.1))
+    (λ printable k. let c = closes false bs rest k in (
+      (b ∷ c.0.0, ap (λ (ys : List ℕ). b ∷ ys) c.0.1, inr (eqb-false _ _ no, printable, c.0.2)),
+      c.1,
+    ))
     (λ _ k. absurd cc)
     h)
     e
@@ -189,7 +194,11 @@ quote_case b bs left x is e =
     let t = token_or_ok Quoted left (split_quoted bs) x e in
     let q = quoted_found bs t.0 t.1 in
     subst (λ (y : Lexeme × List ℕ). Begins (b ∷ bs) y.0 y.1) t.2
-    (record { parts = ap (λ (n : ℕ). n ∷ bs) (eqb-true b 34 is) ∙ q.1; is_token = q.0; follows = q.2 })
+    (record {
+      parts = ap (λ (n : ℕ). n ∷ bs) (eqb-true b 34 is) ∙ q.1;
+      is_token = q.0;
+      follows = q.2;
+    })
 
 word_case : (b : ℕ) (bs : List ℕ) (left : ℕ) (x : Lexeme × List ℕ) → is_word_start b ≡ true
     → Finds (b ∷ bs) x (token_or Word left (split_word (b ∷ bs)))
@@ -234,7 +243,11 @@ Blanks-cons : (flag after : Bool) (b : ℕ) (bs rest : List ℕ)
     → ((g : List ℕ) → AreBlanks rest after g → AreBlanks rest flag (b ∷ g)) → Blanks after bs rest
     → Blanks flag (b ∷ bs) rest
 Blanks-cons flag after b bs rest more g =
-    record { blanks = b ∷ g.blanks; parts = ap (λ (ys : List ℕ). b ∷ ys) g.parts; are_blanks = more g.blanks g.are_blanks }
+    record {
+      blanks = b ∷ g.blanks;
+      parts = ap (λ (ys : List ℕ). b ∷ ys) g.parts;
+      are_blanks = more g.blanks g.are_blanks;
+    }
 
 pub blanks_found : (flag : Bool) (bytes : List ℕ) → Blanks flag bytes (after_blanks flag bytes)
 blanks_found false [] = record { blanks = []; parts = refl; are_blanks = tt }
@@ -256,7 +269,13 @@ pub first_found : (bytes : List ℕ) (x : Lexeme × List ℕ) → next_token byt
     → FirstToken bytes x.0 x.1
 first_found bytes x e =
     let g = blanks_found false bytes in
-    record { blanks = g.blanks; here = after_blanks false bytes; parts = g.parts; are_blanks = g.are_blanks; begins = found_here (after_blanks false bytes) x e }
+    record {
+      blanks = g.blanks;
+      here = after_blanks false bytes;
+      parts = g.parts;
+      are_blanks = g.are_blanks;
+      begins = found_here (after_blanks false bytes) x e;
+    }
 
 pub is_found : {X : Type 0} (see : X → Lexeme × List ℕ) (bytes : List ℕ) (r : Result X Fault)
     → map_ok see r ≡ next_token bytes → IfOk r (λ x. FirstToken bytes (see x).0 (see x).1)

@@ -1,4 +1,5 @@
--- A request that is accepted isn't refused, one that can be carried out has no wrong device, and its schema is one.
+-- A request that is accepted isn't refused, one that can be carried out has no wrong device, and
+-- its schema is one.
 use Rattle.std.proofs.Common.{◌≡◌, ℕ, ◌<◌, List, [], length, get_or, Result, Ok, Err, Option, Some, None, refl, sym, ap, subst, ◌∙◌, arith, inl, inr}
 use Rattle.std.specs.Prelude.{◌⊎◌, ◌≢◌, IsSomeAnd, ◌==◌, if◌then◌else◌}
 use Rattle.std.specs.FinMap.{get}
@@ -118,7 +119,11 @@ same_words words a b s t e f p q =
     let once : a ≡ b = action_once a b s t e f (sym p ∙ q) in
     let same : request_words a s e ≡ request_words a t f =
     subst (λ c. request_words a s e ≡ request_words c t f) (sym once) (sym p ∙ q) in
-    record { actions = once; schemas = schema_named a s t e f same; equations = equation_named a s t e f same }
+    record {
+      actions = once;
+      schemas = schema_named a s t e f same;
+      equations = equation_named a s t e f same;
+    }
 
 ok_not_bad : (s : Schema) (e : Unread) → ◌≡◌ {A = Result Schema Unread} (Ok s) (Err e) → ⊥
 ok_not_bad s e f = cc
@@ -218,7 +223,11 @@ not_missing texts name is none = some_not_none is.0 (sym is.1.0 ∙ none)
 
 pub not_long : (texts : Texts) (name : List ℕ) → IsThere texts name → IsTooLong texts name → ⊥
 not_long texts name is long =
-    omega (arith, is.1.1, subst (λ (o : Option (List ℕ)). IsSomeAnd o (λ text. text_limit < length text)) is.1.0 long)
+    omega (
+      arith,
+      is.1.1,
+      subst (λ (o : Option (List ℕ)). IsSomeAnd o (λ text. text_limit < length text)) is.1.0 long,
+    )
 
 -- ---- two meanings of the same texts
 
@@ -362,7 +371,12 @@ one_task words texts t u x y =
     let same = one_acceptance words texts t.action u.action t.schema u.schema t.definitions
     u.definitions
     t.typing u.typing x.accepted y.accepted in
-    λ i. record { action = same.actions i; schema = same.schemas i; definitions = same.definitions i; typing = same.typings i }
+    λ i. record {
+      action = same.actions i;
+      schema = same.schemas i;
+      definitions = same.definitions i;
+      typing = same.typings i;
+    }
 
 -- where they ask for another thing, for none
 pub to_play : (words : List (List ℕ)) (texts : Texts) (t : Task) (a : Action) (schema : Schema)

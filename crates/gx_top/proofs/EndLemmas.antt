@@ -1,5 +1,5 @@
--- How a request ends that isn't carried out, and one whose texts are checked: what is said and heard,
--- and that the status is the one that is due.
+-- How a request ends that isn't carried out, and one whose texts are checked: what is said and
+-- heard, and that the status is the one that is due.
 use Rattle.std.proofs.Common.{◌≡◌, ℕ, List, refl, sym, ap, ◌∙◌, inl, inr}
 use Rattle.std.specs.Prelude.{◌⊎◌, ◌≢◌}
 use Rattle.gx_device.specs.Content.{Content, SameContent, device_at}

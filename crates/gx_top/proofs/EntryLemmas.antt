@@ -77,7 +77,12 @@ keys_few m [] all = omega
 keys_few m (k ∷ ks) all =
     let shorter : fin.len (fin.remove m k) ≡ cond (fin.contains_key m k) (fin.len m - 1)
     (fin.len m) = fin.len-remove nat_list_cmp_total m k in
-    omega (arith, keys_few (fin.remove m k) ks later, shorter, one_less (fin.contains_key m k) (fin.len m))
+    omega (
+      arith,
+      keys_few (fin.remove m k) ks later,
+      shorter,
+      one_less (fin.contains_key m k) (fin.len m),
+    )
   where
     other : (key : List ℕ) → eq_by_cmp (slice_cmp nat_cmp) key k ≡ false → In key (k ∷ ks)
         → In key ks
@@ -98,7 +103,11 @@ keys_few m (k ∷ ks) all =
 
 leaf_few : (m : LeafMap) (R : List Rec) → IsLeafMap m R → fin.len m ≤ length R
 leaf_few m R is =
-    omega (arith, keys_few m (map (λ r. key_of r.key) R) keys_in, length-map R (λ (r : Rec). key_of r.key))
+    omega (
+      arith,
+      keys_few m (map (λ r. key_of r.key) R) keys_in,
+      length-map R (λ (r : Rec). key_of r.key),
+    )
   where
     keys_in : (key body : List ℕ) → fin.get m key ≡ Some body → In key (map (λ r. key_of r.key) R)
     keys_in key body e =
@@ -297,7 +306,13 @@ mutual
       let many : run_count maps n (leaves_at top + leaf_counts kids) ≡ run_count maps n
       (leaf_counts kids) = ap
       (run_count maps n) (omega (arith, no_leaf top is.0.0)) in
-      omega (arith, many, kids_few n (kid_form top form) 0 kids ks (λ c. child_records (any_rule m) c R) maps is.1 held, layer_total m ks R)
+      omega (
+        arith,
+        many,
+        kids_few n (kid_form top form) 0 kids ks
+            (λ c. child_records (any_rule m) c R) maps is.1 held,
+        layer_total m ks R,
+      )
 
   kids_few : (n : ℕ) (forms : ℕ → Form) (i : ℕ) (ts : Trees) (us : Kids AnyMapping) (Rs : ℕ
       → List Rec)
@@ -556,7 +571,13 @@ pub never_full : (schema : Schema) (ds : List DefinitionTree) (built : Built) (l
 never_full schema ds built l start script answers final trees enough full =
     let at = full.short in
     let first : AreFirst schema start script
-    answers = record { ran = full.ran; later = full.later; parts = full.parts; final = final; runs = full.runs } in
+    answers = record {
+      ran = full.ran;
+      later = full.later;
+      parts = full.parts;
+      final = final;
+      runs = full.runs;
+    } in
     let behind = seen_state (after_command schema final at.command) in
     let fits : need l built (seen_state final) behind ≤ l.pages =
     enough answers first at.line at.later

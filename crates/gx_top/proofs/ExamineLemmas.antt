@@ -1,4 +1,5 @@
--- A device that was opened and examined, or that wasn't had: what was found, and what is left of it.
+-- A device that was opened and examined, or that wasn't had: what was found, and what is left of
+-- it.
 use Rattle.std.proofs.Common.{◌≡◌, ℕ, List, length, Option, Some, None, Result, Ok, Err, refl, sym, ap, subst, ◌∙◌}
 use Rattle.std.specs.Prelude.{◌≢◌}
 use Rattle.std.proofs.lemmas.Option.{same_Some}
@@ -46,8 +47,9 @@ use Rattle.gx_top.proofs.InspectLemmas.{IsInspectedOr, device_once, one_inspecti
 
 -- ---- a device that was opened
 
--- What opening the device of that name under these texts gave, and what was then found of it. It speaks of what was before,
--- `middle`, of the machine with the device, `opened`, and of that after it was closed, `mid`.
+-- What opening the device of that name under these texts gave, and what was then found of it. It
+-- speaks of what was before, `middle`, of the machine with the device, `opened`, and of that after
+-- it was closed, `mid`.
 pub record IsSeen (device : List ℕ) (x : Stored) (middle opened mid : Content) (maps : List LeafMap)
     (whole : Type 0) (found : Result (List ℕ) Ending) (schema equation : List ℕ)
     (specs : List LeafSpec) : Type 0 where
@@ -92,8 +94,12 @@ alike_on old mid new first then = record {
 stored_still : (t : Task) (device : List ℕ) (old new : Content) (maps : List LeafMap)
     → ReadsAlike device old new → IsStoredOn t device old maps → IsStoredOn t device new maps
 stored_still t device old new maps reads stored =
-    let is = reads.alike stored.0 stored.1 in
-    (is.0, is.1, reopens_alike (schema_text t.schema) (equation_text t.definitions) t.typing.specs maps stored.0 is.0 is.2 stored.2)
+    let is = reads.alike stored.0 stored.1 in (
+      is.0,
+      is.1,
+      reopens_alike (schema_text t.schema)
+          (equation_text t.definitions) t.typing.specs maps stored.0 is.0 is.2 stored.2,
+    )
 
 refused_never : (t : Task) (device : List ℕ) (old new : Content) (s : Status)
     → IsInspectedOr t device old new s → s ≡ status.Refused → ⊥
@@ -103,7 +109,13 @@ module _ (words : List (List ℕ)) (device : List ℕ) (x : Stored) (old middle 
     (p : IsStoredFor words old.aside.texts (inspecting device) x) (same : SameContent old middle)
   where
     abbrev pub Request : IsToInspect words old.aside.texts
-    Request = record { device = device; schema = x.schema; definitions = p.definitions; typing = p.typing; accepted = p.accepted }
+    Request = record {
+      device = device;
+      schema = x.schema;
+      definitions = p.definitions;
+      typing = p.typing;
+      accepted = p.accepted;
+    }
 
     abbrev pub Asked : Task
     Asked = inspected Request
@@ -194,7 +206,11 @@ module _ (words : List (List ℕ)) (device : List ℕ) (x : Stored) (old middle 
       reads_still outside =
           reads_between device old middle mid new (ap (λ n. device_at n device) same.now)
           (devices_same mid new devices device)
-          (record { absent = tried.absent; alike = tried.kept (not_failed why (λ f. outside (ended.fault f))) })
+          (record {
+            absent = tried.absent;
+            alike = tried.kept
+                (not_failed why (λ f. outside (ended.fault f)));
+          })
 
       holds_still : s ≢ status.Outside → (limit : Option Limits) (state : State)
           → IsHeldOn Asked device old limit state → IsHeldOn Asked device new limit state

@@ -23,7 +23,12 @@ use Rattle.gx_explain.proofs.ExplainOnceLemmas.{text_once}
 abbrev pub to_explain : (words : List (List ℕ)) (texts : Texts) (x : Schema × Built)
     → IsPrepared words texts explaining x → IsToExplain words texts
 to_explain words texts x is =
-    record { schema = x.0; definitions = is.definitions; typing = is.typing; accepted = is.accepted }
+    record {
+      schema = x.0;
+      definitions = is.definitions;
+      typing = is.typing;
+      accepted = is.accepted;
+    }
 
 -- ---- the status that is due
 
@@ -79,14 +84,29 @@ pub explained_from : (schema : Schema) (indexed : ℕ → List Bool) (old mid ne
     → mid.script ≡ old.script → mid.now.said ≡ old.now.said
     → IsScriptExplained schema indexed mid new s
     → IsScriptExplained schema indexed old new s
-explained_from schema indexed old mid new status.Done script said is =
-    (is.0, subst (λ t. IsExplainText schema indexed t good is.0) script is.1, is.2 ∙ ap (λ t. t ++ is.0) said)
-explained_from schema indexed old mid new status.Script script said is =
-    (is.0, subst (λ t. IsStoppedExplanation schema indexed t is.0) script is.1, is.2 ∙ ap (λ t. t ++ is.0) said)
-explained_from schema indexed old mid new status.Memory script said is =
-    (is.0, subst (λ t. IsMemoryExplanation schema indexed t is.0) script is.1, is.2 ∙ ap (λ t. t ++ is.0) said)
-explained_from schema indexed old mid new status.Outside script said is =
-    (is.0, subst (λ t. IsSomeText schema indexed t is.0) script is.1, (is.2.0, is.2.1 ∙ ap (λ t. t ++ take is.2.0 is.0) said))
+explained_from schema indexed old mid new status.Done script said is = (
+  is.0,
+  subst (λ t. IsExplainText schema indexed t good is.0) script is.1,
+  is.2
+      ∙ ap (λ t. t ++ is.0) said,
+)
+explained_from schema indexed old mid new status.Script script said is = (
+  is.0,
+  subst (λ t. IsStoppedExplanation schema indexed t is.0) script is.1,
+  is.2
+      ∙ ap (λ t. t ++ is.0) said,
+)
+explained_from schema indexed old mid new status.Memory script said is = (
+  is.0,
+  subst (λ t. IsMemoryExplanation schema indexed t is.0) script is.1,
+  is.2
+      ∙ ap (λ t. t ++ is.0) said,
+)
+explained_from schema indexed old mid new status.Outside script said is = (
+  is.0,
+  subst (λ t. IsSomeText schema indexed t is.0) script is.1,
+  (is.2.0, is.2.1 ∙ ap (λ t. t ++ take is.2.0 is.0) said),
+)
 explained_from schema indexed old mid new status.Refused script said is = absurd is
 explained_from schema indexed old mid new status.Full script said is = absurd is
 explained_from schema indexed old mid new status.Device script said is = absurd is

@@ -55,7 +55,12 @@ one_inspection words texts r q =
     r.definitions q.definitions r.typing q.typing r.accepted q.accepted in
     record {
       devices = device_once r.device q.device same.actions;
-      tasks = λ i. record { action = same.actions i; schema = same.schemas i; definitions = same.definitions i; typing = same.typings i };
+      tasks = λ i. record {
+        action = same.actions i;
+        schema = same.schemas i;
+        definitions = same.definitions i;
+        typing = same.typings i;
+      };
     }
 
 -- ---- a device that isn't had, or is damaged
@@ -126,13 +131,22 @@ module _ (t : Task) (device : List ℕ) (old mid new : Content) (why : Ending)
       → SaysFront (IsFoundText t device old new) old new) why is
       (λ wrong found e. cut_front (device_line wrong) (inr (inl (wrong, found, refl))) (e.cut refl))
       (λ e. cut_front memory_line (inr (inr refl)) (e.cut refl))
-      (λ e. (memory_line, inr (inr refl), (0, e.silent refl ∙ unsaid ∙ sym (append-nil old.now.said))))
+      (λ e. (
+        memory_line,
+        inr (inr refl),
+        (0, e.silent refl ∙ unsaid ∙ sym (append-nil old.now.said)),
+      ))
 
   wrong_said : IsEnded why mid new status.Device → SaysText (IsWrongText t device old) old new
   wrong_said =
       by_uninspected t device old (λ w. IsEnded w mid new status.Device
       → SaysText (IsWrongText t device old) old new) why is
-      (λ wrong found e. (device_line wrong, (wrong, found, refl), e.said (λ f. cc) (λ f. cc) ∙ ap (λ s. s ++ device_line wrong) unsaid))
+      (λ wrong found e. (
+        device_line wrong,
+        (wrong, found, refl),
+        e.said (λ f. cc) (λ f. cc)
+            ∙ ap (λ s. s ++ device_line wrong) unsaid,
+      ))
       (λ e. memory_device (e.status_is (λ f. cc) (λ f. cc)))
       (λ e. outside_device (e.status_is (λ f. cc) (λ f. cc)))
 

@@ -1,4 +1,5 @@
--- A device that is made: what was said of it, that the status is due, and what stands on the devices.
+-- A device that is made: what was said of it, that the status is due, and what stands on the
+-- devices.
 use Rattle.std.proofs.Common.{◌≡◌, ℕ, List, [], true, false, Some, None, Option, refl, sym, ap, subst, ◌∙◌, inl, inr, length, get_or}
 use Rattle.std.specs.Prelude.{◌⊎◌, ◌≢◌, IsSome, is_some}
 use Rattle.gx_device.specs.Content.{Content, Texts, device_at}
@@ -63,7 +64,14 @@ ways : (schema equation : List ℕ) (specs : List LeafSpec) (device : List ℕ) 
     (why : Ending) → IsMaking schema equation specs device count old new why
     → Ways schema equation specs device count old new why
 ways schema equation specs device count old new (ending.Made blocks pages) m =
-    inl (record { why_is = λ i. ending.Made (m.0 i) (m.1 i); size = m.2; free = m.3; blocks = m.4.0; there = m.4.1; made = m.4.2 })
+    inl (record {
+      why_is = λ i. ending.Made (m.0 i) (m.1 i);
+      size = m.2;
+      free = m.3;
+      blocks = m.4.0;
+      there = m.4.1;
+      made = m.4.2;
+    })
 ways schema equation specs device count old new (ending.Device why) m =
     inr (inl (record { reason = why; why_is = refl; unmakable = m.0; same = m.1 }))
 ways schema equation specs device count old new ending.NoMemory m = inr (inr (inl refl))
@@ -202,8 +210,10 @@ module _ (words : List (List ℕ)) (device digits : List ℕ) (count : ℕ) (x :
   -- at the start of the request
   unmakable_then : (why : DeviceWhy) → IsUnmakable x.built.specs device count mid why
       → IsUnmakable st.typing.specs device count old why
-  unmakable_then device_why.Exists h =
-      (subst (λ (ks : List LeafSpec). IsSize ks count) st.specs_are h.0, subst (λ m. IsSome (device_at m device)) before h.1)
+  unmakable_then device_why.Exists h = (
+    subst (λ (ks : List LeafSpec). IsSize ks count) st.specs_are h.0,
+    subst (λ m. IsSome (device_at m device)) before h.1,
+  )
   unmakable_then device_why.Size h =
       subst (λ (ks : List LeafSpec). ¬ IsSize ks count) st.specs_are h
   unmakable_then device_why.Missing h = h
@@ -215,8 +225,11 @@ module _ (words : List (List ℕ)) (device digits : List ℕ) (count : ℕ) (x :
   pub unhad : (why : Ending)
       → IsMaking x.schema_text x.equation_text x.built.specs device count mid end why
       → IsUnhad words old why
-  unhad (ending.Made blocks pages) m =
-      (subst (λ (n : ℕ). IsToMake words old.aside.texts n) (sym m.0) request, m.1 ∙ ap pages_of (sym m.0))
+  unhad (ending.Made blocks pages) m = (
+    subst (λ (n : ℕ). IsToMake words old.aside.texts n) (sym m.0) request,
+    m.1
+        ∙ ap pages_of (sym m.0),
+  )
   unhad (ending.Device why) m = (inr (count, request, unmakable_then why m.0), early why m.0)
     where
       early : (why : DeviceWhy) → IsUnmakable x.built.specs device count mid why → IsBefore why

@@ -128,7 +128,13 @@ judged : (words : List (List ℕ)) (texts : Texts) (why : Ending)
     → ((a : Action) × (s : List ℕ) × (e : List ℕ) × IsAsked words texts a s e
     × AreUnaccepted s e why) → HasReason words texts (ending_line why)
 judged words texts why r =
-    inr (inr (record { asked = r.0; schema = r.1; equation = r.2; is_asked = r.3; line_is = unaccepted_line r.1 r.2 why r.4 }))
+    inr (inr (record {
+      asked = r.0;
+      schema = r.1;
+      equation = r.2;
+      is_asked = r.3;
+      line_is = unaccepted_line r.1 r.2 why r.4;
+    }))
 
 reason : (words : List (List ℕ)) (texts : Texts) (why : Ending) → IsRefused words texts why
     → HasReason words texts (ending_line why)

@@ -77,7 +77,13 @@ module _ (schema : Schema) (ds : List DefinitionTree) (built : Built) (limit : O
   done_row out = (
     out.answers,
     out.final.kept,
-    record { answers = out.answers; final = out.final; play = out.play; text_is = sym (append-nil out.answers); kept_is = refl },
+    record {
+      answers = out.answers;
+      final = out.final;
+      play = out.play;
+      text_is = sym (append-nil out.answers);
+      kept_is = refl;
+    },
     out.said,
     out.holds,
   )
@@ -93,7 +99,17 @@ module _ (schema : Schema) (ds : List DefinitionTree) (built : Built) (limit : O
   stopped_line number reason out said = (
     out.answers ++ ending_line (ending.Line number reason),
     out.final.kept,
-    (number, reason, record { answers = out.answers; final = out.final; play = out.play; text_is = refl; kept_is = refl }),
+    (
+      number,
+      reason,
+      record {
+        answers = out.answers;
+        final = out.final;
+        play = out.play;
+        text_is = refl;
+        kept_is = refl;
+      },
+    ),
     behind old.now.said mid.now.said new.now.said out.answers
         (ending_line (ending.Line number reason))
         out.said said,
@@ -212,7 +228,11 @@ module _ (schema : Schema) (ds : List DefinitionTree) (built : Built) (limit : O
     answers ++ memory_line,
     first.final.kept,
     inr (inl (record { answers = answers; first = first; text_is = refl; kept_is = refl })),
-    (length answers + n, front_behind old.now.said mid.now.said new.now.said answers memory_line n is said),
+    (
+      length answers + n,
+      front_behind old.now.said mid.now.said new.now.said answers
+          memory_line n is said,
+    ),
     holds,
   )
 
@@ -223,7 +243,17 @@ module _ (schema : Schema) (ds : List DefinitionTree) (built : Built) (limit : O
   line_front number reason out n said = (
     out.answers ++ ending_line (ending.Line number reason),
     out.final.kept,
-    inl (number, reason, record { answers = out.answers; final = out.final; play = out.play; text_is = refl; kept_is = refl }),
+    inl (
+      number,
+      reason,
+      record {
+        answers = out.answers;
+        final = out.final;
+        play = out.play;
+        text_is = refl;
+        kept_is = refl;
+      },
+    ),
     (
       length out.answers + n,
       front_behind old.now.said mid.now.said new.now.said out.answers
@@ -239,7 +269,11 @@ module _ (schema : Schema) (ds : List DefinitionTree) (built : Built) (limit : O
     full.answers ++ full_line,
     full.final.kept,
     inr (inr (full_text full)),
-    (length full.answers + n, front_behind old.now.said mid.now.said new.now.said full.answers full_line n full.said said),
+    (
+      length full.answers + n,
+      front_behind old.now.said mid.now.said new.now.said full.answers
+          full_line n full.said said,
+    ),
     full.holds,
   )
 

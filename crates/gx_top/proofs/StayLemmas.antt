@@ -27,7 +27,11 @@ pub unprepared_devices : (device : List ℕ) (old mid new : Content) (s : Status
     → SameDevices mid new
     → LeavesDevices device old new s
 unprepared_devices device old mid new s before same = record {
-  refused = λ e. record { blocks = same.blocks ∙ ap (λ n. n.blocks) before; shelf = same.shelf ∙ ap (λ n. n.shelf) before };
+  refused = λ e. record {
+    blocks = same.blocks ∙ ap (λ n. n.blocks) before;
+    shelf = same.shelf
+        ∙ ap (λ n. n.shelf) before;
+  };
   others = λ other differ. devices_same mid new same other ∙ ap (λ n. device_at n other) before;
 }
 
@@ -72,8 +76,12 @@ back : (was now : Option (List (List ℕ))) → (was ≡ None → now ≡ None)
 back None now absent alike blocks there =
     absurd (let wrong : ◌≡◌ {A = _} None (Some blocks) = sym (absent refl) ∙ there in cc)
 back (Some before) now absent alike blocks there =
-    let is = alike before refl in
-    (before, refl, alike_back before blocks (subst (ReadAlike before) (same_Some is.0 blocks (sym is.1 ∙ there)) is.2))
+    let is = alike before refl in (
+      before,
+      refl,
+      alike_back before blocks
+          (subst (ReadAlike before) (same_Some is.0 blocks (sym is.1 ∙ there)) is.2),
+    )
 
 pub reads_back : (device : List ℕ) (old new : Content) → ReadsAlike device old new
     → ReadsAlike device new old

@@ -99,7 +99,12 @@ try_run words x old middle mid new played s p same is heard ends finished =
 abbrev pub run_task : (words : List (List ℕ)) (texts : Texts) (device : List ℕ) (x : Stored)
     → IsStoredFor words texts (running device) x → Task
 run_task words texts device x p =
-    record { action = running device; schema = x.schema; definitions = p.definitions; typing = p.typing }
+    record {
+      action = running device;
+      schema = x.schema;
+      definitions = p.definitions;
+      typing = p.typing;
+    }
 
 pub device_once : (a b : List ℕ) → running a ≡ running b → a ≡ b
 device_once a b e = ap device_or e
@@ -108,8 +113,9 @@ device_once a b e = ap device_or e
     device_or (running d) = d
     device_or other = a
 
--- What opening the device of that name under these texts gave: what the blocks held that were there, and how the play went from
--- it. It speaks of what was before, `middle`, and of the machine with the device, `opened`.
+-- What opening the device of that name under these texts gave: what the blocks held that were
+-- there, and how the play went from it. It speaks of what was before, `middle`, and of the machine
+-- with the device, `opened`.
 pub record IsOnStore (device : List ℕ) (x : Stored) (schema equation : List ℕ)
     (specs : List LeafSpec)
     (middle opened mid : Content) (limit : Limits) (Reaches : List LeafMap
@@ -292,7 +298,11 @@ module _ (words : List (List ℕ)) (device : List ℕ) (x : Stored) (old middle 
     }
 
     had : IsOpenedOn Run device old
-    had = (o.had.0, subst (λ n. device_at n device ≡ Some o.had.0) same.now o.had.1, had_opened o.had.0 o.had.2)
+    had = (
+      o.had.0,
+      subst (λ n. device_at n device ≡ Some o.had.0) same.now o.had.1,
+      had_opened o.had.0 o.had.2,
+    )
 
     pub device_run : (new : Content) (s : Status) → IfErr played IsPlayEnding
         → IsFinished played mid new s

@@ -26,8 +26,12 @@ accepted_text words before summary is = (is.0, is.1, is.2, is.3, ap accepted_lin
 pub check_done : (words : List (List ℕ)) (old mid new : Content) (summary : Summary)
     → IsSummary words old.aside.texts summary → mid.now.said ≡ old.now.said
     → new.now.said ≡ mid.now.said ++ accepted_line summary → SaysText (IsDoneText words old) old new
-check_done words old mid new summary is unsaid said =
-    (accepted_line summary, inl (accepted_text words old summary is), said ∙ ap (λ t. t ++ accepted_line summary) unsaid)
+check_done words old mid new summary is unsaid said = (
+  accepted_line summary,
+  inl (accepted_text words old summary is),
+  said
+      ∙ ap (λ t. t ++ accepted_line summary) unsaid,
+)
 
 -- ---- a request that isn't carried out
 
@@ -87,8 +91,12 @@ pub refused_says : (words : List (List ℕ)) (old mid new : Content) (before now
     → IsUnprepared words old.aside.texts before now why → status_of why ≡ status.Refused
     → new.now.said ≡ mid.now.said ++ ending_line why → mid.now.said ≡ old.now.said
     → SaysText (IsRefusalText words old) old new
-refused_says words old mid new before now why (inl is) e said unsaid =
-    (ending_line why, record { ending = why; refused = is; status_is = e; text_is = refl }, said ∙ ap (λ t. t ++ ending_line why) unsaid)
+refused_says words old mid new before now why (inl is) e said unsaid = (
+  ending_line why,
+  record { ending = why; refused = is; status_is = e; text_is = refl },
+  said
+      ∙ ap (λ t. t ++ ending_line why) unsaid,
+)
 refused_says words old mid new before now why (inr is) e said unsaid =
     absurd (not_outside before now why is e)
 

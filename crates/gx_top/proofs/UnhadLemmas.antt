@@ -91,7 +91,11 @@ unhad_front words old mid new why is unsaid =
     (λ wrong device early e. other_front words old mid new (device_line wrong)
     (inr (inr (inr (wrong, device, refl)))) unsaid (e.cut refl))
     (λ e. other_front words old mid new memory_line (inr (inl refl)) unsaid (e.cut refl))
-    (λ e. (memory_line, inr (inl refl), (0, e.silent refl ∙ unsaid ∙ sym (append-nil old.now.said))))
+    (λ e. (
+      memory_line,
+      inr (inl refl),
+      (0, e.silent refl ∙ unsaid ∙ sym (append-nil old.now.said)),
+    ))
 
 -- the status of such an ending
 abbrev IsUnhadStatus : Status → Type 0
@@ -261,7 +265,8 @@ unhad_end words old mid new why s is unsaid unheard starts recovered e = record 
   unheard_wrong = λ wrong. e.script ∙ unheard;
 }
 
--- of a script that was to be played, where its device wasn't had, there was no memory for its line, or the device is wrong
+-- of a script that was to be played, where its device wasn't had, there was no memory for its line,
+-- or the device is wrong
 unhad_memory : (words : List (List ℕ)) (old mid new : Content) (why : Ending) (s : Status)
     (t : Task)
     → IsUnhad words old why → IsTask words old.aside.texts t → IsEnded why mid new s

@@ -84,7 +84,11 @@ module _ (t : Task) (device : List ℕ) (old middle mid new : Content) (why : Un
         after.0,
         devices_same mid new devices device
             ∙ after.1,
-        (after.2, subst (ReadAlike blocks) (same_Some alike.0 after.0 (sym alike.1 ∙ after.1)) alike.2),
+        (
+          after.2,
+          subst (ReadAlike blocks)
+              (same_Some alike.0 after.0 (sym alike.1 ∙ after.1)) alike.2,
+        ),
       )
   stays goes (device_why.Damaged block) found = tt
 

@@ -1,4 +1,5 @@
--- A request to play the workload: what is said, that its status is the one that is due, and what is left.
+-- A request to play the workload: what is said, that its status is the one that is due, and what is
+-- left.
 use Rattle.std.proofs.Common.{◌≡◌, ℕ, List, [], ◌++◌, take, Option, Some, None, Result, Ok, Err, refl, sym, ap, subst, ◌∙◌, inl, inr}
 use Rattle.std.specs.Prelude.{◌⊎◌, ◌≢◌, IsSome}
 use Rattle.gx_tokens.specs.Numbers.{digits_value}
@@ -81,7 +82,12 @@ one_work words texts blocks count records many r q =
     let asks = ap asks_of same.actions in
     record {
       devices = ap (λ (a : Asks). a.device) asks;
-      tasks = λ i. record { action = same.actions i; schema = same.schemas i; definitions = same.definitions i; typing = same.typings i };
+      tasks = λ i. record {
+        action = same.actions i;
+        schema = same.schemas i;
+        definitions = same.definitions i;
+        typing = same.typings i;
+      };
       counts = sym r.counted.value_is
           ∙ ap (λ (w : List ℕ). digits_value w) (ap (λ (a : Asks). a.digits) asks)
           ∙ q.counted.value_is;
@@ -327,8 +333,10 @@ module _ (words : List (List ℕ)) (device digits number : List ℕ) (count reco
 
     free_for : (P : List (List ℕ) → Type 0) → IsNewDevice x device count middle mid P
         → IsFreeFor Asked device count old
-    free_for P made =
-        (subst (λ (ks : List LeafSpec). IsSize ks count) p.specs_are made.size, sym (ap (λ n. device_at n device) same.now) ∙ made.free)
+    free_for P made = (
+      subst (λ (ks : List LeafSpec). IsSize ks count) p.specs_are made.size,
+      sym (ap (λ n. device_at n device) same.now) ∙ made.free,
+    )
 
     -- played to its end
     text_of : (line : List ℕ) → (made : IsNewDevice x device count middle mid
@@ -372,8 +380,10 @@ module _ (words : List (List ℕ)) (device digits number : List ℕ) (count reco
 
     unmade : (why : DeviceWhy) → IsUnmakable x.built.specs device count middle why
         → IsUnmakable Asked.typing.specs device count old why
-    unmade device_why.Exists h =
-        (subst (λ (ks : List LeafSpec). IsSize ks count) p.specs_are h.0, subst (λ m. IsSome (device_at m device)) same.now h.1)
+    unmade device_why.Exists h = (
+      subst (λ (ks : List LeafSpec). IsSize ks count) p.specs_are h.0,
+      subst (λ m. IsSome (device_at m device)) same.now h.1,
+    )
     unmade device_why.Size h = subst (λ (ks : List LeafSpec). ¬ IsSize ks count) p.specs_are h
     unmade device_why.Missing h = h
     unmade device_why.NoDatabase h = h
@@ -390,8 +400,11 @@ module _ (words : List (List ℕ)) (device digits number : List ℕ) (count reco
         → SaysFront (IsWorkedText Asked device count records old new) old new
     cut_front line found (n, inl said) =
         (line, found, (n, said ∙ ap (λ s. s ++ take n line) said_before))
-    cut_front line found (n, inr said) =
-        (memory_line, inr (inr (inr refl)), (n, said ∙ ap (λ s. s ++ take n memory_line) said_before))
+    cut_front line found (n, inr said) = (
+      memory_line,
+      inr (inr (inr refl)),
+      (n, said ∙ ap (λ s. s ++ take n memory_line) said_before),
+    )
 
     -- an ending whose line is said with its status
     ended : (why : Ending) (s : Status)
@@ -416,7 +429,12 @@ module _ (words : List (List ℕ)) (device digits number : List ℕ) (count reco
         → IsEnded why mid new s → Row s
     not_played (ending.Device why) s is e =
         ended (ending.Device why) s (inr (inr (inl (why, unmade why is.0, refl))))
-        (λ said. (device_line why, (why, unmade why is.0, refl), said ∙ ap (λ t. t ++ device_line why) said_before)) e
+        (λ said. (
+          device_line why,
+          (why, unmade why is.0, refl),
+          said
+              ∙ ap (λ t. t ++ device_line why) said_before,
+        )) e
     not_played ending.Full s is e =
         ended ending.Full s (inr (inl (full_of is)))
         (λ said. (
@@ -427,8 +445,11 @@ module _ (words : List (List ℕ)) (device digits number : List ℕ) (count reco
         ended ending.NoMemory s (inr (inr (inr refl))) (λ said. said
         ∙ ap (λ t. t ++ memory_line) said_before) e
     not_played ending.Fault s is e =
-        subst Row (sym (e.fault refl))
-        (memory_line, inr (inr (inr refl)), (0, e.silent refl ∙ said_before ∙ sym (append-nil old.now.said)))
+        subst Row (sym (e.fault refl)) (
+          memory_line,
+          inr (inr (inr refl)),
+          (0, e.silent refl ∙ said_before ∙ sym (append-nil old.now.said)),
+        )
     not_played ending.Words s is e = absurd is
     not_played (ending.Missing name) s is e = absurd is
     not_played (ending.TooLong name) s is e = absurd is
@@ -450,7 +471,11 @@ module _ (words : List (List ℕ)) (device digits number : List ℕ) (count reco
           (line, text_of line made, told.1 ∙ ap (λ t. t ++ line) said_before),
         )
     played_row line s made (inr told) =
-        subst Row (sym told.0) (line, inl (text_of line made), (told.1.0, told.1.1 ∙ ap (λ t. t ++ take told.1.0 line) said_before))
+        subst Row (sym told.0) (
+          line,
+          inl (text_of line made),
+          (told.1.0, told.1.1 ∙ ap (λ t. t ++ take told.1.0 line) said_before),
+        )
 
     pub work_row : (r : Result (List ℕ) Ending) (s : Status)
         → IsWorking x device count records middle mid r → IsTold r mid new s → Row s
@@ -470,7 +495,11 @@ module _ (words : List (List ℕ)) (device digits number : List ℕ) (count reco
     holds_first blocks there (inl none) =
         inl (typed (λ schema equation specs. IsNoneOrEmpty schema equation specs blocks) none)
     holds_first blocks there (inr first) =
-        inr (record { answers = first.answers; first = first.first; settled = settled_on blocks first.first.final.kept there first.holds })
+        inr (record {
+          answers = first.answers;
+          first = first.first;
+          settled = settled_on blocks first.first.final.kept there first.holds;
+        })
 
     full_first : (made : IsNewDevice x device count middle mid
         (λ after. IsPlayedOn x count records after (Err ending.Full)))
@@ -479,7 +508,13 @@ module _ (words : List (List ℕ)) (device digits number : List ℕ) (count reco
         let out = made.left.2 in
         record {
           answers = out.answers;
-          first = record { ran = out.full.ran; later = out.full.later; parts = out.full.parts; final = out.final; runs = out.full.runs };
+          first = record {
+            ran = out.full.ran;
+            later = out.full.later;
+            parts = out.full.parts;
+            final = out.final;
+            runs = out.full.runs;
+          };
           settled = settled_on made.left.0 out.final.kept made.left.1 out.holds;
         }
 

@@ -36,7 +36,14 @@ use Rattle.gx_types.proofs.TreeLaws.{leaves_between, valid}
 side_ready : (n : ℕ) (form : Form) (side : SideTree) → IsFileForm 16 form → IsSide side
     → IsTypedSide (stored.File form) side → n + side_leaf_count side ≤ 255 → IsReadySide n form side
 side_ready n form (file_side t) fits term typed few =
-    record { levels = 16; few_levels = omega arith; term = term; records = fits; typed = typed; few = few }
+    record {
+      levels = 16;
+      few_levels = omega arith;
+      term = term;
+      records = fits;
+      typed = typed;
+      few = few;
+    }
 side_ready n form (link_side linkset ts) fits term typed few = absurd typed
 
 ready_from : (all before files : List FileDef) (links : List LinkDef) (ds : List DefinitionTree)
@@ -70,13 +77,25 @@ mutual
   term_count : (owner : ℕ) (form : Form) (t : TermTree)
       → length (leaves_of owner form t) ≡ leaf_count t
   term_count owner form (node top kids) =
-      omega (arith, length-append (leaf_here owner top form) (leaves_of_kids owner (kid_form top form) 0 kids), here_count owner top form, kids_count owner (kid_form top form) 0 kids)
+      omega (
+        arith,
+        length-append (leaf_here owner top form)
+            (leaves_of_kids owner (kid_form top form) 0 kids),
+        here_count owner top form,
+        kids_count owner (kid_form top form) 0 kids,
+      )
 
   kids_count : (owner : ℕ) (forms : ℕ → Form) (i : ℕ) (ts : Trees)
       → length (leaves_of_kids owner forms i ts) ≡ leaf_counts ts
   kids_count owner forms i none = refl
   kids_count owner forms i (kid t ts) =
-      omega (arith, length-append (leaves_of owner (forms i) t) (leaves_of_kids owner forms (suc i) ts), term_count owner (forms i) t, kids_count owner forms (suc i) ts)
+      omega (
+        arith,
+        length-append (leaves_of owner (forms i) t)
+            (leaves_of_kids owner forms (suc i) ts),
+        term_count owner (forms i) t,
+        kids_count owner forms (suc i) ts,
+      )
 
 pub side_count : (owner : ℕ) (due : Stored) (side : SideTree) → IsTypedSide due side
     → length (leaves_of_side owner due side) ≡ side_leaf_count side
@@ -92,7 +111,13 @@ all_count owner [] [] typed = refl
 all_count owner [] (d ∷ ds) typed = absurd typed
 all_count owner (due ∷ dues) [] typed = absurd typed
 all_count owner (due ∷ dues) (d ∷ ds) typed =
-    omega (arith, length-append (leaves_of_side owner due.stored d.side) (leaves_of_all (suc owner) dues ds), side_count owner due.stored d.side typed.1, all_count (suc owner) dues ds typed.2)
+    omega (
+      arith,
+      length-append (leaves_of_side owner due.stored d.side)
+          (leaves_of_all (suc owner) dues ds),
+      side_count owner due.stored d.side typed.1,
+      all_count (suc owner) dues ds typed.2,
+    )
 
 pub few_leaves : (schema : Schema) (ds : List DefinitionTree) → IsTyped schema ds
     → all_leaf_count ds ≤ 255
@@ -173,9 +198,17 @@ nodes_apart n (file ∷ files) [] xs i j m are lt_i lt_j h k = absurd are
 nodes_apart n (file ∷ files) (d ∷ ds) [] i j m are lt_i lt_j h k = absurd are
 nodes_apart n (file ∷ files) (d ∷ ds) (x ∷ xs) zero zero m are lt_i lt_j h k = refl
 nodes_apart n (file ∷ files) (d ∷ ds) (x ∷ xs) zero (suc j) m are lt_i lt_j h k =
-    absurd (omega (arith, (side_between n (file_form file) d.side x m are.0 h).1, (node_between (n + side_leaf_count d.side) files ds xs j m are.1 (omega arith) k).0))
+    absurd (omega (
+      arith,
+      (side_between n (file_form file) d.side x m are.0 h).1,
+      (node_between (n + side_leaf_count d.side) files ds xs j m are.1 (omega arith) k).0,
+    ))
 nodes_apart n (file ∷ files) (d ∷ ds) (x ∷ xs) (suc i) zero m are lt_i lt_j h k =
-    absurd (omega (arith, (side_between n (file_form file) d.side x m are.0 k).1, (node_between (n + side_leaf_count d.side) files ds xs i m are.1 (omega arith) h).0))
+    absurd (omega (
+      arith,
+      (side_between n (file_form file) d.side x m are.0 k).1,
+      (node_between (n + side_leaf_count d.side) files ds xs i m are.1 (omega arith) h).0,
+    ))
 nodes_apart n (file ∷ files) (d ∷ ds) (x ∷ xs) (suc i) (suc j) m are lt_i lt_j h k =
     ap suc (nodes_apart (n + side_leaf_count d.side) files ds xs i j m are.1 (omega arith)
     (omega arith) h k)
@@ -199,7 +232,10 @@ are_nodes schema ds xs total is written typed are total_is =
       many = as_many_nodes 0 schema.files ds xs are;
       valid = λ i lt. (node_valid 0 schema.files ds xs i ready are lt).0;
       form = λ i lt. (node_valid 0 schema.files ds xs i ready are lt).1;
-      below = λ i n lt h. omega
-          (arith, (node_between 0 schema.files ds xs i n are lt h).1, total_count schema ds total typed total_is);
+      below = λ i n lt h. omega (
+        arith,
+        (node_between 0 schema.files ds xs i n are lt h).1,
+        total_count schema ds total typed total_is,
+      );
       apart = λ i j n lt_i lt_j h k. nodes_apart 0 schema.files ds xs i j n are lt_i lt_j h k;
     }

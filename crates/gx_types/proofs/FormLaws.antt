@@ -120,8 +120,10 @@ module _ (name : List ℕ) (c : Code) where
 
   coded_distinct : (fs : List Field) → AreDistinct fs → AreDistinct (map (coded_field name c) fs)
   coded_distinct [] are = tt
-  coded_distinct (f ∷ fs) are =
-      (ap (is_field (map (coded_field name c) fs)) (coded_name f) ∙ coded_absent fs f.name ∙ are.0, coded_distinct fs are.1)
+  coded_distinct (f ∷ fs) are = (
+    ap (is_field (map (coded_field name c) fs)) (coded_name f) ∙ coded_absent fs f.name ∙ are.0,
+    coded_distinct fs are.1,
+  )
 
   coded_many : (fs : List Field) → length (map (coded_field name c) fs) ≡ length fs
   coded_many [] = refl
@@ -174,7 +176,11 @@ module _ (name : List ℕ) (c : Code) where
           cond-false (pointwise nat_eq f.name name) _ _ e in
           let room : room_of (coded_field name c f).kind ≡ room_of f.kind =
           ap (λ (g : Field). room_of g.kind) coded_here in
-          omega (arith, below (sym (cond-false (pointwise nat_eq f.name name) (Some f.kind) (kind_in fs name) e) ∙ is))
+          omega (
+            arith,
+            below (sym (cond-false (pointwise nat_eq f.name name) (Some f.kind) (kind_in fs name) e)
+                ∙ is),
+          )
 
 -- ---- one field
 
@@ -262,7 +268,12 @@ kept (heads.Encode name c) form kids levels head met few fits i lt = record {
   texts = coded_limited name c form.fields fits.texts;
   distinct = coded_distinct name c form.fields fits.distinct;
   few_fields = omega (arith, coded_many name c form.fields, fits.few_fields);
-  room = omega (arith, coded_rooms name c form.fields met.kind fits.distinct met.field.is met.coded, fits.room);
+  room = omega (
+    arith,
+    coded_rooms name c form.fields met.kind fits.distinct met.field.is
+        met.coded,
+    fits.room,
+  );
 }
 kept (heads.Segment names) form kids levels head met few fits zero lt =
     filter_kept (λ f. has_name names f.name) levels form fits
@@ -341,7 +352,11 @@ mutual
   keys_narrow (suc levels) form (node top kids) term typed =
       elim (leaf_or top form kids term.1 typed.0) [
         | inl le ↦ le
-        | inr some ↦ omega (arith, keys_grow top form 0, first_narrow levels (kid_form top form) 0 kids some term.2 typed.1)
+        | inr some ↦ omega (
+          arith,
+          keys_grow top form 0,
+          first_narrow levels (kid_form top form) 0 kids some term.2 typed.1,
+        )
       ]
 
   first_narrow : (levels : ℕ) (forms : ℕ → Form) (i : ℕ) (ts : Trees) → 0 < count ts

@@ -285,9 +285,17 @@ rule_kid_form (heads.Encode name e) form kids met names c =
     (field_there form.fields name met.kind met.field.is) in
     λ i. record { keys = form.keys; fields = here i }
 rule_kid_form (heads.Segment names) form kids met distinct zero =
-    λ i. record { keys = form.keys; fields = chosen_filter (λ f. has_name names f.name) form.fields i }
+    λ i. record {
+      keys = form.keys;
+      fields = chosen_filter
+          (λ f. has_name names f.name) form.fields i;
+    }
 rule_kid_form (heads.Segment names) form kids met distinct (suc c) =
-    λ i. record { keys = form.keys; fields = others_chosen (λ f. has_name names f.name) form.fields i }
+    λ i. record {
+      keys = form.keys;
+      fields = others_chosen
+          (λ f. has_name names f.name) form.fields i;
+    }
 rule_kid_form heads.Transpose form kids met names c = refl
 rule_kid_form (heads.Partition name bounds) form kids met names c = refl
 rule_kid_form (heads.Divide size) form kids met names c = refl

@@ -152,9 +152,17 @@ links_apart files n (link ∷ links) [] xs i j l are lt_i lt_j h k = absurd are
 links_apart files n (link ∷ links) (d ∷ ds) [] i j l are lt_i lt_j h k = absurd are
 links_apart files n (link ∷ links) (d ∷ ds) (x ∷ xs) zero zero l are lt_i lt_j h k = refl
 links_apart files n (link ∷ links) (d ∷ ds) (x ∷ xs) zero (suc j) l are lt_i lt_j h k =
-    absurd (omega (arith, (link_side_between n (owner_kind files link) (member_kind files link) d.side x l are.0 h).1, (link_between files (n + side_leaf_count d.side) links ds xs j l are.1 (omega arith) k).0))
+    absurd (omega (
+      arith,
+      (link_side_between n (owner_kind files link) (member_kind files link) d.side x l are.0 h).1,
+      (link_between files (n + side_leaf_count d.side) links ds xs j l are.1 (omega arith) k).0,
+    ))
 links_apart files n (link ∷ links) (d ∷ ds) (x ∷ xs) (suc i) zero l are lt_i lt_j h k =
-    absurd (omega (arith, (link_side_between n (owner_kind files link) (member_kind files link) d.side x l are.0 k).1, (link_between files (n + side_leaf_count d.side) links ds xs i l are.1 (omega arith) h).0))
+    absurd (omega (
+      arith,
+      (link_side_between n (owner_kind files link) (member_kind files link) d.side x l are.0 k).1,
+      (link_between files (n + side_leaf_count d.side) links ds xs i l are.1 (omega arith) h).0,
+    ))
 links_apart files n (link ∷ links) (d ∷ ds) (x ∷ xs) (suc i) (suc j) l are lt_i lt_j h k =
     ap suc (links_apart files (n + side_leaf_count d.side) links ds xs i j l are.1 (omega arith)
     (omega arith) h k)
@@ -182,10 +190,17 @@ are_link_nodes schema ds nodes xs total is written typed files_are are total_is 
       many = as_many_links schema.files n schema.links behind xs are;
       valid = λ i lt. links_valid schema.files n schema.links behind xs i
           (links_ready schema ds is written typed) are lt;
-      below = λ i l lt h. omega
-          (arith, (link_between schema.files n schema.links behind xs i l are lt h).1, total_count schema ds total typed total_is);
+      below = λ i l lt h. omega (
+        arith,
+        (link_between schema.files n schema.links behind xs i l are lt h).1,
+        total_count schema ds total typed total_is,
+      );
       apart = λ i j l lt_i lt_j h k. links_apart schema.files n schema.links behind xs i j l are
           lt_i lt_j h k;
       file_apart = λ i j l lt_i lt_j h k.
-          omega (arith, (node_between 0 schema.files ds nodes i l files_are lt_i h).1, (link_between schema.files n schema.links behind xs j l are lt_j k).0);
+          omega (
+            arith,
+            (node_between 0 schema.files ds nodes i l files_are lt_i h).1,
+            (link_between schema.files n schema.links behind xs j l are lt_j k).0,
+          );
     }

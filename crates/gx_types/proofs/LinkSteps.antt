@@ -86,8 +86,10 @@ module _ (n : ℕ) (o m : Kind) (forms : Form × Form) (side : SideTree) (linkse
   both_trees x a b first_is second_is linkset_is kids_are first second =
       subst (λ (s : SideTree). IsLinkTreeOfSide n o m s x) (sym is) (record {
         head = linkset_is;
-        trees = subst (AreTreesOf n (link_form linkset o m) 0 (kid t (kid u none))) (sym kids_are)
-            (subst (λ (f : Form). IsTreeOf n f t a) first_is first, (subst (λ (f : Form). IsTreeOf (n + leaf_count t) f u b) second_is second, tt));
+        trees = subst (AreTreesOf n (link_form linkset o m) 0 (kid t (kid u none))) (sym kids_are) (
+          subst (λ (f : Form). IsTreeOf n f t a) first_is first,
+          (subst (λ (f : Form). IsTreeOf (n + leaf_count t) f u b) second_is second, tt),
+        );
       })
 
 -- ---- the definitions of links
@@ -98,7 +100,8 @@ definitions_behind zero ds = refl
 definitions_behind (suc k) [] = refl
 definitions_behind (suc k) (d ∷ ds) = definitions_behind k ds
 
--- what is said of the links and of the definitions behind those of the files, as the schema has them or as they are passed on
+-- what is said of the links and of the definitions behind those of the files, as the schema has
+-- them or as they are passed on
 module _ (P : List FileDef → ℕ → List LinkDef → List DefinitionTree
     → Type 0) (files given : List FileDef) (links linked : List LinkDef)
     (whole ds rest : List Definition) (next : ℕ) (files_are : given ≡ files)

@@ -1,4 +1,5 @@
--- The forms of files and of links are kept from the start, and the makers of mappings can take what is kept.
+-- The forms of files and of links are kept from the start, and the makers of mappings can take what
+-- is kept.
 use Rattle.std.proofs.Common.{◌≡◌, ℕ, zero, suc, ◌+◌, ◌*◌, ◌<◌, ◌≤◌, Bool, true, false, List, [], ◌∷◌, ◌++◌, length, refl, sym, ap, subst, ◌∙◌, arith}
 use Rattle.std.specs.Prelude.{◌||◌, ◌==◌, max, nat_eq, slice_index_or}
 use Rattle.std.specs.List.{AllByRecursion}
@@ -67,13 +68,19 @@ kind_room first (kinds.Bytes n) is = absurd is
 
 fields_limited : (before fs : List Field) → AreFields before fs → AreLimited fs
 fields_limited before [] are = tt
-fields_limited before (f ∷ fs) are =
-    (kind_limited (length before == 0) f.kind are.0.kind, fields_limited (before ++ f ∷ []) fs are.1)
+fields_limited before (f ∷ fs) are = (
+  kind_limited (length before == 0) f.kind are.0.kind,
+  fields_limited (before ++ f ∷ []) fs are.1,
+)
 
 fields_room : (before fs : List Field) → AreFields before fs → rooms fs ≤ 402 * length fs
 fields_room before [] are = omega arith
 fields_room before (f ∷ fs) are =
-    omega (arith, kind_room (length before == 0) f.kind are.0.kind, fields_room (before ++ f ∷ []) fs are.1)
+    omega (
+      arith,
+      kind_room (length before == 0) f.kind are.0.kind,
+      fields_room (before ++ f ∷ []) fs are.1,
+    )
 
 still_there : (before more : List Field) (name : List ℕ) → is_field before name ≡ true
     → is_field (before ++ more) name ≡ true
@@ -113,15 +120,24 @@ none_behind before (f ∷ fs) name there are =
 
 fields_distinct : (before fs : List Field) → AreFields before fs → AreDistinct fs
 fields_distinct before [] are = tt
-fields_distinct before (f ∷ fs) are =
-    (none_behind (before ++ f ∷ []) fs f.name (last_there before f) are.1, fields_distinct (before ++ f ∷ []) fs are.1)
+fields_distinct before (f ∷ fs) are = (
+  none_behind (before ++ f ∷ []) fs f.name (last_there before f) are.1,
+  fields_distinct (before ++ f ∷ []) fs are.1,
+)
 
 pub file_fits : (file : FileDef) (fs : List Field) → file.fields ≡ fs → AreFields [] fs
     → IsFileForm 16 (file_form file)
 file_fits file [] is are =
     subst (λ (gs : List Field). IsFileForm 16
     (file_form (record { name = file.name; fields = gs }))) (sym is)
-    (record { keys = tt; key_texts = tt; texts = tt; distinct = tt; few_fields = omega arith; room = omega arith })
+    (record {
+      keys = tt;
+      key_texts = tt;
+      texts = tt;
+      distinct = tt;
+      few_fields = omega arith;
+      room = omega arith;
+    })
 file_fits file (f ∷ fs) is are =
     let few : length fs + 1 ≤ 32 = omega (arith, fields_few (f ∷ []) fs are.1 (omega arith)) in
     subst (λ (gs : List Field). IsFileForm 16
@@ -168,7 +184,12 @@ link_fits linksets.Ring o m is_o is_m (suc i) = record {
   texts = (tt, (tt, (kind_limited true o is_o, tt)));
   distinct = (refl, (refl, (refl, tt)));
   few_fields = omega arith;
-  room = omega (arith, greater (width_of o) (width_of m) 101 (first_width o is_o) (first_width m is_m), kind_room true o is_o);
+  room = omega (
+    arith,
+    greater (width_of o) (width_of m) 101 (first_width o is_o)
+        (first_width m is_m),
+    kind_room true o is_o,
+  );
 }
 link_fits linksets.Inverted o m is_o is_m zero = record {
   keys = (kind_key true o is_o, (kind_key true m is_m, tt));
@@ -304,7 +325,12 @@ can_make levels heads.Actual form kids fits term typed few = record {
 }
 can_make levels (heads.Encode name c) form kids fits term typed few =
     let at = typed_kind form.fields name typed.0.kind typed.0.field.is in
-    record { place = at.0; kind = code_kind c (kind_of form.fields (first_in form.fields name)) (subst (IsCodeFor c) (sym at.1) typed.0.coded) (one_limited form.fields (first_in form.fields name) no_field at.0 fits.texts) }
+    record {
+      place = at.0;
+      kind = code_kind c (kind_of form.fields (first_in form.fields name))
+          (subst (IsCodeFor c) (sym at.1) typed.0.coded)
+          (one_limited form.fields (first_in form.fields name) no_field at.0 fits.texts);
+    }
 can_make levels (heads.Segment names) form kids fits term typed few = omega (arith, fits.few_fields)
 can_make levels heads.Transpose form kids fits term typed few =
     record { some = typed.0.some; few = omega (arith, fits.few_fields) }

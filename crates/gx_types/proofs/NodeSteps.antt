@@ -147,8 +147,11 @@ pub all_files : (first next total : ℕ) (files left : List FileDef)
     → AreTreesOfFiles first files (definitions_of definitions) (nodes ++ more))
     → next + file_leaf_count left (definitions_of rest) ≡ total
     → AreTreesOfFiles first files (definitions_of definitions) nodes × (next ≡ total)
-all_files first next total files [] definitions rest nodes end so_far count =
-    (subst (AreTreesOfFiles first files (definitions_of definitions)) (append-nil nodes) (so_far [] tt), omega (arith, count))
+all_files first next total files [] definitions rest nodes end so_far count = (
+  subst (AreTreesOfFiles first files (definitions_of definitions)) (append-nil nodes)
+      (so_far [] tt),
+  omega (arith, count),
+)
 all_files first next total files (file ∷ left) definitions rest nodes end so_far count =
     absurd (omega (arith, end))
 

@@ -231,7 +231,12 @@ in_links files n (link ∷ links) [] xs m are from below = absurd are
 in_links files n (link ∷ links) (d ∷ ds) [] m are from below = absurd are
 in_links files n (link ∷ links) (d ∷ ds) (x ∷ xs) m are from below =
     elim (cases_lt m (n + side_leaf_count d.side)) [
-      | inl lt ↦ (0, omega arith, in_link_side n (owner_kind files link) (member_kind files link) d.side x m are.0 from lt)
+      | inl lt ↦ (
+        0,
+        omega arith,
+        in_link_side n (owner_kind files link)
+            (member_kind files link) d.side x m are.0 from lt,
+      )
       | inr ge ↦ (let found =
           in_links files (n + side_leaf_count d.side) links ds xs m are.1 ge (omega (arith, below))
           in
@@ -281,8 +286,12 @@ module _ (schema : Schema) (ds : List DefinitionTree) (nodes : List (Node AnyMap
       ∙ ap Some number
 
   below_all : (m owner : ℕ) → slice_get owners m ≡ Some owner → m < first + all_leaf_count behind
-  below_all m owner is = omega
-      (arith, slice_get_within owners m owner is, many, total_count schema ds (length (leaves schema ds)) typed refl)
+  below_all m owner is = omega (
+    arith,
+    slice_get_within owners m owner is,
+    many,
+    total_count schema ds (length (leaves schema ds)) typed refl,
+  )
 
   same : (a b : ℕ) (x : Option ℕ) → x ≡ Some a → x ≡ Some b → a ≡ b
   same a b x e f = cc

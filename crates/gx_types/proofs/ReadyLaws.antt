@@ -54,7 +54,14 @@ pub first_ready : (n : ℕ) (forms : ℕ → Form) (i : ℕ) (t : TermTree) (ts 
     → AreReady n forms i (kid t ts) → IsReady n (forms i) t
 first_ready n forms i t ts r =
     let few : n + (leaf_count t + leaf_counts ts) ≤ 255 = r.few in
-    record { levels = r.levels; few_levels = r.few_levels; term = r.terms.0; records = r.records i (omega arith) (omega arith); typed = r.typed.0; few = omega arith }
+    record {
+      levels = r.levels;
+      few_levels = r.few_levels;
+      term = r.terms.0;
+      records = r.records i (omega arith) (omega arith);
+      typed = r.typed.0;
+      few = omega arith;
+    }
 
 pub others_ready : (n : ℕ) (forms : ℕ → Form) (i : ℕ) (t : TermTree) (ts : Trees)
     → AreReady n forms i (kid t ts) → AreReady (n + leaf_count t) forms (suc i) ts
@@ -84,8 +91,11 @@ first_kind_is [] name i is = absurd is
 first_kind_is (f ∷ fs) name zero is =
     (omega arith, cond-true (pointwise nat_eq f.name name) _ _ ((bytes_decides f.name name).1 is))
 first_kind_is (f ∷ fs) name (suc i) is =
-    let more = first_kind_is fs name i is.1 in
-    (omega arith, cond-false (pointwise nat_eq f.name name) _ _ (other_name f.name name is.0) ∙ more.1)
+    let more = first_kind_is fs name i is.1 in (
+      omega arith,
+      cond-false (pointwise nat_eq f.name name) _ _
+          (other_name f.name name is.0) ∙ more.1,
+    )
 
 pub within : (form : Form) (name : List ℕ) (at : Where) → IsPlaceOf form name at → IsPlace at form
 within form name (Key i) is = (first_kind_is form.keys name i is).0

@@ -1,4 +1,5 @@
--- A node that a term means is valid, has the term's form, and has leaves with the numbers of the term.
+-- A node that a term means is valid, has the term's form, and has leaves with the numbers of the
+-- term.
 use Rattle.std.proofs.Common.{◌≡◌, ℕ, zero, suc, ◌+◌, ◌-◌, ◌<◌, ◌≤◌, List, [], ◌∷◌, refl, sym, ap, subst, inl, inr, ◌∙◌, arith}
 use Rattle.std.proofs.lemmas.Bool.{cases_lt}
 use Rattle.gx_values.specs.Keys.{widths}
@@ -136,8 +137,11 @@ layer_few n form (node top kids) ready =
 pub layer_tree : (n : ℕ) (form : Form) (t : TermTree) (m : AnyMapping) (ks : NodeKids AnyMapping)
     → IsReady n form t → IsMappingOf (head_of t) form m
     → AreTreesOf n (any_rule m).kid_form 0 (kids_of t) ks → IsTreeOf n form t (layer m ks)
-layer_tree n form (node top kids) m ks ready is are =
-    (is, subst (λ (forms : ℕ → Form). AreTreesOf n forms 0 kids ks) (kid_forms n form top kids m ready is) are)
+layer_tree n form (node top kids) m ks ready is are = (
+  is,
+  subst (λ (forms : ℕ → Form). AreTreesOf n forms 0 kids ks)
+      (kid_forms n form top kids m ready is) are,
+)
 
 pub layer_leaves : (t : TermTree) → IsLayer (head_of t) → leaf_count t ≡ leaf_counts (kids_of t)
 layer_leaves (node top kids) is = omega (arith, none_at top is)
@@ -199,8 +203,11 @@ mutual
   pub valid : (n : ℕ) (form : Form) (t : TermTree) (u : NodeTree AnyMapping) → IsReady n form t
       → IsTreeOf n form t u → IsValid any_rule u × (tree_form any_rule u ≡ form)
   valid n form (node top kids) (leaf m f) ready is =
-      let at = leaf_at n form top kids m f is in
-      (subst IsLeafForm (sym at.records) (leaf_form ready.levels form ready.records (at.met ready.typed.0)), at.records)
+      let at = leaf_at n form top kids m f is in (
+        subst IsLeafForm (sym at.records)
+            (leaf_form ready.levels form ready.records (at.met ready.typed.0)),
+        at.records,
+      )
   valid n form (node top kids) (layer m ks) ready is = (
     (
       as_many n (kid_form top form) 0 kids ks is.1

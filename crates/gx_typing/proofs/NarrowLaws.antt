@@ -265,7 +265,9 @@ with_fields form fs = record { keys = form.keys; fields = fs }
 kid_narrow : (top : Head) (f : Form) (i : ℕ)
     → narrow (kid_form top (narrow f) i) ≡ narrow (kid_form top f i)
 kid_narrow (heads.Leaf kind) f i = form_again f
-kid_narrow heads.Actual f i = ap (λ (n : ℕ). with_fields f (field (codes "_body") (kinds.Bytes n) ∷ [])) (widths_narrow f.fields)
+kid_narrow heads.Actual f i =
+    ap (λ (n : ℕ). with_fields f (field (codes "_body") (kinds.Bytes n) ∷ []))
+    (widths_narrow f.fields)
 kid_narrow (heads.Encode name code) f i = ap (with_fields f) (all_coded name code f.fields)
 kid_narrow (heads.Segment names) f zero = ap (with_fields f) (chosen (has_name names) f.fields)
 kid_narrow (heads.Segment names) f (suc i) =

@@ -63,7 +63,11 @@ leaf_passed owner spec typing more h =
     elim (nat_lt (length typing.specs) 255) as
     (λ b. cond b (Ok (next owner spec typing)) (Err why.Leaves) ≡ Ok more
     → (tested why.Leaves b ≡ Ok tt) × (length more.specs ≡ length typing.specs + 1)) [
-      | true ↦ λ e. (refl, ap (λ (t : Typing). length t.specs) (sym (oks (next owner spec typing) e)) ∙ length-append typing.specs (spec ∷ []))
+      | true ↦ λ e. (
+        refl,
+        ap (λ (t : Typing). length t.specs)
+            (sym (oks (next owner spec typing) e)) ∙ length-append typing.specs (spec ∷ []),
+      )
       | false ↦ λ e. absurd (never e)
     ] h
   where
@@ -191,7 +195,12 @@ mutual
         | inr met ↦ elim (behind_err (at lines (with_head owner top form typing)) _ _ met.2) [
           | inl e ↦
               let r = at_err lines (with_head owner top form typing) line reason e in
-              inl (asked_is (length typing.specs) top form (count kids) met.0 (Err reason) (at_ok lines (row top form (count kids)) met.0 met.1) (head_failed owner top form typing reason r.0), r.1)
+              inl (
+                asked_is (length typing.specs) top form (count kids) met.0 (Err reason)
+                    (at_ok lines (row top form (count kids)) met.0 met.1)
+                    (head_failed owner top form typing reason r.0),
+                r.1,
+              )
           | inr more ↦
               let head = head_passed owner top form typing more.0
               (at_ok lines (with_head owner top form typing) more.0 more.1) in
@@ -258,7 +267,12 @@ side_passed owner (stored.File form) (link_side linkset ts) lines typing x h res
 side_passed owner (stored.Link o m) (file_side t) lines typing x h rest line reason first =
     absurd cc
 side_passed owner (stored.Link o m) (link_side linkset ts) lines typing x h rest line reason first =
-    inr (refl, at_next (length typing.specs) _ (other_lines lines) line reason (terms_passed owner (link_form linkset o m) 0 (kids_from ts) (other_lines lines) typing x h rest line reason first))
+    inr (
+      refl,
+      at_next (length typing.specs) _ (other_lines lines) line reason
+          (terms_passed owner (link_form linkset o m) 0 (kids_from ts)
+          (other_lines lines) typing x h rest line reason first),
+    )
 
 side_failed : (owner : ℕ) (due : Stored) (side : SideTree) (lines : List ℕ) (typing : Typing)
     (line : ℕ) (reason : TypeWhy) → side_typed owner due side lines typing ≡ Err (line, reason)
@@ -271,7 +285,12 @@ side_failed owner (stored.File form) (link_side linkset ts) lines typing line re
 side_failed owner (stored.Link o m) (file_side t) lines typing line reason h rest =
     inl (wrong (List ℕ × Typing) lines why.Linkset line reason h)
 side_failed owner (stored.Link o m) (link_side linkset ts) lines typing line reason h rest =
-    inr (refl, at_next (length typing.specs) _ (other_lines lines) line reason (terms_failed owner (link_form linkset o m) 0 (kids_from ts) (other_lines lines) typing line reason h rest))
+    inr (
+      refl,
+      at_next (length typing.specs) _ (other_lines lines) line reason
+          (terms_failed owner (link_form linkset o m) 0 (kids_from ts)
+          (other_lines lines) typing line reason h rest),
+    )
 
 all_failed : (owner : ℕ) (ds : List Due) (es : List DefinitionTree) (lines : List ℕ)
     (typing : Typing) (line : ℕ) (reason : TypeWhy)
@@ -289,7 +308,14 @@ all_failed owner (due ∷ ds) (d ∷ es) lines typing line reason h =
             | inl e ↦ inl (at_err lines (tested why.Definition (pointwise nat_eq due.name d.name))
                 line
                 reason e)
-            | inr named ↦ inr (at_ok lines (tested why.Definition (pointwise nat_eq due.name d.name)) named.0 named.1, at_next (length typing.specs) _ (other_lines lines) line reason (side_failed owner due.stored d.side (other_lines lines) typing line reason named.2 (places_of_all ds es)))
+            | inr named ↦ inr (
+              at_ok lines (tested why.Definition (pointwise nat_eq due.name d.name)) named.0
+                  named.1,
+              at_next (length typing.specs) _ (other_lines lines) line reason
+                  (side_failed owner due.stored d.side (other_lines lines) typing line
+                  reason named.2
+                  (places_of_all ds es)),
+            )
           ]
       | inr first ↦
           let named = behind_ok (at lines

@@ -137,8 +137,11 @@ names_found form [] h = tt
 names_found form (name ∷ names) h =
     let both = then_true (is_data form name && not (has_name names name)) (are_data form names) h in
     let here = and_parts (is_data form name) (not (has_name names name)) both.0 in
-    let d = is_data_ok (kind_in form.keys name) (kind_in form.fields name) here.0 in
-    ((d.0, record { no_key = d.1; is = d.2 }), not_true (has_name names name) here.1, names_found form names both.1)
+    let d = is_data_ok (kind_in form.keys name) (kind_in form.fields name) here.0 in (
+      (d.0, record { no_key = d.1; is = d.2 }),
+      not_true (has_name names name) here.1,
+      names_found form names both.1,
+    )
 
 names_again : (form : Form) (names : List (List ℕ)) → AreDataFields form names
     → are_data form names ≡ true
@@ -310,7 +313,11 @@ row_found (heads.Leaf kind) form kids u h =
 row_found heads.Actual form kids u h = tt
 row_found (heads.Encode name code) form kids u h =
     let k = behind_ok (data_kind form name) _ _ h in
-    record { kind = k.0; field = field_found form name k.0 k.1; coded = code_ok code k.0 (tested_ok why.FieldKind (is_coded code k.0) u k.2) }
+    record {
+      kind = k.0;
+      field = field_found form name k.0 k.1;
+      coded = code_ok code k.0 (tested_ok why.FieldKind (is_coded code k.0) u k.2);
+    }
 row_found (heads.Segment names) form kids u h =
     let n = behind_ok (tested why.FieldName (are_data form names)) _ _ h in
     record {
@@ -344,7 +351,11 @@ row_found (heads.Divide size) form kids u h =
     one_ok form.fields (tested_ok why.OneBytes (one_bytes form.fields) u h)
 row_found (heads.Index name) form kids u h =
     let k = behind_ok (data_kind form name) _ _ h in
-    record { kind = k.0; field = field_found form name k.0 k.1; key_kind = key_kind_ok k.0 (tested_ok why.FieldKind (is_key_kind k.0) u k.2) }
+    record {
+      kind = k.0;
+      field = field_found form name k.0 k.1;
+      key_kind = key_kind_ok k.0 (tested_ok why.FieldKind (is_key_kind k.0) u k.2);
+    }
 
 pub row_again : (top : Head) (form : Form) (kids : ℕ) → IsMet top form kids
     → row top form kids ≡ Ok tt

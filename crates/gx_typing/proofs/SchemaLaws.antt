@@ -8,4 +8,11 @@ use Rattle.gx_typing.specs.Dues.{file_due, link_due, dues}
 
 pub few_dues : (schema : Schema) → IsSchema schema → length (dues schema) ≤ 64
 few_dues schema is =
-    omega (arith, files_few [] schema.files is.files (omega arith), links_few schema.files [] schema.links is.links (omega arith), length-append (map file_due schema.files) (map (link_due schema.files) schema.links), length-map schema.files file_due, length-map schema.links (link_due schema.files))
+    omega (
+      arith,
+      files_few [] schema.files is.files (omega arith),
+      links_few schema.files [] schema.links is.links (omega arith),
+      length-append (map file_due schema.files) (map (link_due schema.files) schema.links),
+      length-map schema.files file_due,
+      length-map schema.links (link_due schema.files),
+    )

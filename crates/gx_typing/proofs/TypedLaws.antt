@@ -40,7 +40,11 @@ one_more owner spec = record { owner = owner; spec = spec }
 
 typing_one_more : (before : List Leaf) (leaf : Leaf)
     → typing_with (before ++ leaf ∷ [])
-    ≡ record { specs = map spec_of before ++ leaf.spec ∷ []; owners = map owner_of before ++ leaf.owner ∷ [] }
+    ≡ record {
+      specs = map spec_of before ++ leaf.spec ∷ [];
+      owners = map owner_of before
+          ++ leaf.owner ∷ [];
+    }
 typing_one_more before leaf =
     let s = map-append spec_of before (leaf ∷ []) in
     let o = map-append owner_of before (leaf ∷ []) in
@@ -84,7 +88,11 @@ leaf_ok owner spec before more h =
     (λ b. nat_lt (length (map spec_of before)) 255 ≡ b
     → cond b (Ok (next owner spec before)) (Err why.Leaves) ≡ Ok more
     → Went before (one_more owner spec ∷ []) more) [
-      | true ↦ λ is e. record { typing = sym (ok_is (next owner spec before) more e) ∙ sym (typing_one_more before (one_more owner spec)); few = room is }
+      | true ↦ λ is e. record {
+        typing = sym (ok_is (next owner spec before) more e)
+            ∙ sym (typing_one_more before (one_more owner spec));
+        few = room is;
+      }
       | false ↦ λ is e. absurd (not_ok why.Leaves more e)
     ] refl h
   where
@@ -159,15 +167,25 @@ mutual
       let onward = subst (λ (typing : Typing). kids_typed owner (kid_form top form) 0 kids
       (other_lines lines) typing ≡ Ok x) here.typing more.2 in
       let kids_are = kids_found owner (kid_form top form) 0 kids (other_lines lines)
-      (before ++ leaf_here owner top form) x here.few onward in
-      ((row_found top form (count kids) met.0 (at_ok lines (row top form (count kids)) met.0 met.1), kids_are.0), went_both before (leaf_here owner top form) (leaves_of_kids owner (kid_form top form) 0 kids) x.1 kids_are.1)
+      (before ++ leaf_here owner top form) x here.few onward in (
+        (
+          row_found top form (count kids) met.0
+              (at_ok lines (row top form (count kids)) met.0 met.1),
+          kids_are.0,
+        ),
+        went_both before (leaf_here owner top form)
+            (leaves_of_kids owner (kid_form top form) 0 kids) x.1 kids_are.1,
+      )
 
   kids_found : (owner : ℕ) (forms : ℕ → Form) (i : ℕ) (ts : Trees) (lines : List ℕ)
       (before : List Leaf) (x : List ℕ × Typing) → length before ≤ 255
       → kids_typed owner forms i ts lines (typing_with before) ≡ Ok x
       → AreTypedTerms forms i ts × Went before (leaves_of_kids owner forms i ts) x.1
-  kids_found owner forms i none lines before x few h =
-      (tt, went_nowhere before x.1 few (ap (λ (y : List ℕ × Typing). y.1) (ok_pair (lines, typing_with before) x h)))
+  kids_found owner forms i none lines before x few h = (
+    tt,
+    went_nowhere before x.1 few
+        (ap (λ (y : List ℕ × Typing). y.1) (ok_pair (lines, typing_with before) x h)),
+  )
     where
       ok_pair : (x y : List ℕ × Typing) → ◌≡◌ {A = Result (List ℕ × Typing) Mistake} (Ok x) (Ok y)
           → x ≡ y
@@ -178,13 +196,21 @@ mutual
       let onward = subst (λ (typing : Typing). kids_typed owner forms (suc i) ts first.0.0 typing
       ≡ Ok x) term.1.typing first.2 in
       let others = kids_found owner forms (suc i) ts first.0.0
-      (before ++ leaves_of owner (forms i) t) x term.1.few onward in
-      ((term.0, others.0), went_both before (leaves_of owner (forms i) t) (leaves_of_kids owner forms (suc i) ts) x.1 others.1)
+      (before ++ leaves_of owner (forms i) t) x term.1.few onward in (
+        (term.0, others.0),
+        went_both before (leaves_of owner (forms i) t)
+            (leaves_of_kids owner forms (suc i) ts) x.1 others.1,
+      )
 
 front_few : (before one other : List Leaf) → length (before ++ (one ++ other)) ≤ 255
     → length (before ++ one) ≤ 255
 front_few before one other few =
-    omega (arith, length-append before (one ++ other), length-append one other, length-append before one)
+    omega (
+      arith,
+      length-append before (one ++ other),
+      length-append one other,
+      length-append before one,
+    )
 
 behind_few : (before one other : List Leaf) → length (before ++ (one ++ other)) ≤ 255
     → length ((before ++ one) ++ other) ≤ 255
@@ -283,8 +309,11 @@ all_found owner (due ∷ ds) (d ∷ es) lines before typing few h =
     let name = (bytes_decides due.name d.name).0
     (tested_ok why.Definition (pointwise nat_eq due.name d.name) named.0
     (at_ok lines (tested why.Definition (pointwise nat_eq due.name d.name)) named.0
-    named.1)) in
-    ((name, side.0, others.0), went_both before (leaves_of_side owner due.stored d.side) (leaves_of_all (suc owner) ds es) typing others.1)
+    named.1)) in (
+      (name, side.0, others.0),
+      went_both before (leaves_of_side owner due.stored d.side)
+          (leaves_of_all (suc owner) ds es) typing others.1,
+    )
 
 all_again : (owner : ℕ) (ds : List Due) (es : List DefinitionTree) (lines : List ℕ)
     (before : List Leaf) → AreTyped ds es → length (before ++ leaves_of_all owner ds es) ≤ 255
@@ -351,5 +380,10 @@ pub ok_few : (schema : Schema) (ds : List DefinitionTree) (lines : List ℕ)
     → IfOk r (λ typing. length typing.specs ≤ 255)
 ok_few schema ds lines (Ok typing) h =
     let f = found schema ds lines typing h in
-    omega (arith, f.0.few, ap (λ (t : Typing). length t.specs) f.1, length-map (leaves schema ds) spec_of)
+    omega (
+      arith,
+      f.0.few,
+      ap (λ (t : Typing). length t.specs) f.1,
+      length-map (leaves schema ds) spec_of,
+    )
 ok_few schema ds lines (Err e) h = tt

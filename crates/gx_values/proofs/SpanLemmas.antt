@@ -334,8 +334,11 @@ high_beside (kind.Text most) front p hi f e =
     ends : (front : List ℕ) → IsTrue (list_all is_printable (front ++ suc p ∷ []))
         → IsTrue (list_all is_printable front) × (0 < p)
     ends [] h = (refl, omega (arith, above_one (suc p) [] h))
-    ends (x ∷ front) h = let rest = ends front (printable_tail x (front ++ suc p ∷ []) h) in
-        (subst (λ b. b && list_all is_printable front ≡ true) (sym (printable_one x (front ++ suc p ∷ []) h)) rest.0, rest.1)
+    ends (x ∷ front) h = let rest = ends front (printable_tail x (front ++ suc p ∷ []) h) in (
+      subst (λ b. b && list_all is_printable front ≡ true)
+          (sym (printable_one x (front ++ suc p ∷ []) h)) rest.0,
+      rest.1,
+    )
 
     whole : (v : Value) (rest : List ℕ) → Fits (kind.Text most) v
         → front ++ p ∷ [] ≡ bytes_of v ++ rest → rest ≡ []

@@ -30,18 +30,25 @@ IsSmall _ = Unit {0}
 abbrev pub words_of : Task → List Word
 words_of task.Begin = Bare (codes "begin") ∷ []
 words_of task.Commit = Bare (codes "commit") ∷ []
-words_of (task.Department d) = Bare (codes "insert") ∷ Bare (codes "dept") ∷ Bare (decimal d) ∷ Quoted (codes "dept " ++ decimal d) ∷ []
-words_of (task.Employee i) = Bare (codes "insert") ∷ Bare (codes "emp") ∷ Bare (decimal i) ∷ Quoted (codes "emp " ++ decimal i) ∷ Bare (decimal (pay_of i)) ∷ Quoted (room_of i) ∷ []
-words_of (task.Connection i) = Bare (codes "connect") ∷ Bare (codes "works") ∷ Bare (decimal (department_of i)) ∷ Bare (decimal i) ∷ []
-words_of (task.Raise i) = Bare (codes "update") ∷ Bare (codes "emp") ∷ Bare (decimal i) ∷ Bare (codes "pay") ∷ Bare (codes "1500") ∷ []
-words_of task.FindByPay = Bare (codes "find") ∷ Bare (codes "emp") ∷ Bare (codes "where") ∷ Bare (codes "pay") ∷ Bare (codes "=") ∷ Bare (codes "1500") ∷ []
-words_of task.FindByLink = Bare (codes "find") ∷ Bare (codes "emp") ∷ Bare (codes "of") ∷ Bare (codes "works") ∷ Bare (codes "3") ∷ []
+words_of (task.Department d) = Bare (codes "insert") ∷ Bare (codes "dept") ∷ Bare
+    (decimal d) ∷ Quoted (codes "dept " ++ decimal d) ∷ []
+words_of (task.Employee i) = Bare (codes "insert") ∷ Bare (codes "emp") ∷ Bare (decimal i) ∷ Quoted
+    (codes "emp " ++ decimal i) ∷ Bare (decimal (pay_of i)) ∷ Quoted (room_of i) ∷ []
+words_of (task.Connection i) = Bare (codes "connect") ∷ Bare (codes "works") ∷ Bare
+    (decimal (department_of i)) ∷ Bare (decimal i) ∷ []
+words_of (task.Raise i) = Bare (codes "update") ∷ Bare (codes "emp") ∷ Bare (decimal i) ∷ Bare
+    (codes "pay") ∷ Bare (codes "1500") ∷ []
+words_of task.FindByPay = Bare (codes "find") ∷ Bare (codes "emp") ∷ Bare (codes "where") ∷ Bare
+    (codes "pay") ∷ Bare (codes "=") ∷ Bare (codes "1500") ∷ []
+words_of task.FindByLink = Bare (codes "find") ∷ Bare (codes "emp") ∷ Bare (codes "of") ∷ Bare
+    (codes "works") ∷ Bare (codes "3") ∷ []
 
 -- its line without the LF
 abbrev pub line_of : Task → List ℕ
 line_of t = spaced (words_of t)
 
-room_same : (b : Bool) → 32 ∷ (34 ∷ cond b [] (codes "r7") ++ 34 ∷ []) ++ 10 ∷ [] ≡ cond b (codes " \"\"\n") (codes " \"r7\"\n")
+room_same : (b : Bool) → 32 ∷ (34 ∷ cond b [] (codes "r7") ++ 34 ∷ [])
+    ++ 10 ∷ [] ≡ cond b (codes " \"\"\n") (codes " \"r7\"\n")
 room_same true = refl
 room_same false = refl
 
@@ -54,13 +61,17 @@ quoted_twice : (d a b x y : List ℕ)
 quoted_twice d a b x y = simp append_assoc
 
 employee_line : (d p r t : List ℕ) → t ≡ 32 ∷ (34 ∷ r ++ 34 ∷ []) ++ 10 ∷ []
-    → codes "insert emp " ++ d ++ codes " \"emp " ++ d ++ codes "\" " ++ p ++ t ≡ spaced (Bare (codes "insert") ∷ Bare (codes "emp") ∷ Bare d ∷ Quoted (codes "emp " ++ d) ∷ Bare p ∷ Quoted r ∷ []) ++ 10 ∷ []
+    → codes "insert emp " ++ d ++ codes " \"emp " ++ d ++ codes "\" " ++ p
+    ++ t ≡ spaced (Bare (codes "insert") ∷ Bare (codes "emp") ∷ Bare d ∷ Quoted
+    (codes "emp " ++ d) ∷ Bare p ∷ Quoted r ∷ []) ++ 10 ∷ []
 employee_line d p r t e =
     let z = 32 ∷ (34 ∷ r ++ 34 ∷ []) in
     ap (λ x. codes "insert emp " ++ d ++ codes " \"emp " ++ d ++ codes "\" " ++ p ++ x) e
     ∙ to_the_right (codes "insert emp ") (codes " \"emp ") (codes "\" ") d p (z ++ 10 ∷ [])
-    ∙ ap (λ x. codes "insert emp " ++ (d ++ (codes " \"emp " ++ (d ++ (codes "\" " ++ x))))) (sym (append_assoc p z (10 ∷ [])))
-    ∙ ap (λ x. codes "insert emp " ++ x) (sym (quoted_twice d (codes " \"emp ") (34 ∷ []) (32 ∷ (p ++ z)) (10 ∷ [])))
+    ∙ ap (λ x. codes "insert emp " ++ (d ++ (codes " \"emp " ++ (d ++ (codes "\" " ++ x)))))
+    (sym (append_assoc p z (10 ∷ [])))
+    ∙ ap (λ x. codes "insert emp " ++ x)
+    (sym (quoted_twice d (codes " \"emp ") (34 ∷ []) (32 ∷ (p ++ z)) (10 ∷ [])))
 
 pub line_is : (t : Task) → line_text t ≡ line_of t ++ 10 ∷ []
 line_is task.Begin = refl
@@ -93,13 +104,31 @@ plain_blank = record { low = omega arith; high = omega arith; other = λ e. omeg
 
 plain_room : (b : Bool) → AllByRecursion IsPlain (cond b [] (codes "r7"))
 plain_room true = tt
-plain_room false = (plain_byte 114 (omega arith) (omega arith), (plain_byte 55 (omega arith) (omega arith), tt))
+plain_room false = (
+  plain_byte 114 (omega arith) (omega arith),
+  (plain_byte 55 (omega arith) (omega arith), tt),
+)
 
 plain_dept : (d : ℕ) → d < 2 ^ 64 → AllByRecursion IsPlain (codes "dept " ++ decimal d)
-plain_dept d lt = (plain_byte 100 (omega arith) (omega arith), (plain_byte 101 (omega arith) (omega arith), (plain_byte 112 (omega arith) (omega arith), (plain_byte 116 (omega arith) (omega arith), (plain_blank, plain_decimal d lt)))))
+plain_dept d lt = (
+  plain_byte 100 (omega arith) (omega arith),
+  (
+    plain_byte 101 (omega arith) (omega arith),
+    (
+      plain_byte 112 (omega arith) (omega arith),
+      (plain_byte 116 (omega arith) (omega arith), (plain_blank, plain_decimal d lt)),
+    ),
+  ),
+)
 
 plain_emp : (i : ℕ) → i < 2 ^ 64 → AllByRecursion IsPlain (codes "emp " ++ decimal i)
-plain_emp i lt = (plain_byte 101 (omega arith) (omega arith), (plain_byte 109 (omega arith) (omega arith), (plain_byte 112 (omega arith) (omega arith), (plain_blank, plain_decimal i lt))))
+plain_emp i lt = (
+  plain_byte 101 (omega arith) (omega arith),
+  (
+    plain_byte 109 (omega arith) (omega arith),
+    (plain_byte 112 (omega arith) (omega arith), (plain_blank, plain_decimal i lt)),
+  ),
+)
 
 good_begin : IsGood (Bare (codes "begin"))
 good_begin = bare _ (λ e. omega arith, (refl, (refl, (refl, (refl, (refl, tt)))))) refl
@@ -150,12 +179,36 @@ good_3 = bare _ (λ e. omega arith, (refl, tt)) refl
 pub good_words : (t : Task) → IsSmall t → AllByRecursion IsGood (words_of t)
 good_words task.Begin s = (good_begin, tt)
 good_words task.Commit s = (good_commit, tt)
-good_words (task.Department d) s =
-    (good_insert, (good_dept, (number_good d (omega arith), (quoted_good _ (plain_dept d (omega arith)), tt))))
-good_words (task.Employee i) s =
-    (good_insert, (good_emp, (number_good i (omega arith), (quoted_good _ (plain_emp i (omega arith)), (number_good (pay_of i) (omega arith), (quoted_good (room_of i) (plain_room (eqb (i % 2) 0)), tt))))))
-good_words (task.Connection i) s =
-    (good_connect, (good_works, (number_good (department_of i) (omega arith), (number_good i (omega arith), tt))))
+good_words (task.Department d) s = (
+  good_insert,
+  (good_dept, (number_good d (omega arith), (quoted_good _ (plain_dept d (omega arith)), tt))),
+)
+good_words (task.Employee i) s = (
+  good_insert,
+  (
+    good_emp,
+    (
+      number_good i (omega arith),
+      (
+        quoted_good _ (plain_emp i (omega arith)),
+        (
+          number_good (pay_of i) (omega arith),
+          (quoted_good (room_of i) (plain_room (eqb (i % 2) 0)), tt),
+        ),
+      ),
+    ),
+  ),
+)
+good_words (task.Connection i) s = (
+  good_connect,
+  (
+    good_works,
+    (
+      number_good (department_of i) (omega arith),
+      (number_good i (omega arith), tt),
+    ),
+  ),
+)
 good_words (task.Raise i) s =
     (good_update, (good_emp, (number_good i (omega arith), (good_pay, (good_1500, tt)))))
 good_words task.FindByPay s =
@@ -204,8 +257,19 @@ means_3 = (refl, refl)
 words_mean : (t : Task) → IsSmall t → CommandWords work_schema (command_of t) (words_of t) []
 words_mean task.Begin s = refl
 words_mean task.Commit s = refl
-words_mean (task.Department d) s =
-    (_, refl, (_, dept_name _, (_, (_, refl, number_means d (omega arith)), (_, (_, refl, plain_unquoted _ (plain_dept d (omega arith))), refl))))
+words_mean (task.Department d) s = (
+  _,
+  refl,
+  (
+    _,
+    dept_name _,
+    (
+      _,
+      (_, refl, number_means d (omega arith)),
+      (_, (_, refl, plain_unquoted _ (plain_dept d (omega arith))), refl),
+    ),
+  ),
+)
 words_mean (task.Employee i) s = (
   _,
   refl,
@@ -218,19 +282,63 @@ words_mean (task.Employee i) s = (
       (
         _,
         (_, refl, plain_unquoted _ (plain_emp i (omega arith))),
-        (_, (_, refl, number_means (pay_of i) (omega arith)), (_, (_, refl, plain_unquoted (room_of i) (plain_room (eqb (i % 2) 0))), refl)),
+        (
+          _,
+          (_, refl, number_means (pay_of i) (omega arith)),
+          (_, (_, refl, plain_unquoted (room_of i) (plain_room (eqb (i % 2) 0))), refl),
+        ),
       ),
     ),
   ),
 )
-words_mean (task.Connection i) s =
-    (_, refl, (_, works_name _, (_, (_, refl, number_means (department_of i) (omega arith)), (_, refl, number_means i (omega arith)))))
-words_mean (task.Raise i) s =
-    (_, refl, (_, emp_name _, (_, (_, refl, number_means i (omega arith)), (_, pay_name _, (_, refl, means_1500)))))
-words_mean task.FindByPay s =
-    (_, refl, (_, emp_name _, (_, (_, refl, (_, pay_name _, (_, refl, (_, refl, means_1500)))), (_, refl, inl (refl, refl)))))
-words_mean task.FindByLink s =
-    (_, refl, (_, emp_name _, (_, refl, (_, (_, refl, (_, works_name _, (_, refl, means_3))), inl (refl, refl)))))
+words_mean (task.Connection i) s = (
+  _,
+  refl,
+  (
+    _,
+    works_name _,
+    (
+      _,
+      (_, refl, number_means (department_of i) (omega arith)),
+      (_, refl, number_means i (omega arith)),
+    ),
+  ),
+)
+words_mean (task.Raise i) s = (
+  _,
+  refl,
+  (
+    _,
+    emp_name _,
+    (
+      _,
+      (_, refl, number_means i (omega arith)),
+      (_, pay_name _, (_, refl, means_1500)),
+    ),
+  ),
+)
+words_mean task.FindByPay s = (
+  _,
+  refl,
+  (
+    _,
+    emp_name _,
+    (
+      _,
+      (_, refl, (_, pay_name _, (_, refl, (_, refl, means_1500)))),
+      (_, refl, inl (refl, refl)),
+    ),
+  ),
+)
+words_mean task.FindByLink s = (
+  _,
+  refl,
+  (
+    _,
+    emp_name _,
+    (_, refl, (_, (_, refl, (_, works_name _, (_, refl, means_3))), inl (refl, refl))),
+  ),
+)
 
 -- ---- what fits the schema
 
@@ -243,10 +351,18 @@ short : (k n : ℕ) → 0 < k → n < 10 ^ k → n < 2 ^ 64 → length (decimal 
 short = length-decimal-le
 
 dept_short : (d : ℕ) → d < 10 → length (codes "dept " ++ decimal d) ≤ 12
-dept_short d lt = omega (arith, short 1 d (omega arith) (omega arith) (omega arith), length-append (codes "dept ") (decimal d))
+dept_short d lt = omega (
+  arith,
+  short 1 d (omega arith) (omega arith) (omega arith),
+  length-append (codes "dept ") (decimal d),
+)
 
 emp_short : (i : ℕ) → i ≤ 10000 → length (codes "emp " ++ decimal i) ≤ 24
-emp_short i le = omega (arith, short 5 i (omega arith) (omega arith) (omega arith), length-append (codes "emp ") (decimal i))
+emp_short i le = omega (
+  arith,
+  short 5 i (omega arith) (omega arith) (omega arith),
+  length-append (codes "emp ") (decimal i),
+)
 
 room_short : (b : Bool) → length (cond b [] (codes "r7")) ≤ 8
 room_short true = omega arith
@@ -255,36 +371,98 @@ room_short false = omega arith
 fits : (t : Task) → IsSmall t → IsOfSchema work_schema (command_of t)
 fits task.Begin s = tt
 fits task.Commit s = tt
-fits (task.Department d) s = (omega arith, (omega arith, ((dept_short d s, printable (codes "dept " ++ decimal d) (plain_dept d (omega arith))), tt)))
-fits (task.Employee i) s = (omega arith, (omega arith, ((emp_short i s, printable (codes "emp " ++ decimal i) (plain_emp i (omega arith))), (omega arith, ((room_short (eqb (i % 2) 0), printable (room_of i) (plain_room (eqb (i % 2) 0))), tt)))))
+fits (task.Department d) s = (
+  omega arith,
+  (
+    omega arith,
+    ((dept_short d s, printable (codes "dept " ++ decimal d) (plain_dept d (omega arith))), tt),
+  ),
+)
+fits (task.Employee i) s = (
+  omega arith,
+  (
+    omega arith,
+    (
+      (emp_short i s, printable (codes "emp " ++ decimal i) (plain_emp i (omega arith))),
+      (
+        omega arith,
+        ((room_short (eqb (i % 2) 0), printable (room_of i) (plain_room (eqb (i % 2) 0))), tt),
+      ),
+    ),
+  ),
+)
 fits (task.Connection i) s = (omega arith, omega arith, omega arith)
-fits (task.Raise i) s =
-    (omega arith, omega arith, (record { past_key = omega arith; in_file = omega arith; fits = omega arith }, tt), (tt, tt))
+fits (task.Raise i) s = (
+  omega arith,
+  omega arith,
+  (record { past_key = omega arith; in_file = omega arith; fits = omega arith }, tt),
+  (tt, tt),
+)
 fits task.FindByPay s =
-    record { file = omega arith; conds = (record { in_file = omega arith; fits = omega arith }, tt); of = tt; order = omega arith }
+    record {
+      file = omega arith;
+      conds = (record { in_file = omega arith; fits = omega arith }, tt);
+      of = tt;
+      order = omega arith;
+    }
 fits task.FindByLink s =
-    record { file = omega arith; conds = tt; of = (omega arith, refl, omega arith); order = omega arith }
+    record {
+      file = omega arith;
+      conds = tt;
+      of = (omega arith, refl, omega arith);
+      order = omega arith;
+    }
 
 -- the line of a task means its command
 pub line_means : (t : Task) → IsSmall t → IsLineOf work_schema (line_of t) (command_of t)
-line_means t s = inr (no_comment t, all_characters (words_of t) (good_words t s), (words_of t, words_are (words_of t) (good_words t s), record { words = words_mean t s; rules = fits t s }))
+line_means t s = inr (
+  no_comment t,
+  all_characters (words_of t) (good_words t s),
+  (
+    words_of t,
+    words_are (words_of t) (good_words t s),
+    record { words = words_mean t s; rules = fits t s },
+  ),
+)
 
 pub line_characters : (t : Task) → IsSmall t → list_all is_character (line_of t) ≡ true
 line_characters t s = all_characters (words_of t) (good_words t s)
 
 -- ---- how long it is
 
-employee_length : (d p r : List ℕ) → length d ≤ 5 → length p ≤ 5 → length r ≤ 8 → length (spaced (Bare (codes "insert") ∷ Bare (codes "emp") ∷ Bare d ∷ Quoted (codes "emp " ++ d) ∷ Bare p ∷ Quoted r ∷ [])) ≤ 50
+employee_length : (d p r : List ℕ) → length d ≤ 5 → length p ≤ 5 → length r ≤ 8
+    → length (spaced (Bare (codes "insert") ∷ Bare (codes "emp") ∷ Bare d ∷ Quoted
+    (codes "emp " ++ d) ∷ Bare p ∷ Quoted r ∷ [])) ≤ 50
 employee_length d p r x y z =
-    omega (arith, length-append d (32 ∷ (34 ∷ (codes "emp " ++ d) ++ 34 ∷ []) ++ 32 ∷ (p ++ 32 ∷ (34 ∷ r ++ 34 ∷ []))), length-append (codes "emp " ++ d) (34 ∷ []), length-append ((codes "emp " ++ d) ++ 34 ∷ []) (32 ∷ (p ++ 32 ∷ (34 ∷ r ++ 34 ∷ []))), length-append p (32 ∷ (34 ∷ r ++ 34 ∷ [])), length-append r (34 ∷ []), length-append d (34 ∷ []), length-append (d ++ 34 ∷ []) (32 ∷ (p ++ 32 ∷ (34 ∷ r ++ 34 ∷ []))))
+    omega (
+      arith,
+      length-append d (32 ∷ (34 ∷ (codes "emp " ++ d) ++ 34 ∷ [])
+          ++ 32 ∷ (p ++ 32 ∷ (34 ∷ r ++ 34 ∷ []))),
+      length-append (codes "emp " ++ d) (34 ∷ []),
+      length-append ((codes "emp " ++ d) ++ 34 ∷ []) (32 ∷ (p ++ 32 ∷ (34 ∷ r ++ 34 ∷ []))),
+      length-append p (32 ∷ (34 ∷ r ++ 34 ∷ [])),
+      length-append r (34 ∷ []),
+      length-append d (34 ∷ []),
+      length-append (d ++ 34 ∷ [])
+          (32 ∷ (p ++ 32 ∷ (34 ∷ r ++ 34 ∷ []))),
+    )
 
-dept_length : (d : List ℕ) → length d ≤ 5 → length (spaced (Bare (codes "insert") ∷ Bare (codes "dept") ∷ Bare d ∷ Quoted (codes "dept " ++ d) ∷ [])) ≤ 50
-dept_length d x = omega (arith, length-append d (32 ∷ (34 ∷ (codes "dept " ++ d) ++ 34 ∷ [])), length-append d (34 ∷ []))
+dept_length : (d : List ℕ) → length d ≤ 5
+    → length (spaced (Bare (codes "insert") ∷ Bare (codes "dept") ∷ Bare d ∷ Quoted
+    (codes "dept " ++ d) ∷ [])) ≤ 50
+dept_length d x = omega (
+  arith,
+  length-append d (32 ∷ (34 ∷ (codes "dept " ++ d) ++ 34 ∷ [])),
+  length-append d (34 ∷ []),
+)
 
-connection_length : (o i : List ℕ) → length o ≤ 5 → length i ≤ 5 → length (spaced (Bare (codes "connect") ∷ Bare (codes "works") ∷ Bare o ∷ Bare i ∷ [])) ≤ 50
+connection_length : (o i : List ℕ) → length o ≤ 5 → length i ≤ 5
+    → length (spaced (Bare (codes "connect") ∷ Bare (codes "works") ∷ Bare o ∷ Bare i ∷ [])) ≤ 50
 connection_length o i x y = omega (arith, length-append o (32 ∷ i))
 
-raise_length : (i : List ℕ) → length i ≤ 5 → length (spaced (Bare (codes "update") ∷ Bare (codes "emp") ∷ Bare i ∷ Bare (codes "pay") ∷ Bare (codes "1500") ∷ [])) ≤ 50
+raise_length : (i : List ℕ) → length i ≤ 5
+    → length (spaced (Bare (codes "update") ∷ Bare (codes "emp") ∷ Bare i ∷ Bare
+    (codes "pay") ∷ Bare (codes "1500") ∷ [])) ≤ 50
 raise_length i x = omega (arith, length-append i (codes " pay 1500"))
 
 pub line_short : (t : Task) → IsSmall t → length (line_of t) ≤ 50

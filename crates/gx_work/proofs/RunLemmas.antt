@@ -62,11 +62,18 @@ ascends_filter p (x ∷ xs) h =
     ]
 
 listed : (f : File) (test : Row → Bool) → IsListed f test by_key (filter test (fin.entries f))
-listed f test = record { those = IsPermutation-refl _; in_order = ascends_filter test (fin.entries f) (ascends (fin.entries f) (fin.entries_sorted f)) }
+listed f test = record {
+  those = IsPermutation-refl _;
+  in_order = ascends_filter test (fin.entries f) (ascends (fin.entries f) (fin.entries_sorted f));
+}
 
 list_text : (def : FileDef) (f : File) (test : Row → Bool)
     → IsListText def f test by_key (rows_text def (filter test (fin.entries f)))
-list_text def f test = record { rows = filter test (fin.entries f); listed = listed f test; is = refl }
+list_text def f test = record {
+  rows = filter test (fin.entries f);
+  listed = listed f test;
+  is = refl;
+}
 
 -- ---- each command has an answer
 
@@ -81,11 +88,23 @@ answer_or (Some why) Reply reply h = (refusal_text why, refl)
 
 answer_of : (t : Task) (p : Playing) → HasAnswer p (command_of t)
 answer_of task.Begin p = record { text = codes "begun\n"; answered = refl }
-answer_of task.Commit p = record { text = codes "committed " ++ decimal (next_count p.commits) ++ codes "\n"; answered = refl }
-answer_of (task.Department d) p = let a = answer_or (refusal_of work_schema (seen_state p) (command_of (task.Department d))) (λ t. t ≡ codes "ok\n") (codes "ok\n") refl in record { text = a.0; answered = a.1 }
-answer_of (task.Employee i) p = let a = answer_or (refusal_of work_schema (seen_state p) (command_of (task.Employee i))) (λ t. t ≡ codes "ok\n") (codes "ok\n") refl in record { text = a.0; answered = a.1 }
-answer_of (task.Connection i) p = let a = answer_or (refusal_of work_schema (seen_state p) (command_of (task.Connection i))) (λ t. t ≡ codes "ok\n") (codes "ok\n") refl in record { text = a.0; answered = a.1 }
-answer_of (task.Raise i) p = let a = answer_or (refusal_of work_schema (seen_state p) (command_of (task.Raise i))) (λ t. t ≡ codes "ok\n") (codes "ok\n") refl in record { text = a.0; answered = a.1 }
+answer_of task.Commit p = record {
+  text = codes "committed " ++ decimal (next_count p.commits)
+      ++ codes "\n";
+  answered = refl;
+}
+answer_of (task.Department d) p = let a = answer_or
+    (refusal_of work_schema (seen_state p) (command_of (task.Department d))) (λ t. t ≡ codes "ok\n")
+    (codes "ok\n") refl in record { text = a.0; answered = a.1 }
+answer_of (task.Employee i) p = let a = answer_or
+    (refusal_of work_schema (seen_state p) (command_of (task.Employee i))) (λ t. t ≡ codes "ok\n")
+    (codes "ok\n") refl in record { text = a.0; answered = a.1 }
+answer_of (task.Connection i) p = let a = answer_or
+    (refusal_of work_schema (seen_state p) (command_of (task.Connection i))) (λ t. t ≡ codes "ok\n")
+    (codes "ok\n") refl in record { text = a.0; answered = a.1 }
+answer_of (task.Raise i) p = let a = answer_or
+    (refusal_of work_schema (seen_state p) (command_of (task.Raise i))) (λ t. t ≡ codes "ok\n")
+    (codes "ok\n") refl in record { text = a.0; answered = a.1 }
 answer_of task.FindByPay p = let a =
     answer_or (refusal_of work_schema (seen_state p) (command_of task.FindByPay))
     (IsReply work_schema (seen_state p) (command_of task.FindByPay)) _ (list_text _ _ _) in
@@ -97,7 +116,8 @@ answer_of task.FindByLink p = let a =
 
 -- ---- runs
 
--- the lines of tasks run from a moment, to one at which a transaction is open or not, and with so many commits
+-- the lines of tasks run from a moment, to one at which a transaction is open or not, and with so
+-- many commits
 pub record RunsTo (p : Playing) (ts : List Task) (inside : Bool) (commits : ℕ) : Type 0 where
   pub text : List ℕ
   pub final : Playing
@@ -109,7 +129,13 @@ step_of : (t : Task) (p : Playing) → IsSmall t → place_reason (is_inside p) 
     → Step work_schema p (line_of t) (answer_of t p).text
     (after_command work_schema p (command_of t))
 step_of t p s allowed =
-    record { command = command_of t; means = line_means t s; allowed = allowed; answered = (answer_of t p).answered; next_is = refl }
+    record {
+      command = command_of t;
+      means = line_means t s;
+      allowed = allowed;
+      answered = (answer_of t p).answered;
+      next_is = refl;
+    }
 
 abbrev one_run : (t : Task) (p : Playing) (inside : Bool) (commits : ℕ) → IsSmall t
     → place_reason (is_inside p) (command_of t) ≡ None
@@ -119,13 +145,26 @@ abbrev one_run : (t : Task) (p : Playing) (inside : Bool) (commits : ℕ) → Is
 one_run t p inside commits s allowed i n = record {
   text = (answer_of t p).text ++ [];
   final = after_command work_schema p (command_of t);
-  runs = ((answer_of t p).text, [], after_command work_schema p (command_of t), step_of t p s allowed, (refl, refl), refl);
+  runs = (
+    (answer_of t p).text,
+    [],
+    after_command work_schema p (command_of t),
+    step_of t p s allowed,
+    (refl, refl),
+    refl,
+  );
   inside_is = i;
   commits_are = n;
 }
 
 pub no_run : (p : Playing) (inside : Bool) → is_inside p ≡ inside → RunsTo p [] inside p.commits
-no_run p inside e = record { text = []; final = p; runs = (refl, refl); inside_is = e; commits_are = refl }
+no_run p inside e = record {
+  text = [];
+  final = p;
+  runs = (refl, refl);
+  inside_is = e;
+  commits_are = refl;
+}
 
 pub then_runs : (p : Playing) (xs ys : List Task) (mid inside : Bool) (some commits : ℕ)
     (first : RunsTo p xs mid some) → RunsTo first.final ys inside commits

@@ -18,14 +18,45 @@ lines_canonical = refl
 
 dept_rules : IsFile [] dept
 dept_rules = record {
-  name = record { word = record { starts = refl; each = (refl, (refl, (refl, (refl, tt)))); short = omega arith }; letter = refl };
+  name = record {
+    word = record {
+      starts = refl;
+      each = (refl, (refl, (refl, (refl, tt))));
+      short = omega arith;
+    };
+    letter = refl;
+  };
   new = refl;
   room = omega arith;
   some = omega arith;
   fields = (
-    record { name = record { word = record { starts = refl; each = (refl, (refl, (refl, tt))); short = omega arith }; letter = refl }; new = refl; room = omega arith; kind = tt },
+    record {
+      name = record {
+        word = record {
+          starts = refl;
+          each = (refl, (refl, (refl, tt)));
+          short = omega arith;
+        };
+        letter = refl;
+      };
+      new = refl;
+      room = omega arith;
+      kind = tt;
+    },
     (
-      record { name = record { word = record { starts = refl; each = (refl, (refl, (refl, (refl, (refl, tt))))); short = omega arith }; letter = refl }; new = refl; room = omega arith; kind = (omega arith, omega arith, λ _. omega arith) },
+      record {
+        name = record {
+          word = record {
+            starts = refl;
+            each = (refl, (refl, (refl, (refl, (refl, tt)))));
+            short = omega arith;
+          };
+          letter = refl;
+        };
+        new = refl;
+        room = omega arith;
+        kind = (omega arith, omega arith, λ _. omega arith);
+      },
       tt,
     ),
   );
@@ -33,18 +64,73 @@ dept_rules = record {
 
 emp_rules : IsFile (dept ∷ []) emp
 emp_rules = record {
-  name = record { word = record { starts = refl; each = (refl, (refl, (refl, tt))); short = omega arith }; letter = refl };
+  name = record {
+    word = record {
+      starts = refl;
+      each = (refl, (refl, (refl, tt)));
+      short = omega arith;
+    };
+    letter = refl;
+  };
   new = refl;
   room = omega arith;
   some = omega arith;
   fields = (
-    record { name = record { word = record { starts = refl; each = (refl, (refl, (refl, tt))); short = omega arith }; letter = refl }; new = refl; room = omega arith; kind = tt },
+    record {
+      name = record {
+        word = record {
+          starts = refl;
+          each = (refl, (refl, (refl, tt)));
+          short = omega arith;
+        };
+        letter = refl;
+      };
+      new = refl;
+      room = omega arith;
+      kind = tt;
+    },
     (
-      record { name = record { word = record { starts = refl; each = (refl, (refl, (refl, (refl, tt)))); short = omega arith }; letter = refl }; new = refl; room = omega arith; kind = (omega arith, omega arith, λ _. omega arith) },
+      record {
+        name = record {
+          word = record {
+            starts = refl;
+            each = (refl, (refl, (refl, (refl, tt))));
+            short = omega arith;
+          };
+          letter = refl;
+        };
+        new = refl;
+        room = omega arith;
+        kind = (omega arith, omega arith, λ _. omega arith);
+      },
       (
-        record { name = record { word = record { starts = refl; each = (refl, (refl, (refl, tt))); short = omega arith }; letter = refl }; new = refl; room = omega arith; kind = tt },
+        record {
+          name = record {
+            word = record {
+              starts = refl;
+              each = (refl, (refl, (refl, tt)));
+              short = omega arith;
+            };
+            letter = refl;
+          };
+          new = refl;
+          room = omega arith;
+          kind = tt;
+        },
         (
-          record { name = record { word = record { starts = refl; each = (refl, (refl, (refl, (refl, tt)))); short = omega arith }; letter = refl }; new = refl; room = omega arith; kind = (omega arith, omega arith, λ _. omega arith) },
+          record {
+            name = record {
+              word = record {
+                starts = refl;
+                each = (refl, (refl, (refl, (refl, tt))));
+                short = omega arith;
+              };
+              letter = refl;
+            };
+            new = refl;
+            room = omega arith;
+            kind = (omega arith, omega arith, λ _. omega arith);
+          },
           tt,
         ),
       ),
@@ -54,7 +140,14 @@ emp_rules = record {
 
 works_rules : IsLink (dept ∷ emp ∷ []) [] works
 works_rules = record {
-  name = record { word = record { starts = refl; each = (refl, (refl, (refl, (refl, (refl, tt))))); short = omega arith }; letter = refl };
+  name = record {
+    word = record {
+      starts = refl;
+      each = (refl, (refl, (refl, (refl, (refl, tt)))));
+      short = omega arith;
+    };
+    letter = refl;
+  };
   no_file = refl;
   new = refl;
   room = omega arith;
@@ -63,7 +156,11 @@ works_rules = record {
 }
 
 pub work_rules : IsSchema work_schema
-work_rules = record { some = omega arith; files = (dept_rules, (emp_rules, tt)); links = (works_rules, tt) }
+work_rules = record {
+  some = omega arith;
+  files = (dept_rules, (emp_rules, tt));
+  links = (works_rules, tt);
+}
 
 read_again : schema_of schema_lines ≡ Ok work_schema
 unfolding size_at kind_at field_behind fields_at file_behind link_behind item_at items_behind

@@ -27,14 +27,43 @@ pub record IsGood (w : Word) : Type 0 where
 blank_before : (line : List ℕ) (w : Word) (ws : List Word) → AreWords line (w ∷ ws)
     → AreWords (32 ∷ line) (w ∷ ws)
 blank_before line w ws h =
-    let f = h.1 in
-    (h.0, record { blanks = 32 ∷ f.blanks; parts = ap (λ t. 32 ∷ t) f.parts; are_blanks = (refl, f.are_blanks); is_word = f.is_word; ends = f.ends }, h.2)
+    let f = h.1 in (
+      h.0,
+      record {
+        blanks = 32 ∷ f.blanks;
+        parts = ap (λ t. 32 ∷ t) f.parts;
+        are_blanks = (refl, f.are_blanks);
+        is_word = f.is_word;
+        ends = f.ends;
+      },
+      h.2,
+    )
 
 pub words_are : (ws : List Word) → AllByRecursion IsGood ws → AreWords (spaced ws) ws
 words_are [] h = tt
-words_are (w ∷ []) h = ([], record { blanks = []; parts = sym (append-nil (spelling w)); are_blanks = tt; is_word = h.0.is_word; ends = tt }, tt)
-words_are (w ∷ v ∷ ws) h =
-    (32 ∷ spaced (v ∷ ws), record { blanks = []; parts = refl; are_blanks = tt; is_word = h.0.is_word; ends = refl }, blank_before (spaced (v ∷ ws)) v ws (words_are (v ∷ ws) h.1))
+words_are (w ∷ []) h = (
+  [],
+  record {
+    blanks = [];
+    parts = sym (append-nil (spelling w));
+    are_blanks = tt;
+    is_word = h.0.is_word;
+    ends = tt;
+  },
+  tt,
+)
+words_are (w ∷ v ∷ ws) h = (
+  32 ∷ spaced (v ∷ ws),
+  record {
+    blanks = [];
+    parts = refl;
+    are_blanks = tt;
+    is_word = h.0.is_word;
+    ends = refl;
+  },
+  blank_before (spaced (v ∷ ws)) v ws
+      (words_are (v ∷ ws) h.1),
+)
 
 pub all_characters : (ws : List Word) → AllByRecursion IsGood ws
     → list_all is_character (spaced ws) ≡ true
@@ -76,7 +105,10 @@ digits_word (b ∷ bs) h =
 
 pub number_good : (n : ℕ) → n < 2 ^ 64 → IsGood (Bare (decimal n))
 number_good n lt = let d = decimal_is n lt in
-    record { is_word = digits_word (decimal n) d.digits; characters = each_char (decimal n) d.digits.each }
+    record {
+      is_word = digits_word (decimal n) d.digits;
+      characters = each_char (decimal n) d.digits.each;
+    }
 
 -- ---- quoted texts without a quote
 
@@ -89,8 +121,14 @@ pub record IsPlain (b : ℕ) : Type 0 where
 pub plain_digits : (text : List ℕ) → AllByRecursion (λ b. IsTrue (is_digit b)) text
     → AllByRecursion IsPlain text
 plain_digits [] h = tt
-plain_digits (b ∷ bs) h =
-    (let d = digit_range b h.0 in record { low = omega arith; high = omega arith; other = λ e. omega arith }, plain_digits bs h.1)
+plain_digits (b ∷ bs) h = (
+  let d = digit_range b h.0 in record {
+    low = omega arith;
+    high = omega arith;
+    other = λ e. omega arith;
+  },
+  plain_digits bs h.1,
+)
 
 plain_quoted : (text : List ℕ) → AllByRecursion IsPlain text → IsQuoted false text
 plain_quoted [] h = tt

@@ -27,8 +27,11 @@ all_append P (x ∷ xs) ys h k = (h.0, all_append P xs ys h.1 k)
 all_map : (P : Task → Type 0) (f : ℕ → Task) (a n : ℕ) → ((k : ℕ) → a ≤ k → k < a + n → P (f k))
     → AllByRecursion P (map f (range_with_len a n))
 all_map P f a zero h = tt
-all_map P f a (suc n) h =
-    (h a (omega arith) (omega arith), all_map P f (a + 1) n (λ k low high. h k (omega arith) (omega arith)))
+all_map P f a (suc n) h = (
+  h a (omega arith) (omega arith),
+  all_map P f (a + 1) n
+      (λ k low high. h k (omega arith) (omega arith)),
+)
 
 all_flat : (P : Task → Type 0) (f : ℕ → List Task) (a n : ℕ)
     → ((k : ℕ) → a ≤ k → k < a + n → AllByRecursion P (f k))
@@ -62,8 +65,11 @@ raised_inner n le = all_map IsInner (λ k. task.Raise (3 * k)) 1 (n / 3) (λ k l
 
 transaction_small : (ts : List Task) → AllByRecursion IsInner ts
     → AllByRecursion IsSmall (in_transaction ts)
-transaction_small ts h =
-    (tt, all_append IsSmall ts (task.Commit ∷ []) (all_weaker IsInner IsSmall inner_small ts h) (tt, tt))
+transaction_small ts h = (
+  tt,
+  all_append IsSmall ts (task.Commit ∷ [])
+      (all_weaker IsInner IsSmall inner_small ts h) (tt, tt),
+)
 
 employees_small : (n : ℕ) → n ≤ 10000 → AllByRecursion IsSmall (employees n)
 employees_small n le = all_flat IsSmall (group n) 0 ((n + 19) / 20)
@@ -92,14 +98,24 @@ length_flat : (f : ℕ → List Task) (most a n : ℕ) → ((k : ℕ) → length
     → length (flat_map f (range_with_len a n)) ≤ n * most
 length_flat f most a zero h = omega arith
 length_flat f most a (suc n) h =
-    omega (arith, length-append (f a) (flat_map f (range_with_len (a + 1) n)), h a, length_flat f most (a + 1) n h, suc-mul n most)
+    omega (
+      arith,
+      length-append (f a) (flat_map f (range_with_len (a + 1) n)),
+      h a,
+      length_flat f most (a + 1) n h,
+      suc-mul n most,
+    )
 
 length_transaction : (ts : List Task) → length (in_transaction ts) ≡ length ts + 2
 length_transaction ts = omega (arith, length-append ts (task.Commit ∷ []))
 
 length_group : (n number : ℕ) → length (group n number) ≤ 42
 length_group n number =
-    omega (arith, length_transaction (joined_in n number), length_flat joining 2 (20 * number + 1) (min 20 (n - 20 * number)) (λ k. omega arith))
+    omega (
+      arith,
+      length_transaction (joined_in n number),
+      length_flat joining 2 (20 * number + 1) (min 20 (n - 20 * number)) (λ k. omega arith),
+    )
 
 length_employees : (n : ℕ) → n ≤ 10000 → length (employees n) ≤ 21000
 length_employees n le = omega (arith, length_flat (group n) 42 0 ((n + 19) / 20) (length_group n))
@@ -112,8 +128,14 @@ length_raises n = length_transaction (map (λ k. task.Raise (3 * k)) (range_with
     ∙ ap (λ k. k + 2) (length_map (λ k. task.Raise (3 * k)) 1 (n / 3))
 
 pub length_changes : (n : ℕ) → n ≤ 10000 → length (changes n) ≤ 25000
-length_changes n le = omega
-    (arith, length-append (departments ++ employees n) (raises n), length-append departments (employees n), length_departments, length_employees n le, length_raises n)
+length_changes n le = omega (
+  arith,
+  length-append (departments ++ employees n) (raises n),
+  length-append departments (employees n),
+  length_departments,
+  length_employees n le,
+  length_raises n,
+)
 
 pub length_tasks : (n : ℕ) → n ≤ 10000 → length (tasks n) ≤ 25002
 length_tasks n le = omega
@@ -127,12 +149,25 @@ joined_is (t ∷ ts) = (λ i. line_is t i ++ joined_is ts i)
 
 each_fine : (ts : List Task) → AllByRecursion IsSmall ts → AllByRecursion IsFine (map line_of ts)
 each_fine [] h = tt
-each_fine (t ∷ ts) h = (record { characters = line_characters t h.0; short = omega (arith, line_short t h.0) }, each_fine ts h.1)
+each_fine (t ∷ ts) h = (
+  record {
+    characters = line_characters t h.0;
+    short = omega (arith, line_short t h.0);
+  },
+  each_fine ts h.1,
+)
 
 text_length : (ts : List Task) → AllByRecursion IsSmall ts → length (lines_text ts) ≤ length ts * 51
 text_length [] h = omega arith
 text_length (t ∷ ts) h =
-    omega (arith, length-append (line_text t) (lines_text ts), ap length (line_is t), length-append (line_of t) (10 ∷ []), line_short t h.0, text_length ts h.1)
+    omega (
+      arith,
+      length-append (line_text t) (lines_text ts),
+      ap length (line_is t),
+      length-append (line_of t) (10 ∷ []),
+      line_short t h.0,
+      text_length ts h.1,
+    )
 
 -- at most 25,002 small tasks are the lines of their text
 pub task_lines : (ts : List Task) → AllByRecursion IsSmall ts → length ts ≤ 25002
@@ -161,7 +196,8 @@ groups_run n a (suc count) p le out few =
     (next_count p.commits) (p.commits + suc count) first
     (subst (RunsTo first.final _ false) sum later)
 
--- all that changes something runs, with a commit for the departments, for each group and for the raises
+-- all that changes something runs, with a commit for the departments, for each group and for the
+-- raises
 pub changes_run : (n : ℕ) (p : Playing) → n ≤ 10000 → is_inside p ≡ false → p.commits ≡ 0
     → RunsTo p (changes n) false ((n + 19) / 20 + 2)
 changes_run n p le out none =

@@ -65,13 +65,21 @@ number_behind front answer n e = record {
   byte = 32;
   last = 10;
   parts = e ∙ append_assoc (front ++ codes "found ") (decimal n) (codes "\n")
-      ∙ ap (λ t. t ++ (decimal n ++ codes "\n")) (sym (append_assoc front (codes "found") (32 ∷ [])));
+      ∙ ap (λ t. t ++ (decimal n ++ codes "\n"))
+      (sym (append_assoc front (codes "found") (32 ∷ [])));
   no_digit = refl;
   are_digits = decimal_digits n;
 }
 
 nothing_behind : (answer : List ℕ) → answer ≡ codes "refused: no record\n" → IsBehind answer []
-nothing_behind answer e = record { front = codes "refused: no recor"; byte = 100; last = 10; parts = e; no_digit = refl; are_digits = tt }
+nothing_behind answer e = record {
+  front = codes "refused: no recor";
+  byte = 100;
+  last = 10;
+  parts = e;
+  no_digit = refl;
+  are_digits = tt;
+}
 
 pub some_count : (answer ds : List ℕ) (n : ℕ)
     → ((others : List ℕ) → IsBehind answer others → ds ≡ others)
@@ -84,5 +92,9 @@ pub no_count : (answer ds : List ℕ) (n : ℕ)
     → ((others : List ℕ) → IsBehind answer others → ds ≡ others)
     → length ds ≡ 0 → TellsCount answer n → codes "0" ≡ decimal n
 no_count answer ds n one none (inl h) =
-    absurd (omega (arith, decimal_some n, ap length (one (decimal n) (number_behind h.0 answer n h.1))))
+    absurd (omega (
+      arith,
+      decimal_some n,
+      ap length (one (decimal n) (number_behind h.0 answer n h.1)),
+    ))
 no_count answer ds n one none (inr h) = sym (decimal_digit 0 (omega arith)) ∙ ap decimal (sym h.1)

@@ -46,7 +46,14 @@ pub record IsUpTo {S : Type 0} (g : Ghosts S) (start : State) (done : List Task)
 abbrev pub up_to_start : {S : Type 0} (g : Ghosts S) (start : State) (e : Engine S)
     → IsAt g (start_at start) e → IsUpTo g start [] 0 e
 up_to_start g start e at =
-    record { text = []; final = start_at start; runs = (refl, refl); at = at; outside = refl; commits_are = refl }
+    record {
+      text = [];
+      final = start_at start;
+      runs = (refl, refl);
+      at = at;
+      outside = refl;
+      commits_are = refl;
+    }
 
 -- a text of few small tasks
 pub record AreFew (ts : List Task) : Type 0 where

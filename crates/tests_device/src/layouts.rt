@@ -196,7 +196,8 @@ const HASHED: LeafSpec = LeafSpec {
     key_width: 8,
 };
 
-// The 7 blocks before the pages, and two for each of the 16 pages of the table and of 65 root pages.
+// The 7 blocks before the pages, and two for each of the 16 pages of the table and of 65 root
+// pages.
 #[test]
 fn the_smallest_device_counts_root_pages(rt: HostRuntime) -> Result<(), Fail> {
     assert!(rt; smallest_device(&[HEAP, HASHED]) == 169);

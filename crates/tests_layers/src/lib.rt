@@ -1,4 +1,5 @@
-//! Tests of the layers `actual` and `partition`, by their public calls. There is no code here beside them.
+//! Tests of the layers `actual` and `partition`, by their public calls. There is no code here
+//! beside them.
 #![tactic(auto)]
 
 #[cfg(test)]

@@ -1,5 +1,5 @@
-//! Tests of the device in memory and of leaves in memory, by their public calls. There is no code here
-//! beside them.
+//! Tests of the device in memory and of leaves in memory, by their public calls. There is no code
+//! here beside them.
 #![tactic(auto)]
 
 #[cfg(test)]

@@ -1,5 +1,5 @@
-//! Tests of plays of scripts, in which the program is compared with the plain one. There is no code here
-//! beside them.
+//! Tests of plays of scripts, in which the program is compared with the plain one. There is no code
+//! here beside them.
 #![tactic(auto)]
 
 #[cfg(test)]

@@ -1,5 +1,5 @@
-// Plays of scripts: the plain program and the program beside texts worked out by hand, and the program
-// beside the plain one.
+// Plays of scripts: the plain program and the program beside texts worked out by hand, and the
+// program beside the plain one.
 use crate::linked::LINKED_EQUATIONS;
 use crate::row::check_row;
 use gx_memory_machine::MemoryMachine;

@@ -1,6 +1,6 @@
-//! Tests of the readers of texts and of what prints them, by their public calls. There is no code here
-//! beside them. Refused texts stand in `examples/refused`, where the proved program is held against
-//! them.
+//! Tests of the readers of texts and of what prints them, by their public calls. There is no code
+//! here beside them. Refused texts stand in `examples/refused`, where the proved program is held
+//! against them.
 #![tactic(auto)]
 
 #[cfg(test)]

@@ -327,7 +327,8 @@ ok
 ",
         entries: "0 8000000000000007=000403616e6e\n",
     },
-    // A ring: the owner leads to its first member, a member to the next one, and the last to the owner.
+    // A ring: the owner leads to its first member, a member to the next one, and the last to the
+    // owner.
     Case {
         schema: LINKED,
         equation: "d = heap e = heap l = ring(actual(heap), actual(heap))",

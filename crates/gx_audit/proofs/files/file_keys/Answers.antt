@@ -49,8 +49,13 @@ returns-in_default-clause-keys g c = λ w fs are.
     let none = subst (AreKeys def (tree_of node) (b.whole at.leaves) (b.working at.leaves))
     c.in_default.is c.in_ok-found.ensures.keys in
     let f = get_or fs at.file fin.empty in
-    none (at.invariant.whole w)
-    (f, internal_as (file_at schema at.file) def (tree_at nodes at.file) (tree_of node) (b.working c.args.leaves.now) (b.working at.leaves) f file (tree_read nodes at.file node below read) at.invariant.reads.working (are.each at.file there))
+    none (at.invariant.whole w) (
+      f,
+      internal_as (file_at schema at.file) def (tree_at nodes at.file) (tree_of node)
+          (b.working c.args.leaves.now) (b.working at.leaves) f file
+          (tree_read nodes at.file node below read) at.invariant.reads.working
+          (are.each at.file there),
+    )
 
 pub loop-file-preserved : goal.loop-file-preserved
 loop-file-preserved g c =

@@ -41,8 +41,11 @@ returns-then-taken-gt-HALF c =
     let taken = taken_next branch_len 2044 branches c.loop-separator.place c.loop-separator.taken
     c.loop-separator.separator-iterator (lent (c.in-Some.separator, c.in-Some.field-0-1))
     c.next.new.self has c.in-Some.ensures.steps in
-    record
-    { place = next.0; before = omega (arith, has.below, has.taken_is); across = omega (arith, taken, c.branch_len-taken.ensures) }
+    record {
+      place = next.0;
+      before = omega (arith, has.below, has.taken_is);
+      across = omega (arith, taken, c.branch_len-taken.ensures);
+    }
 
 pub overflow_add-place : goal.overflow_add-place
 overflow_add-place c =

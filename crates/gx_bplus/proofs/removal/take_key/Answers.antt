@@ -12,7 +12,11 @@ returns-in-Some-clause-shown c =
     let found = c.in-Some.ensures.found in
     let t = taken_at (entries_of page) c.in-Some.i c.args.key.now (entries_up page c.requires)
     found.0 found.1 in (
-      record { page = c.take.ensures.page; ascending = subst AreAscending (sym c.take.ensures.entries) (ascending_from _ t.1) },
+      record {
+        page = c.take.ensures.page;
+        ascending = subst AreAscending
+            (sym c.take.ensures.entries) (ascending_from _ t.1);
+      },
       c.take.ensures.next ∙ c.requires.1,
     )
 

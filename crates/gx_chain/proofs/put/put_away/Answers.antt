@@ -118,7 +118,11 @@ returns-in_err-append-clause-claims g c =
           (subst (λ (x : Ground). IsChain x c.args.owner (g.P.PageView.working u) r.first r.pages)
           (sym gr) chain) old in
           let among = last_among r.pages r.ready.front c.args.away.last r.ready.ended in (
-            (r.told, linked_page (g.P.PageView.working v) r.first r.pages c.args.away.last d.chain.linked among),
+            (
+              r.told,
+              linked_page (g.P.PageView.working v) r.first r.pages c.args.away.last
+                  d.chain.linked among,
+            ),
             λ e. fresh_off ground c.args.owner r.first s (g.P.PageView.working u) r.pages
                 c.in_ok-fresh.fresh r.ready.chain c.requires.least claimed
                 (subst (Contains r.pages) e among),

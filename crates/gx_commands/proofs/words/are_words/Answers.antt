@@ -11,8 +11,10 @@ returns-in-None c =
     let line = c.from_quote-quoted.result.now in
     let none : first_word line ≡ None = sym c.in-None.ensures in
     let here = blank_or_not line c.is_empty.result none (c.is_empty.ensures
-    ∙ ap (λ (xs : List ℕ). eqb (length xs) 0) c.after_blanks.ensures) in
-    ((λ t. c.loop-after.invariant.0 (c.from_quote-quoted.ensures.same.0 (here.0 t))), (λ words. here.1 (c.from_quote-quoted.ensures.same.1 (c.loop-after.invariant.1 words))))
+    ∙ ap (λ (xs : List ℕ). eqb (length xs) 0) c.after_blanks.ensures) in (
+      (λ t. c.loop-after.invariant.0 (c.from_quote-quoted.ensures.same.0 (here.0 t))),
+      (λ words. here.1 (c.from_quote-quoted.ensures.same.1 (c.loop-after.invariant.1 words))),
+    )
 
 pub loop-after-preserved : goal.loop-after-preserved
 loop-after-preserved c =

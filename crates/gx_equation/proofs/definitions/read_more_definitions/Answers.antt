@@ -38,6 +38,10 @@ pub loop-definitions-preserved : goal.loop-definitions-preserved
 loop-definitions-preserved c =
     let i = c.loop-definitions.invariant in
     let s = rw c.in-Some.is at (sym c.in_ok-start.ensures.exact) in
-    rw (c.in_ok-push-2.ensures.items, map-append definition_of c.loop-definitions.definitions.items (c.in_ok-definition.definition ∷ []))
+    rw (
+      c.in_ok-push-2.ensures.items,
+      map-append definition_of c.loop-definitions.definitions.items
+          (c.in_ok-definition.definition ∷ []),
+    )
     (go_on i.0 _ _ c.loop-definitions.rest.now _ _ _ _ _ _ i.1 s
     (rw c.in_ok-push_place.ensures at c.in_ok-definition.ensures) i.2)

@@ -24,7 +24,12 @@ pub read_kids-returns-then-not-more : goal.read_kids-returns-then-not-more
 read_kids-returns-then-not-more t c =
     let i = c.loop-kids.invariant in
     let m = rw c.if-not-more.true at (sym c.in_ok-more.ensures) in
-    rw (c.in_ok-push.ensures.items, map-append tree_of c.loop-kids.kids.items (c.in_ok-kid.kid ∷ [])) (kids_end c.args.levels i.0 _ _ c.loop-kids.rest.now _ _ _ _ _ i.1 c.in_ok-kid.ensures m i.2)
+    rw (
+      c.in_ok-push.ensures.items,
+      map-append tree_of c.loop-kids.kids.items
+          (c.in_ok-kid.kid ∷ []),
+    ) (kids_end c.args.levels i.0 _ _ c.loop-kids.rest.now _ _ _ _ _ i.1
+    c.in_ok-kid.ensures m i.2)
 
 pub read_kids-loop-kids-smaller : goal.read_kids-loop-kids-smaller
 read_kids-loop-kids-smaller t c =
@@ -35,7 +40,12 @@ pub read_kids-loop-kids-preserved : goal.read_kids-loop-kids-preserved
 read_kids-loop-kids-preserved t c =
     let i = c.loop-kids.invariant in
     let m = rw c.if-not-more.false at (sym c.in_ok-more.ensures) in
-    rw (c.in_ok-push.ensures.items, map-append tree_of c.loop-kids.kids.items (c.in_ok-kid.kid ∷ [])) (kids_go_on c.args.levels i.0 _ _ c.loop-kids.rest.now _ _ _ _ _ i.1 c.in_ok-kid.ensures m i.2)
+    rw (
+      c.in_ok-push.ensures.items,
+      map-append tree_of c.loop-kids.kids.items
+          (c.in_ok-kid.kid ∷ []),
+    ) (kids_go_on c.args.levels i.0 _ _ c.loop-kids.rest.now _ _ _ _ _ i.1
+    c.in_ok-kid.ensures m i.2)
 
 pub read_term-returns-in_err-head : goal.read_term-returns-in_err-head
 read_term-returns-in_err-head t c =

@@ -12,7 +12,11 @@ loop-line-init g c =
     let indexed = fields_in c.args.schema.now c.args.built.now.files in
     let all = script_lines c.args.script.now in
     record {
-      few = omega (arith, subst (λ ls. length ls.lines ≤ 16777217) (sym c.new-lines.ensures.lines) (few_lines c.args.script.now));
+      few = omega (
+        arith,
+        subst (λ ls. length ls.lines ≤ 16777217) (sym c.new-lines.ensures.lines)
+            (few_lines c.args.script.now),
+      );
       so_far = λ told. subst (λ ls. IsSoFar c.args.schema.now indexed all ls 0 false
           (content c.args.device.now)
           (content c.args.device.now)) (sym c.new-lines.ensures.lines)

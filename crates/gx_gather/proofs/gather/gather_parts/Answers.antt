@@ -19,7 +19,12 @@ returns-clause-made g c =
     let perm = subst (λ ps. IsPermutation ps c.sort_parts.new.parts.items) view
     c.sort_parts.ensures.those in
     on_ok_weaker c.gather_sorted.result
-    (λ e. (e.0, e.1, made_of_sorted (g.M.Mapping.rule c.args.mapping.now) c.args.parts c.sort_parts.new.parts.items e.0 perm e.2)) c.gather_sorted.ensures.made
+    (λ e. (
+      e.0,
+      e.1,
+      made_of_sorted (g.M.Mapping.rule c.args.mapping.now) c.args.parts
+          c.sort_parts.new.parts.items e.0 perm e.2,
+    )) c.gather_sorted.ensures.made
 
 pub returns-clause-damaged : goal.returns-clause-damaged
 returns-clause-damaged g c = λ block e.

@@ -60,7 +60,8 @@ loop-part-init g c =
       front = ([], sym (append-nil out));
     }
 
-pub gather_group-requires-then-begins_next-clause-of_key : goal.gather_group-requires-then-begins_next-clause-of_key
+pub gather_group-requires-then-begins_next-clause-of_key :
+    goal.gather_group-requires-then-begins_next-clause-of_key
 gather_group-requires-then-begins_next-clause-of_key g c =
     let at = c.loop-part in
     let same : c.deref-in-loop-part.result.now ≡ at.group = search rules in
@@ -97,8 +98,11 @@ returns-in_err-push-clause-front g c =
     let front = c.loop-part.invariant.front in
     elim c.if-begins_next.branch [
       | then-begins_next+in_ok-gather_group w ↦ (
-          let made = w.in_ok-gather_group.ensures.made in
-          (front.0 ++ made.0 ∷ [], w.out-is ∙ made.1 ∙ ap (λ zs. zs ++ made.0 ∷ []) front.1 ∙ append_assoc c.args.out.now front.0 (made.0 ∷ [])))
+          let made = w.in_ok-gather_group.ensures.made in (
+            front.0 ++ made.0 ∷ [],
+            w.out-is ∙ made.1 ∙ ap (λ zs. zs ++ made.0 ∷ []) front.1
+                ∙ append_assoc c.args.out.now front.0 (made.0 ∷ []),
+          ))
       | else-begins_next w ↦ (front.0, w.out-is ∙ front.1)
     ]
 
@@ -135,7 +139,11 @@ loop-part-preserved g c =
                 (gathering_next laws width c.requires.width ps out at.out c.if-begins_next.out
                 at.group rest q made.0 (rises (gather_total width) ps c.requires.in_order)
                 (next_some width at.group q next) next (w.out-is ∙ made.1) made.2 so_far);
-            front = (front.0 ++ made.0 ∷ [], w.out-is ∙ made.1 ∙ ap (λ zs. zs ++ made.0 ∷ []) front.1 ∙ append_assoc out front.0 (made.0 ∷ []));
+            front = (
+              front.0 ++ made.0 ∷ [],
+              w.out-is ∙ made.1
+                  ∙ ap (λ zs. zs ++ made.0 ∷ []) front.1 ∙ append_assoc out front.0 (made.0 ∷ []),
+            );
           })
       | else-begins_next w ↦ (
           let next : is_next width at.group q ≡ false = ap (λ gs. is_next width gs q) (sym same)

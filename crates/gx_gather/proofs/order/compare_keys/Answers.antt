@@ -14,8 +14,10 @@ returns c =
     let lb : i ≤ length b = omega (arith, at_min) in
     let over : min (length a) (length b) ≤ i = omega (arith, at_min) in
     let end : (length (drop i a) ≡ 0) ⊎ (length (drop i b) ≡ 0) =
-    elim (shorter i (length a) (length b) over)
-    [ inl k ↦ inl (omega (arith, length-drop i a, k)) | inr k ↦ inr (omega (arith, length-drop i b, k)) ] in
+    elim (shorter i (length a) (length b) over) [
+      | inl k ↦ inl (omega (arith, length-drop i a, k))
+      | inr k ↦ inr (omega (arith, length-drop i b, k))
+    ] in
     c.cmp.ensures ∙ keys_end i (length a) (length b) (drop i a) (drop i b)
     (omega (arith, length-drop i a, la)) (omega (arith, length-drop i b, lb)) end
     ∙ c.loop-i.invariant

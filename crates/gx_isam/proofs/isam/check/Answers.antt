@@ -27,7 +27,13 @@ returns-in_err-visit_buckets g c =
           c.visit_buckets.new.pages _
           c.from_residual-in_err-visit_buckets.result
           (c.in_ok-read_index.ensures.ends.cause.counted refl) reads.keeps.ground
-          (λ whole. (whole.0, record { told = whole.1.told; file = isam_read g.P.PageView place p q reads whole.0 whole.1.file }))
+          (λ whole. (
+            whole.0,
+            record {
+              told = whole.1.told;
+              file = isam_read g.P.PageView place p q reads whole.0 whole.1.file;
+            },
+          ))
           c.in_err-visit_buckets.ensures.ends c.from_residual-in_err-visit_buckets.ensures.1;
       not_full = search rules;
     }

@@ -197,8 +197,11 @@ returns-in_ok-put_in-in-Some g c =
           others_back g.P.PageView place p q reads u
           (changed_spared g.P.PageView (IsEntryAt g.P.PageView r first) (g.P.PageView.ground q)
           place.owner s r c.leave_out_empty.new.pages
-          c.leave_out_empty.result
-          (whole.1.told, entry_first (g.P.PageView.ground q) place.owner t first put.pages put.chain found.2) c.leave_out_empty.ensures.ends
+          c.leave_out_empty.result (
+            whole.1.told,
+            entry_first (g.P.PageView.ground q) place.owner t first put.pages put.chain
+                found.2,
+          ) c.leave_out_empty.ensures.ends
           (on_ok_weaker c.leave_out_empty.result
           (λ after. (put_left_out (g.P.PageView.ground q) place s whole.0 c.requires.place.least
           past h index page_is c.args.key.now bucket
@@ -223,8 +226,11 @@ returns-in_ok-put_in-in-Some g c =
           c.requires.place.least past h index
           page_is c.args.key.now bucket c.bucket_of-bucket.ensures.value
           c.bucket_of-bucket.ensures.below first found.0 in
-          let put = c.in_ok-put_in-in-Some.ensures.put whole.1.told (h.pages bucket) chain in
-          (whole.1.told, entry_first (g.P.PageView.ground q) place.owner (g.P.PageView.working r) first put.pages put.chain found.2)))
+          let put = c.in_ok-put_in-in-Some.ensures.put whole.1.told (h.pages bucket) chain in (
+            whole.1.told,
+            entry_first (g.P.PageView.ground q) place.owner
+                (g.P.PageView.working r) first put.pages put.chain found.2,
+          )))
           c.leave_out_empty.ensures.ends;
       frugal = search rules;
     }

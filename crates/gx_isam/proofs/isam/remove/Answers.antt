@@ -128,8 +128,11 @@ returns-in_ok-remove_from-in-Some g c =
           others_back g.P.PageView place p q reads u
           (changed_spared g.P.PageView (IsEntryAt g.P.PageView r first) (g.P.PageView.ground q)
           place.owner s r c.leave_out_empty.new.pages
-          c.leave_out_empty.result
-          (whole.1.told, entry_first (g.P.PageView.ground q) place.owner t first less.pages less.chain found.2)
+          c.leave_out_empty.result (
+            whole.1.told,
+            entry_first (g.P.PageView.ground q) place.owner t first less.pages
+                less.chain found.2,
+          )
           c.leave_out_empty.ensures.ends
           (on_ok_weaker c.leave_out_empty.result
           (λ after. (removed_left_out (g.P.PageView.ground q) place s whole.0 c.requires.place.least
@@ -156,8 +159,11 @@ returns-in_ok-remove_from-in-Some g c =
           page_is c.args.key.now bucket c.bucket_of-bucket.ensures.value
           c.bucket_of-bucket.ensures.below first found.0 in
           let less = c.in_ok-remove_from-in-Some.ensures.removed whole.1.told (h.pages bucket) chain
-          in
-          (whole.1.told, entry_first (g.P.PageView.ground q) place.owner (g.P.PageView.working r) first less.pages less.chain found.2)))
+          in (
+            whole.1.told,
+            entry_first (g.P.PageView.ground q) place.owner
+                (g.P.PageView.working r) first less.pages less.chain found.2,
+          )))
           c.leave_out_empty.ensures.ends;
       not_full = search rules;
       frugal = search rules;

@@ -34,8 +34,13 @@ returns-in_err-free_chains-clause-others g c whole fault =
     let why = c.in_err-free_chains.field-0.0 in
     absurd (no_refusal {T = Unit {0}} g.P.PageView
     (IsWhole g.P.PageView (IsIsam (g.P.PageView.ground q) place) q) q
-    c.free_chains.new.pages why
-    (whole.0, record { told = whole.1.told; file = isam_read g.P.PageView place p q reads whole.0 whole.1.file }) refused.ends
+    c.free_chains.new.pages why (
+      whole.0,
+      record {
+        told = whole.1.told;
+        file = isam_read g.P.PageView place p q reads whole.0 whole.1.file;
+      },
+    ) refused.ends
     refused.not_full refused.frugal
     (λ is. fault (handed_refusal c.from_residual-in_err-free_chains.result why stop.Fault
     c.from_residual-in_err-free_chains.ensures.1 is)))
@@ -51,7 +56,13 @@ returns-in_err-free_chains-clause-ends g c =
     (IsWhole g.P.PageView (IsIsam (g.P.PageView.ground q) place) q) p q c.free_chains.new.pages _
     c.from_residual-in_err-free_chains.result
     (c.in_ok-entries.ensures.ends.cause.counted refl) reads.keeps.ground
-    (λ whole. (whole.0, record { told = whole.1.told; file = isam_read g.P.PageView place p q reads whole.0 whole.1.file }))
+    (λ whole. (
+      whole.0,
+      record {
+        told = whole.1.told;
+        file = isam_read g.P.PageView place p q reads whole.0 whole.1.file;
+      },
+    ))
     c.in_err-free_chains.ensures.ends c.from_residual-in_err-free_chains.ensures.1
 
 pub returns-in_err-entries-clause-unchanged : goal.returns-in_err-entries-clause-unchanged

@@ -8,7 +8,10 @@ use Rattle.gx_isam_index.proofs.layout.are_ordered.Goals as goal
 
 pub returns-then-not-fits_page : goal.returns-then-not-fits_page
 returns-then-not-fits_page c =
-    let e : LeafEntry = record { key = c.entry-entry.result.key.now; body = c.entry-entry.result.body.now } in (
+    let e : LeafEntry = record {
+      key = c.entry-entry.result.key.now;
+      body = c.entry-entry.result.body.now;
+    } in (
       λ bad. absurd (false≢true bad),
       λ o. absurd
           (false≢true (sym c.if-not-fits_page.true
@@ -20,7 +23,10 @@ returns-then-not-is_below c =
     let i = c.loop-i.i in
     let low = c.if-i-gt0.true in
     let d : LeafEntry = record { key = c.entry.result.key.now; body = c.entry.result.body.now } in
-    let e : LeafEntry = record { key = c.entry-entry.result.key.now; body = c.entry-entry.result.body.now } in
+    let e : LeafEntry = record {
+      key = c.entry-entry.result.key.now;
+      body = c.entry-entry.result.body.now;
+    } in
     let here = subst (λ n. slice_get c.args.entries.now n ≡ Some e) (let s : i ≡ i - 1 + 1 =
     omega (arith, low) in s)
     c.entry-entry.ensures in (

@@ -8,7 +8,10 @@ use Rattle.gx_isam_index.proofs.layout.write_separators.Goals as goal
 
 pub write_separator-at-requires-clause-fit : goal.write_separator-at-requires-clause-fit
 write_separator-at-requires-clause-fit c =
-    let e : LeafEntry = record { key = c.entry-first.result.key.now; body = c.entry-first.result.body.now } in
+    let e : LeafEntry = record {
+      key = c.entry-first.result.key.now;
+      body = c.entry-first.result.body.now;
+    } in
     (c.requires.ordered.fit c.begin_of-place.result e c.entry-first.ensures).key
 
 pub write_separator-at-requires-clause-room : goal.write_separator-at-requires-clause-room

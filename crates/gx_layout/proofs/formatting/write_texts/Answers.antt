@@ -24,6 +24,12 @@ loop-i-preserved g c =
           (omega arith, omega (arith, c.loop-i-test.true)) c.write_block.ensures.rest);
       texts = λ told. more_texts c.args.area.now c.loop-i.i c.text_block.result.now mid
           (g.D.Device.content c.write_block.new.self)
-          (omega (arith, c.loop-i-test.true, c.requires.room, so_far.size, g.met.D.Device.sized c.loop-i.device told))
+          (omega (
+            arith,
+            c.loop-i-test.true,
+            c.requires.room,
+            so_far.size,
+            g.met.D.Device.sized c.loop-i.device told,
+          ))
           c.text_block.ensures.is (c.in_ok-write_block.ensures.block told) (so_far.texts told);
     }

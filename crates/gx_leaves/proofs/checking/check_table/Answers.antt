@@ -8,7 +8,14 @@ use Rattle.gx_leaves.proofs.TableLemmas.{due_more, undue, table_due}
 use Rattle.gx_leaves.proofs.checking.check_table.Goals as goal
 
 pub loop-table-init : goal.loop-table-init
-loop-table-init g c = (record { reads = pages_read_themselves g.P.PageView c.args.pages.now; faults = refl; due = λ told q o less. absurd (omega (arith, less)) }, refl)
+loop-table-init g c = (
+  record {
+    reads = pages_read_themselves g.P.PageView c.args.pages.now;
+    faults = refl;
+    due = λ told q o less. absurd (omega (arith, less));
+  },
+  refl,
+)
 
 pub returns-in-Some-clause-ends : goal.returns-in-Some-clause-ends
 returns-in-Some-clause-ends g c =

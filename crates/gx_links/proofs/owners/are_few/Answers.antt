@@ -10,8 +10,12 @@ returns-then-len-gt-MOST_MEMBERS-clause-no c = λ e.
     let items = c.deref-owned-items.result.now in
     let g = c.owned-item.result in
     let is : items ≡ c.args.owners.now = search rules in
-    let many : most_members < length g.members = search rules in
-    (g, subst (In g) is (in_read items c.loop-owned.owned-index g c.owned-item.is c.loop-owned-test.true), many)
+    let many : most_members < length g.members = search rules in (
+      g,
+      subst (In g) is (in_read items c.loop-owned.owned-index g c.owned-item.is
+          c.loop-owned-test.true),
+      many,
+    )
 
 pub loop-owned-preserved : goal.loop-owned-preserved
 loop-owned-preserved c = λ g h.

@@ -37,8 +37,12 @@ returns-then-branch-clause-among c =
     let read : x ≡ get_or xs i x = search rules in
     let lt : i < length xs = search rules in
     let there : In x xs = in_read xs i x read lt in
-    let first = first_value x.key c.index.result.now (c.requires.some x there) (search rules) in
-    (x, there, first ∙ sym c.in_ok-copy.ensures, c.in_ok-has_member.ensures.yes (ap Ok c.if-branch.true))
+    let first = first_value x.key c.index.result.now (c.requires.some x there) (search rules) in (
+      x,
+      there,
+      first ∙ sym c.in_ok-copy.ensures,
+      c.in_ok-has_member.ensures.yes (ap Ok c.if-branch.true),
+    )
 
 pub loop-rec-preserved : goal.loop-rec-preserved
 loop-rec-preserved c = λ r h.

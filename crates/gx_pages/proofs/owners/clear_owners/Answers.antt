@@ -21,7 +21,14 @@ loop-table-preserved g c =
           (content_of new) inv.silent e.silent;
       faults = e.faults.same ∙ inv.faults;
       clear = λ told. clear_more (working_of mid) (working_of new) table c.clear_page.result
-          (omega (arith, count_pages mid, inv.keeps.size, c.loop-table-test.true, c.min-table-end.ensures, c.pages.ensures))
+          (omega (
+            arith,
+            count_pages mid,
+            inv.keeps.size,
+            c.loop-table-test.true,
+            c.min-table-end.ensures,
+            c.pages.ensures,
+          ))
           (e.page told) c.clear_page.ensures (inv.clear told);
       bytes = λ told other past. ap (λ (ps : List (List ℕ)). slice_get ps other) (e.page told)
           ∙ page_other (working_of mid) table other c.clear_page.result

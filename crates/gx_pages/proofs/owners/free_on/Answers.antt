@@ -17,8 +17,10 @@ returns-clause-free g c told =
     let within : (page : ℕ) → page / 2048 ≡ c.args.table → IsPast (ground_of j) page
     → (c.min-first.result ≤ page) × (page < c.min-end.result) = λ page at past.
     let low = past.past in
-    let below = past.below in
-    (omega (arith, at, low, below, size, same, least, first, end), omega (arith, at, low, below, size, same, end)) in
+    let below = past.below in (
+      omega (arith, at, low, below, size, same, least, first, end),
+      omega (arith, at, low, below, size, same, end),
+    ) in
     let inside : (page : ℕ) → c.min-first.result ≤ page → page < c.clamp-middle.result
     → page / 2048 ≡ c.args.table =
     λ page from to. omega (arith, from, to, size, same, least, first, end, middle) in

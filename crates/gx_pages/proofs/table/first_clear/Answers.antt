@@ -3,7 +3,10 @@ use Rattle.gx_pages.proofs.TableLemmas.{number_zeros, own_more, free_still}
 use Rattle.gx_pages.proofs.table.first_clear.Goals as goal
 
 pub loop-page-init : goal.loop-page-init
-loop-page-init c = record { own = λ p lt. absurd (omega (arith, lt)); free = λ p low lt. number_zeros p }
+loop-page-init c = record {
+  own = λ p lt. absurd (omega (arith, lt));
+  free = λ p low lt. number_zeros p;
+}
 
 pub loop-page-preserved : goal.loop-page-preserved
 loop-page-preserved c =

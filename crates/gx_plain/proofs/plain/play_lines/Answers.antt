@@ -10,7 +10,11 @@ use Rattle.gx_plain.proofs.plain.play_lines.Goals as goal
 pub lines-init : goal.lines-init
 lines-init c = record {
   of_schema = c.in_ok-moment.ensures.of_schema;
-  few = omega (arith, subst (λ ls. length ls.lines ≤ 16777217) (sym c.new-lines.ensures.lines) (few_lines c.args.script.now));
+  few = omega (
+    arith,
+    subst (λ ls. length ls.lines ≤ 16777217) (sym c.new-lines.ensures.lines)
+        (few_lines c.args.script.now),
+  );
   so_far = at_start _ _ _ _ _ c.new.ensures.items c.new-lines.ensures.lines
       c.in_ok-moment.ensures.at;
 }

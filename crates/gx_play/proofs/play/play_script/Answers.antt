@@ -14,7 +14,11 @@ loop-line-init g c =
     record {
       keeps = keeps_same g.B.View c.args.answers c.args.engine.now c.requires.ready;
       going = c.requires.going;
-      few = omega (arith, subst (λ ls. length ls.lines ≤ 16777217) (sym c.new-lines.ensures.lines) (few_lines c.args.script.now));
+      few = omega (
+        arith,
+        subst (λ ls. length ls.lines ≤ 16777217) (sym c.new-lines.ensures.lines)
+            (few_lines c.args.script.now),
+      );
       so_far = λ told p at. subst (λ ls. IsSoFar b p (script_lines c.args.script.now) ls 0 e e)
           (sym c.new-lines.ensures.lines)
           (at_start b p _ e (at_beside g.B.View c.args.answers p c.args.engine.now
@@ -44,8 +48,11 @@ loop-line-preserved g c =
           (at_alone g.B.View c.args.answers so.now c.loop-line.engine c.loop-line.out so.at));
       stands = λ p at.
           let now = c.loop-line.invariant.stands p at in
-          let played = c.in_ok-play_line.ensures.played now.0 now.1 in
-          (_, at_alone g.B.View c.args.answers _ c.play_line.new.engine c.play_line.new.out played.played.at);
+          let played = c.in_ok-play_line.ensures.played now.0 now.1 in (
+            _,
+            at_alone g.B.View c.args.answers _ c.play_line.new.engine c.play_line.new.out
+                played.played.at,
+          );
       counted = c.in_ok-play_line.ensures.counts.counted refl ∙ c.loop-line.invariant.counted;
     }
 
@@ -70,7 +77,10 @@ returns-in_err-play_line-clause-played g c = λ told p at.
     c.loop-line.invariant.keeps.limit
     (search rules) so c.loop-line.invariant.keeps.ready
     (is_err _ _ c.from_residual-in_err-play_line.ensures.1)
-    (λ n why e. (c.in_err-play_line.ensures.bad n why (ap Err e), c.in_err-play_line.ensures.stays n why (ap Err e)))
+    (λ n why e. (
+      c.in_err-play_line.ensures.bad n why (ap Err e),
+      c.in_err-play_line.ensures.stays n why (ap Err e),
+    ))
     (λ why e. c.in_err-play_line.ensures.given_up told so.now now why (ap Err e))
 
 pub returns-in_err-play_line-clause-keeps : goal.returns-in_err-play_line-clause-keeps

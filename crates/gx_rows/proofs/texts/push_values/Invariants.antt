@@ -5,4 +5,5 @@ use Rattle.gx_model.specs.Texts.{value_text}
 use Rattle.gx_rows.proofs.texts.push_values.Given as goal
 
 abbrev pub invariant-loop-value : goal.invariant-loop-value
-invariant-loop-value l = l.text.items ≡ l.fn.text.items ++ flat_map (λ v. codes " " ++ value_text v) (take l.value-index l.values)
+invariant-loop-value l = l.text.items ≡ l.fn.text.items
+    ++ flat_map (λ v. codes " " ++ value_text v) (take l.value-index l.values)

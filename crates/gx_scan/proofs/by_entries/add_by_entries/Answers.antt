@@ -22,8 +22,17 @@ use Rattle.gx_scan.proofs.by_entries.add_by_entries.Goals as goal
 
 pub loop-place-init : goal.loop-place-init
 loop-place-init g c = record {
-  rows = λ f whole is. ([], sym (append-nil c.args.rows.now.items), none_chosen (tree_of c.args.node.now) (is_within c.args.span.now c.args.conds.now) f [] refl);
-  steps = λ f whole is. ([], none_chosen (tree_of c.args.node.now) (is_key_inside c.args.span.now) f [] refl, omega arith);
+  rows = λ f whole is. (
+    [],
+    sym (append-nil c.args.rows.now.items),
+    none_chosen (tree_of c.args.node.now) (is_within c.args.span.now c.args.conds.now) f [] refl,
+  );
+  steps = λ f whole is. (
+    [],
+    none_chosen (tree_of c.args.node.now)
+        (is_key_inside c.args.span.now) f [] refl,
+    omega arith,
+  );
   front = ([], sym (append-nil c.args.rows.now.items));
   fit = λ all. all;
   reads = reads_itself g.B.View c.args.leaves.now;
@@ -78,7 +87,14 @@ loop-place-preserved g c =
             place_chosen t inside f ps i p so_far.0 (so_far.0 ++ more)
                 (subst IsOnce (sym are.leaves) (data_once t c.requires.tree.valid))
                 c.loop-place-test.true c.place-item.is so_far.1 refl,
-            omega (arith, so_far.2, now, length-append so_far.0 more, length-take i ps, length-take (i + 1) ps),
+            omega (
+              arith,
+              so_far.2,
+              now,
+              length-append so_far.0 more,
+              length-take i ps,
+              length-take (i + 1) ps,
+            ),
           );
       front = extends_further _ _ _ inv.front e.front;
       fit = λ all. e.fit (inv.fit all);

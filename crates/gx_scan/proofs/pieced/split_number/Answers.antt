@@ -15,5 +15,8 @@ returns c = λ key number small same.
     (2 ^ 63 + number) same ends.0 ends.1 in
     let rank : rank_of c.unrank.result ≡ (2 ^ 63 + number) % 2 ^ 64 =
     c.unrank.ensures ∙ c.from_be_bytes.ensures ∙ ap (from_be_bytes w64) parts.1
-    ∙ bytes_wrap (2 ^ 63 + number) in
-    (parts.0, c.cast_unsigned.ensures ∙ ap (cast_unsigned w64) (to_z-of_z {w = w64} fits) ∙ number_of_rank c.unrank.result number fits small rank)
+    ∙ bytes_wrap (2 ^ 63 + number) in (
+      parts.0,
+      c.cast_unsigned.ensures ∙ ap (cast_unsigned w64) (to_z-of_z {w = w64} fits)
+          ∙ number_of_rank c.unrank.result number fits small rank,
+    )

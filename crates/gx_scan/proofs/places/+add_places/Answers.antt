@@ -114,7 +114,12 @@ returns-after-loop-child t c = λ whole.
     (λ b. PassesOn (any_rule l.mapping) c.args.above.now.layers c.args.above.now.codes b.layers
     b.codes)) c.in-Some.is c.in_ok-below-in-Layer.ensures in
     let end : length l.kids.items ≤ i =
-    omega (arith, c.loop-child-test.false, c.kids-child-end.ensures, kids_many c.args.node.now l c.in-Layer.is c.requires.valid) in (
+    omega (
+      arith,
+      c.loop-child-test.false,
+      c.kids-child-end.ensures,
+      kids_many c.args.node.now l c.in-Layer.is c.requires.valid,
+    ) in (
       so_far.0,
       so_far.1,
       layer_placed c.args.node.now l c.args.above.now.layers

@@ -37,7 +37,11 @@ place_below-requires t c =
 pub returns-else-changed-eq0 : goal.returns-else-changed-eq0
 returns-else-changed-eq0 t c =
     let changed = c.args.changed in
-    let p : Place = record { leaf = c.in-Leaf.node.leaf; lengths = c.saturating_sub.result; codes = changed.codes } in
+    let p : Place = record {
+      leaf = c.in-Leaf.node.leaf;
+      lengths = c.saturating_sub.result;
+      codes = changed.codes;
+    } in
     let outside : changed.layers ≡ 0 → changed.codes ≡ [] = elim c.else-changed-eq0.branch [
       | else-changed-eq0-via-then-changed-eq0+else-not-is_empty w ↦
           (λ none. w.is_empty.ensures.yes w.if-not-is_empty.false)

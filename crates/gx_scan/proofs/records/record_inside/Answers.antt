@@ -53,6 +53,11 @@ returns g c = record {
       c.requires.asked.storable.keyed c.requires.asked.storable.key c.requires.asked.fits is.fit
       c.requires.asked.bounds.lo
       c.requires.asked.bounds.hi those in
-      omega (arith, found.few_steps, one_total (tree_of c.args.node.now) f most (record_at f c.args.key.now) found.found one few (λ r h. (those.sound r h).0));
+      omega (
+        arith,
+        found.few_steps,
+        one_total (tree_of c.args.node.now) f most
+            (record_at f c.args.key.now) found.found one few (λ r h. (those.sound r h).0),
+      );
   reads = search rules;
 }

@@ -11,7 +11,12 @@ index-kid-requires t c =
     let n = c.args.node.now in
     let l = c.in-Layer.layer in
     let passes = subst (Passes (any_rule l.mapping)) c.in-Whole.is c.passing.ensures in
-    omega (arith, kid_there n l c.in-Layer.is c.requires.valid passes c.args.span.now c.in-Some.child c.in-Some.ensures.alone, l.kids.ok.0)
+    omega (
+      arith,
+      kid_there n l c.in-Layer.is c.requires.valid passes c.args.span.now
+          c.in-Some.child c.in-Some.ensures.alone,
+      l.kids.ok.0,
+    )
 
 pub searched_node-requires : goal.searched_node-requires
 searched_node-requires t c =

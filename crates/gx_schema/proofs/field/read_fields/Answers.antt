@@ -27,7 +27,11 @@ pub loop-fields-preserved : goal.loop-fields-preserved
 loop-fields-preserved c =
     let more = rw c.if-not-more.false at (sym c.in_ok-more.ensures) in
     rw c.in_ok-add.ensures (
-      omega (arith, c.in_ok-field.ensures.room, length-append c.loop-fields.fields (c.in_ok-field.field ∷ [])),
+      omega (
+        arith,
+        c.in_ok-field.ensures.room,
+        length-append c.loop-fields.fields (c.in_ok-field.field ∷ []),
+      ),
       fields_go_on c.loop-fields.fields c.loop-fields.rest.now c.in_ok-field.field
           c.in_ok-field.after.now _ _ (omega arith) (sym c.in_ok-field.ensures.exact) more
           c.loop-fields.invariant.1,

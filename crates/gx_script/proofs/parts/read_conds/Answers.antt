@@ -25,7 +25,13 @@ returns-in-None c =
 
 pub loop-conds-smaller : goal.loop-conds-smaller
 loop-conds-smaller c =
-    omega (arith, cond_shorter c.args.file.now (words_in c.loop-conds.rest.now) (c.in_ok-cond.cond, words_in c.in_ok-cond.after.now) c.in_ok-cond.ensures, behind_shorter (codes "and") (words_in c.in_ok-cond.after.now) (words_in c.in-Some.next.now) (sym c.in-Some.ensures))
+    omega (
+      arith,
+      cond_shorter c.args.file.now (words_in c.loop-conds.rest.now)
+          (c.in_ok-cond.cond, words_in c.in_ok-cond.after.now) c.in_ok-cond.ensures,
+      behind_shorter (codes "and") (words_in c.in_ok-cond.after.now) (words_in c.in-Some.next.now)
+          (sym c.in-Some.ensures),
+    )
 
 pub loop-conds-preserved : goal.loop-conds-preserved
 loop-conds-preserved c =

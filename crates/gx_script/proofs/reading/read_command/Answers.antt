@@ -12,8 +12,10 @@ returns-clause-only c d l =
     is_only c.args.schema.now c.args.line.now c.read_line.result c.read_line.ensures d l
 
 pub returns-clause-means : goal.returns-clause-means
-returns-clause-means c d =
-    (line_found c.args.schema.now c.args.line.now d c.requires, reading_of_line c.args.schema.now c.args.line.now d)
+returns-clause-means c d = (
+  line_found c.args.schema.now c.args.line.now d c.requires,
+  reading_of_line c.args.schema.now c.args.line.now d,
+)
 
 pub returns-clause-one : goal.returns-clause-one
 returns-clause-one c given other a b = one_reading c.args.schema.now c.args.line.now given other a b

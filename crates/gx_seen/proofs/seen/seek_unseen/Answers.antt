@@ -10,7 +10,14 @@ use Rattle.gx_seen.proofs.SeenLemmas.{seen_more, owned_there}
 use Rattle.gx_seen.proofs.seen.seek_unseen.Goals as goal
 
 pub loop-table-init : goal.loop-table-init
-loop-table-init g c = (record { reads = pages_read_themselves g.P.PageView c.args.pages.now; faults = refl; all = λ told q less. absurd (omega (arith, less)) }, refl)
+loop-table-init g c = (
+  record {
+    reads = pages_read_themselves g.P.PageView c.args.pages.now;
+    faults = refl;
+    all = λ told q less. absurd (omega (arith, less));
+  },
+  refl,
+)
 
 pub returns-in-Some-clause-ends : goal.returns-in-Some-clause-ends
 returns-in-Some-clause-ends g c =

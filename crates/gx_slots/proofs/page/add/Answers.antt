@@ -42,7 +42,15 @@ returns c =
     ∙ is.page.size) in
     record {
       page = record { entries = insert entries c.args.i entry; next = next; is = new };
-      room = (λ _. omega (arith, room, c.offsets-at.ensures.end, sum_by-insert entry_len entries c.args.i entry), λ _. refl);
+      room = (
+        λ _. omega (
+          arith,
+          room,
+          c.offsets-at.ensures.end,
+          sum_by-insert entry_len entries c.args.i entry,
+        ),
+        λ _. refl,
+      );
       few = λ _. refl;
       added = entries_of-page (insert entries c.args.i entry) next c.set_record_count.new.page new;
       full = search rules;

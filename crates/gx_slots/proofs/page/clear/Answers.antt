@@ -16,5 +16,8 @@ returns c =
           c.write_header.auto.page;
       distinct = λ i j d lt below. absurd (omega arith);
     } in
-    record
-    { page = record { entries = []; next = none; is = is }; entries = entries_of-page [] none new is; next = next_of-page [] none new is }
+    record {
+      page = record { entries = []; next = none; is = is };
+      entries = entries_of-page [] none new is;
+      next = next_of-page [] none new is;
+    }

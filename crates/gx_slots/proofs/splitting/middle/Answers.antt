@@ -35,8 +35,11 @@ returns-then-taken-gt-HALF c =
     let taken = taken_next entry_len 2044 entries c.loop-key.place c.loop-key.taken
     c.loop-key.key-iterator (lent (c.in-Some.key, c.in-Some.body)) c.next.new.self has
     c.in-Some.ensures.steps in
-    record
-    { place = next.0; before = omega (arith, has.below, has.taken_is); across = omega (arith, taken, c.entry_len-taken.ensures) }
+    record {
+      place = next.0;
+      before = omega (arith, has.below, has.taken_is);
+      across = omega (arith, taken, c.entry_len-taken.ensures);
+    }
 
 pub overflow_add-place : goal.overflow_add-place
 overflow_add-place c =

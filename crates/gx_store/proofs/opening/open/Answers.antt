@@ -115,14 +115,22 @@ returns-clause-attaches g c = λ can.
     (g.M.Device.content c.attach.new.self) _ can.free o.attached c.open_attached.ensures.silent
 
 pub returns-in-Err-clause-kept : goal.returns-in-Err-clause-kept
-returns-in-Err-clause-kept g c = λ can goes blocks was.
-    (blocks, ap (λ (m : Moment). device_at m c.args.name.now) c.in-Err.ensures.refused.now ∙ was, alike_itself blocks)
+returns-in-Err-clause-kept g c = λ can goes blocks was. (
+  blocks,
+  ap (λ (m : Moment). device_at m c.args.name.now) c.in-Err.ensures.refused.now ∙ was,
+  alike_itself blocks,
+)
 
 pub returns-clause-ground : goal.returns-clause-ground
 returns-clause-ground g c = λ can.
     let o = c.in_default.ensures.opened can.told can.free refl in
     IfOk-weaker c.open_attached.result _ _
-    (λ s is. (o.blocks, o.was, is ∙ ap (λ (bs : List (List ℕ)). ground_on bs) o.attached.blocks_are))
+    (λ s is. (
+      o.blocks,
+      o.was,
+      is ∙ ap (λ (bs : List (List ℕ)). ground_on bs)
+          o.attached.blocks_are,
+    ))
     (c.open_attached.ensures.ground can.told)
 
 pub returns-clause-kept : goal.returns-clause-kept
@@ -140,8 +148,11 @@ returns-clause-kept g c = λ can goes blocks was.
     )
 
 pub returns-in-Err-clause-recovered : goal.returns-in-Err-clause-recovered
-returns-in-Err-clause-recovered g c = λ can blocks was.
-    (blocks, ap (λ (m : Moment). device_at m c.args.name.now) c.in-Err.ensures.refused.now ∙ was, recovery_itself blocks)
+returns-in-Err-clause-recovered g c = λ can blocks was. (
+  blocks,
+  ap (λ (m : Moment). device_at m c.args.name.now) c.in-Err.ensures.refused.now ∙ was,
+  recovery_itself blocks,
+)
 
 pub returns-clause-recovered : goal.returns-clause-recovered
 returns-clause-recovered g c = λ can blocks was.

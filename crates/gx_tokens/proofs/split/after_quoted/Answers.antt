@@ -7,7 +7,12 @@ loop-after-preserved c = (
   goes_on c.args.bytes.now c.loop-after.rest.now c.loop-after.invariant.0 c.in-Some.after.now
       c.in-Some-after_second.second.now c.in-Some.ensures.value
       c.in-Some-after_second.ensures.value,
-  omega (arith, c.in-Some.ensures.shorter, c.in-Some-after_second.ensures.shorter, c.loop-after.invariant.1),
+  omega (
+    arith,
+    c.in-Some.ensures.shorter,
+    c.in-Some-after_second.ensures.shorter,
+    c.loop-after.invariant.1,
+  ),
 )
 
 pub returns-in-None-clause-value : goal.returns-in-None-clause-value

@@ -98,7 +98,11 @@ returns-clause-link_nodes c =
     c.in_ok-files.files.items) c.as_slice-of_files.ensures
     (subst (λ (given : List Definition). AreTreesOfFiles 0 c.as_slice-of_files.result.now
     (definitions_of given) c.in_ok-files.files.items) same c.in_ok-files.ensures.trees) in
-    let links = taken_back (λ (files : List FileDef) (n : ℕ) (links : List LinkDef) (given : List DefinitionTree). AreTreesOfLinks files n links given c.in_ok-links.links.items) c.args.schema.now.files c.as_slice-of_files.result.now c.args.schema.now.links c.as_slice-of_links.result.now whole c.as_slice-definitions.result.now c.split_at.result.1.now c.nodes_of_files.new.next
+    let links = taken_back
+    (λ (files : List FileDef) (n : ℕ) (links : List LinkDef) (given : List DefinitionTree).
+    AreTreesOfLinks files n links given c.in_ok-links.links.items) c.args.schema.now.files
+    c.as_slice-of_files.result.now c.args.schema.now.links c.as_slice-of_links.result.now whole
+    c.as_slice-definitions.result.now c.split_at.result.1.now c.nodes_of_files.new.next
     c.as_slice-of_files.ensures c.as_slice-of_links.ensures same c.split_at.ensures.back
     c.in_ok-files.ensures.next c.in_ok-links.ensures in
     are_link_nodes c.args.schema.now ds c.in_ok-files.files.items c.in_ok-links.links.items
@@ -119,7 +123,10 @@ returns-clause-owned c =
     c.in_ok-files.files.items) c.as_slice-of_files.ensures
     (subst (λ (given : List Definition). AreTreesOfFiles 0 c.as_slice-of_files.result.now
     (definitions_of given) c.in_ok-files.files.items) same c.in_ok-files.ensures.trees) in
-    let links = taken_back (λ (files : List FileDef) (n : ℕ) (links : List LinkDef) (given : List DefinitionTree). AreTreesOfLinks files n links given c.in_ok-links.links.items) schema.files c.as_slice-of_files.result.now schema.links
+    let links = taken_back
+    (λ (files : List FileDef) (n : ℕ) (links : List LinkDef) (given : List DefinitionTree).
+    AreTreesOfLinks files n links given c.in_ok-links.links.items) schema.files
+    c.as_slice-of_files.result.now schema.links
     c.as_slice-of_links.result.now whole c.as_slice-definitions.result.now c.split_at.result.1.now
     c.nodes_of_files.new.next
     c.as_slice-of_files.ensures c.as_slice-of_links.ensures same c.split_at.ensures.back

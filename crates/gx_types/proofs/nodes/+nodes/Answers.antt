@@ -94,8 +94,10 @@ node_of-kid_nodes-requires t c =
     let form = c.args.form.now in
     let seen = tree_of c.args.term.now in
     let m = c.in_ok-mapping-in_default.mapping in
-    let is = c.in_ok-mapping-in_default.ensures in
-    (omega (arith, kids_below seen, c.decreases), (layer_ready n form seen m c.requires is, layer_kids n form seen m c.requires is))
+    let is = c.in_ok-mapping-in_default.ensures in (
+      omega (arith, kids_below seen, c.decreases),
+      (layer_ready n form seen m c.requires is, layer_kids n form seen m c.requires is),
+    )
 
 pub node_of-returns-in_ok-nodes-in_default : goal.node_of-returns-in_ok-nodes-in_default
 node_of-returns-in_ok-nodes-in_default t c =

@@ -24,12 +24,26 @@ both_typed-returns t c = λ due same_0 same_1.
     rw e c.term_typed-2.ensures
 
 pub each_typed-term_typed-requires : goal.each_typed-term_typed-requires
-each_typed-term_typed-requires t c =
-    (omega (arith, one_smaller c.args.kids.now c.loop-i.i c.index-kids-i.result (omega arith) c.index-kids-i.is, c.decreases), tt)
+each_typed-term_typed-requires t c = (
+  omega (
+    arith,
+    one_smaller c.args.kids.now c.loop-i.i c.index-kids-i.result
+        (omega arith) c.index-kids-i.is,
+    c.decreases,
+  ),
+  tt,
+)
 
 pub same_typed-term_typed-requires : goal.same_typed-term_typed-requires
-same_typed-term_typed-requires t c =
-    (omega (arith, one_smaller c.args.kids.now c.loop-kid.kid-index c.kid-item.result (omega arith) c.kid-item.is, c.decreases), tt)
+same_typed-term_typed-requires t c = (
+  omega (
+    arith,
+    one_smaller c.args.kids.now c.loop-kid.kid-index c.kid-item.result
+        (omega arith) c.kid-item.is,
+    c.decreases,
+  ),
+  tt,
+)
 
 pub term_typed-each_typed-requires : goal.term_typed-each_typed-requires
 term_typed-each_typed-requires t c =

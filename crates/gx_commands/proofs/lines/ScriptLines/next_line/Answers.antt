@@ -8,8 +8,11 @@ pub returns-then-len-gt-LONGEST_LINE-clause-next : goal.returns-then-len-gt-LONG
 returns-then-len-gt-LONGEST_LINE-clause-next c =
     let l = c.line_len-len.ensures in
     let front = front_line c.self.inside.rest.now c.min.result c.self.inside.most
-    c.line_len-len.result c.min.ensures l.before l.within l.ended in
-    (sym c.self.view_is ∙ long_line c.self.inside.most c.self.inside.rest.now c.line_len-len.result front c.if-len-gt-LONGEST_LINE.true, refl)
+    c.line_len-len.result c.min.ensures l.before l.within l.ended in (
+      sym c.self.view_is ∙ long_line c.self.inside.most c.self.inside.rest.now c.line_len-len.result
+          front c.if-len-gt-LONGEST_LINE.true,
+      refl,
+    )
 
 pub returns-then-len-seen-clause-next : goal.returns-then-len-seen-clause-next
 returns-then-len-seen-clause-next c =
@@ -38,8 +41,11 @@ returns-then-self-clause-next c =
     let same = take_seen rest c.min.result most c.min.ensures in
     let front = front_line rest c.min.result most c.line_len-len.result c.min.ensures l.before
     l.within l.ended in
-    let over : length (take most rest) ≤ c.line_len-len.result = rw same at c.if-len-seen.false in
-    (sym c.self.view_is ∙ long_script most rest c.line_len-len.result front c.if-len-gt-LONGEST_LINE.false over c.if-self.true, refl)
+    let over : length (take most rest) ≤ c.line_len-len.result = rw same at c.if-len-seen.false in (
+      sym c.self.view_is ∙ long_script most rest c.line_len-len.result front
+          c.if-len-gt-LONGEST_LINE.false over c.if-self.true,
+      refl,
+    )
 
 pub returns-then-is_empty-clause-next : goal.returns-then-is_empty-clause-next
 returns-then-is_empty-clause-next c =
@@ -51,8 +57,12 @@ returns-then-is_empty-clause-next c =
     let front = front_line rest c.min.result most at c.min.ensures l.before l.within l.ended in
     let over : length (take most rest) ≤ at = rw same at c.if-len-seen.false in
     let line = whole_line rest c.min.result most at c.min.ensures c.if-len-seen.false
-    c.if-self.false in
-    (sym c.self.view_is ∙ no_line most rest (take at (take c.min.result rest)) at front c.if-len-gt-LONGEST_LINE.false over c.if-self.false line (sym c.is_empty.ensures ∙ c.if-is_empty.true), lines-nil most)
+    c.if-self.false in (
+      sym c.self.view_is ∙ no_line most rest (take at (take c.min.result rest)) at front
+          c.if-len-gt-LONGEST_LINE.false over c.if-self.false line
+          (sym c.is_empty.ensures ∙ c.if-is_empty.true),
+      lines-nil most,
+    )
 
 pub returns-clause-next : goal.returns-clause-next
 returns-clause-next c =
@@ -72,7 +82,11 @@ returns-clause-next c =
 pub returns-then-len-seen-clause-short : goal.returns-then-len-seen-clause-short
 unfolding longest_line
 returns-then-len-seen-clause-short c =
-    omega (arith, length-take c.line_len-len.result (take c.min.result c.self.inside.rest.now), c.without_cr.ensures.within)
+    omega (
+      arith,
+      length-take c.line_len-len.result (take c.min.result c.self.inside.rest.now),
+      c.without_cr.ensures.within,
+    )
 
 pub returns-clause-short : goal.returns-clause-short
 unfolding longest_line

@@ -14,7 +14,12 @@ pub value_at-requires : goal.value_at-requires
 value_at-requires c =
     let m = c.args.self.now in
     let r = c.args.rec in
-    omega (arith, c.from-field.ensures, m.sound.place, fit_length m.form.fields r.fields c.requires.fields)
+    omega (
+      arith,
+      c.from-field.ensures,
+      m.sound.place,
+      fit_length m.form.fields r.fields c.requires.fields,
+    )
 
 pub coded-requires : goal.coded-requires
 coded-requires c =
@@ -30,7 +35,12 @@ pub with_value-fields-requires : goal.with_value-fields-requires
 with_value-fields-requires c =
     let m = c.args.self.now in
     let r = c.args.rec in
-    omega (arith, c.from-field.ensures, m.sound.place, fit_length m.form.fields r.fields c.requires.fields)
+    omega (
+      arith,
+      c.from-field.ensures,
+      m.sound.place,
+      fit_length m.form.fields r.fields c.requires.fields,
+    )
 
 pub returns : goal.returns
 returns c =

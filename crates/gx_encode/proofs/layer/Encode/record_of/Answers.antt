@@ -12,7 +12,12 @@ pub bytes_at-bytes-requires : goal.bytes_at-bytes-requires
 bytes_at-bytes-requires c =
     let m = c.args.self.now in
     let p = c.args.part in
-    omega (arith, c.from-field.ensures, m.sound.place, part_length m.form m.field m.code m.sound p.key (only_part p) c.requires)
+    omega (
+      arith,
+      c.from-field.ensures,
+      m.sound.place,
+      part_length m.form m.field m.code m.sound p.key (only_part p) c.requires,
+    )
 
 pub returns-in_default : goal.returns-in_default
 returns-in_default c =
@@ -34,7 +39,12 @@ pub with_value-fields-requires : goal.with_value-fields-requires
 with_value-fields-requires c =
     let m = c.args.self.now in
     let p = c.args.part in
-    omega (arith, c.from-field.ensures, m.sound.place, part_length m.form m.field m.code m.sound p.key (only_part p) c.requires)
+    omega (
+      arith,
+      c.from-field.ensures,
+      m.sound.place,
+      part_length m.form m.field m.code m.sound p.key (only_part p) c.requires,
+    )
 
 pub returns : goal.returns
 returns c =

@@ -26,7 +26,15 @@ returns-in-Ok-format-clause-calm g c told =
     let sized = g.met.D.Device.sized j.device told in
     let size = ap (λ (d : _). g.D.Device.size d) c.over.ensures.device in
     closed_since g.D.Device.tells (length j.working.spilled.items) (content j.device) told
-    (omega (arith, sized, size, c.over.ensures.size, c.in-Ok.ensures.count, c.blocks-2.ensures, c.format.ensures.size))
+    (omega (
+      arith,
+      sized,
+      size,
+      c.over.ensures.size,
+      c.in-Ok.ensures.count,
+      c.blocks-2.ensures,
+      c.format.ensures.size,
+    ))
     (omega (arith, sized, size, c.requires.blocks, c.format.ensures.size))
     (subst (λ (x : Content). NonePending x) same (c.in-Ok-format.ensures.none_pending told))
     (subst (λ (x : Content). is_open (block_of x.now 1) ≡ false) same

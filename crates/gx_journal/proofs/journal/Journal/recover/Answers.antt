@@ -14,7 +14,14 @@ returns-in-Ok-true-clause-kept g c told =
     let v = view_now (replayed_pages old.now.blocks) old in
     let sized = g.met.D.Device.sized c.args.device told in
     let many : length v.pages ≡ c.count.result =
-    omega (arith, length-replayed old.now.blocks, c.blocks-2.ensures, c.in-Ok.ensures.count, c.count.ensures, sized) in
+    omega (
+      arith,
+      length-replayed old.now.blocks,
+      c.blocks-2.ensures,
+      c.in-Ok.ensures.count,
+      c.count.ensures,
+      sized,
+    ) in
     let rest = c.in-Ok-true.ensures.at_rest told v many
     (reads_replayed old) c.in-Ok-true.field-0-test in
     opened_kept g.D.Device.tells told (length j.working.spilled.items) (content j.device) v
@@ -30,7 +37,14 @@ returns-in-Ok-true-clause-calm g c told =
     let v = view_now (replayed_pages old.now.blocks) old in
     let sized = g.met.D.Device.sized c.args.device told in
     let many : length v.pages ≡ c.count.result =
-    omega (arith, length-replayed old.now.blocks, c.blocks-2.ensures, c.in-Ok.ensures.count, c.count.ensures, sized) in
+    omega (
+      arith,
+      length-replayed old.now.blocks,
+      c.blocks-2.ensures,
+      c.in-Ok.ensures.count,
+      c.count.ensures,
+      sized,
+    ) in
     let rest = c.in-Ok-true.ensures.at_rest told v many
     (reads_replayed old) c.in-Ok-true.field-0-test in
     opened_calm g.D.Device.tells told (length j.working.spilled.items) (content j.device) v

@@ -9,12 +9,14 @@ disconnect_from-requires-clause-below g c =
     λ n h. c.requires.below n (subst (λ (l : AnyLinkset). In n (any_link_rule l).leaves)
     (sym c.in-Array.is) h)
 
-pub disconnect_from-requires-in-Ring-clause-below : goal.disconnect_from-requires-in-Ring-clause-below
+pub disconnect_from-requires-in-Ring-clause-below :
+    goal.disconnect_from-requires-in-Ring-clause-below
 disconnect_from-requires-in-Ring-clause-below g c =
     λ n h. c.requires.below n (subst (λ (l : AnyLinkset). In n (any_link_rule l).leaves)
     (sym c.in-Ring.is) h)
 
-pub disconnect_from-requires-in-Inverted-clause-below : goal.disconnect_from-requires-in-Inverted-clause-below
+pub disconnect_from-requires-in-Inverted-clause-below :
+    goal.disconnect_from-requires-in-Inverted-clause-below
 disconnect_from-requires-in-Inverted-clause-below g c =
     λ n h. c.requires.below n (subst (λ (l : AnyLinkset). In n (any_link_rule l).leaves)
     (sym c.in-Inverted.is) h)

@@ -19,7 +19,11 @@ returns-in_default-clause-pairs g c = λ w has.
     let none = subst (IsHeld rule tree (g.B.View.whole c.args.leaves.now)
     (g.B.View.working c.args.leaves.now)) c.in_default.is
     c.in_ok-found.ensures.held in
-    none w (node_rows array_rows has.0 0, rows_set rule tree c.args.self.now.member c.requires.valid has.0 has.1, has.2.0)
+    none w (
+      node_rows array_rows has.0 0,
+      rows_set rule tree c.args.self.now.member c.requires.valid has.0 has.1,
+      has.2.0,
+    )
 
 pub told-requires-clause-found : goal.told-requires-clause-found
 told-requires-clause-found g c =

@@ -7,7 +7,11 @@ use Rattle.gx_memory_leaves.proofs.plain.PlainLeavesLeaves.put.Goals as goal
 pub returns-clause-ok : goal.returns-clause-ok
 returns-clause-ok g c = λ _.
     let lt : c.args.leaf < length c.args.self.now.leaves.items =
-    omega (arith, length-map c.args.self.now.leaves.items (λ (l : LeafPair). l.working), c.requires.leaf) in
+    omega (
+      arith,
+      length-map c.args.self.now.leaves.items (λ (l : LeafPair). l.working),
+      c.requires.leaf,
+    ) in
     put_workings c.args.self.now.leaves.items c.args.leaf c.index_mut.result.now c.put.new.self
     c.index_mut.ensures.value _ _ lt c.in_ok-put.ensures.ok
 

@@ -29,14 +29,23 @@ attached blocks given pending said drive_name name shelf devices m is_said is_sh
       blocks = b i;
       pending = p i;
       said = sym is_said i;
-      shelf = record { name = Some (n i); devices = remove (sym (ap (λ (s : Shelf). s.devices) is_shelf ∙ on) i) (n i) };
+      shelf = record {
+        name = Some (n i);
+        devices = remove
+            (sym (ap (λ (s : Shelf). s.devices) is_shelf ∙ on) i) (n i);
+      };
     }
 
 pub invariant_of-self : goal.invariant_of-self
 invariant_of-self c =
     let t = c.self.inside in
     let devices : Devices = by_name t.start.entries in
-    let m : Moment = record { blocks = t.blocks.items; pending = t.pending.items; said = t.said.items; shelf = shelf_of t.name devices } in
+    let m : Moment = record {
+      blocks = t.blocks.items;
+      pending = t.pending.items;
+      said = t.said.items;
+      shelf = shelf_of t.name devices;
+    } in
     let on = all_on_shelf t.name devices (ap (λ (x : Traced). x.now.shelf.name) c.self.view_is
     ∙ c.requires.first) in
     let name = c.args.name.now in
@@ -67,7 +76,12 @@ pub returns-clause-ok : goal.returns-clause-ok
 returns-clause-ok c =
     let t = c.self.inside in
     let devices : Devices = by_name t.start.entries in
-    let m : Moment = record { blocks = t.blocks.items; pending = t.pending.items; said = t.said.items; shelf = shelf_of t.name devices } in
+    let m : Moment = record {
+      blocks = t.blocks.items;
+      pending = t.pending.items;
+      said = t.said.items;
+      shelf = shelf_of t.name devices;
+    } in
     let on = all_on_shelf t.name devices (ap (λ (x : Traced). x.now.shelf.name) c.self.view_is
     ∙ c.requires.first) in
     let name = c.args.name.now in

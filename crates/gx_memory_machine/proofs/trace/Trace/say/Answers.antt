@@ -49,5 +49,11 @@ returns c =
           c.self.invariant (step.Say (length c.args.piece.now)) c.args.piece.now
           c.note.ensures.steps c.note.ensures.written refl;
       calls = omega (arith, c.note.ensures.count, c.note.ensures.places);
-      bytes = omega (arith, c.note.ensures.long, c.note.ensures.capacity, c.append.ensures.long, c.append.ensures.capacity);
+      bytes = omega (
+        arith,
+        c.note.ensures.long,
+        c.note.ensures.capacity,
+        c.append.ensures.long,
+        c.append.ensures.capacity,
+      );
     })

@@ -26,7 +26,11 @@ invariant_of-self c =
       shelf = shelf_of t.name (by_name t.start.entries);
     }) (length-set t.pending.items c.args.n true ∙ c.self.invariant.flags
     ∙ sym (length-set t.blocks.items c.args.n c.copy_from_slice.new.self))
-    (omega (arith, c.self.invariant.few, length-set t.blocks.items c.args.n c.copy_from_slice.new.self))
+    (omega (
+      arith,
+      c.self.invariant.few,
+      length-set t.blocks.items c.args.n c.copy_from_slice.new.self,
+    ))
 
 pub returns : goal.returns
 returns c =

@@ -28,8 +28,10 @@ ring_rows-requires g c = λ x h m k.
     let valid = c.requires.valid in
     let fit = (ring_read rule heads nexts valid c.args.heads c.args.chain c.requires.chain).fit
     (m, x.owner) (subst (In (m, x.owner)) c.in_ok-pairs.ensures
-    ((c.in_ok-owners.ensures.pairs x h).each m k)) in
-    (key_value_of (owner_kind rule heads) x.owner valid.owner fit.1, key_value_of (member_kind rule nexts) m valid.member fit.0)
+    ((c.in_ok-owners.ensures.pairs x h).each m k)) in (
+      key_value_of (owner_kind rule heads) x.owner valid.owner fit.1,
+      key_value_of (member_kind rule nexts) m valid.member fit.0,
+    )
 
 pub returns : goal.returns
 returns g c =

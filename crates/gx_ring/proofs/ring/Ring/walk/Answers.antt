@@ -39,7 +39,13 @@ returns-in_err-next-clause-reads g c =
     let inv = c.loop-step.invariant in
     reads_given_after b c.from_residual.result c.from_residual.ensures.1
     (record { reads = inv.reads; whole = inv.whole; counted = inv.counted })
-    (λ s. (inv.whole s.0, subst (λ ms. HasMember rule heads nexts ms c.loop-step.at) (sym inv.reads.working) (member_at rule heads nexts c.requires.valid (b.whole old) (b.working old) c.args.first c.args.out.now (b.work old) _ c.loop-step.at _ _ inv.step s.0 s.1)))
+    (λ s. (
+      inv.whole s.0,
+      subst (λ ms. HasMember rule heads nexts ms c.loop-step.at)
+          (sym inv.reads.working) (member_at rule heads nexts c.requires.valid (b.whole old)
+          (b.working old) c.args.first c.args.out.now (b.work old) _ c.loop-step.at _ _
+          inv.step s.0 s.1),
+    ))
     c.in_err-next.ensures.reads
 
 pub returns-in-None-clause-walked : goal.returns-in-None-clause-walked

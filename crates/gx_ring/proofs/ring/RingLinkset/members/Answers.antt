@@ -18,7 +18,12 @@ pub returns-in_err-head-clause-reads : goal.returns-in_err-head-clause-reads
 returns-in_err-head-clause-reads g c =
     let b = g.B.View in
     reads_given b c.from_residual.result c.from_residual.ensures.1
-    (λ s. (s.0, heads_held g.M.Mapping.rule (tree_of c.args.self.now.heads.now) (tree_of c.args.self.now.chain.now) c.requires.valid (b.working c.args.leaves.now) s.1)) c.in_err-head.ensures.reads
+    (λ s. (
+      s.0,
+      heads_held g.M.Mapping.rule (tree_of c.args.self.now.heads.now)
+          (tree_of c.args.self.now.chain.now) c.requires.valid (b.working c.args.leaves.now) s.1,
+    ))
+    c.in_err-head.ensures.reads
 
 pub take_field-requires : goal.take_field-requires
 take_field-requires g c =

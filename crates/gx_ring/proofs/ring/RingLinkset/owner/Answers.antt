@@ -15,7 +15,12 @@ pub returns-in_err-rec-clause-reads : goal.returns-in_err-rec-clause-reads
 returns-in_err-rec-clause-reads g c =
     let b = g.B.View in
     reads_given b c.from_residual.result c.from_residual.ensures.1
-    (λ s. (s.0, nexts_held g.M.Mapping.rule (tree_of c.args.self.now.heads.now) (tree_of c.args.self.now.chain.now) c.requires.valid (b.working c.args.leaves.now) s.1)) c.in_err-rec.ensures.reads
+    (λ s. (
+      s.0,
+      nexts_held g.M.Mapping.rule (tree_of c.args.self.now.heads.now)
+          (tree_of c.args.self.now.chain.now) c.requires.valid (b.working c.args.leaves.now) s.1,
+    ))
+    c.in_err-rec.ensures.reads
 
 pub take_field-requires : goal.take_field-requires
 take_field-requires g c =

@@ -33,7 +33,12 @@ index-kid-requires g t c =
     let l = c.in-Layer.layer in
     let below : c.loop-child.child < (rule l.mapping).kids = omega (arith, c.kids-child-end.ensures)
     in
-    omega (arith, child_there rule c.args.self.now l c.in-Layer.is c.loop-child.child c.requires.valid below, l.kids.ok.0)
+    omega (
+      arith,
+      child_there rule c.args.self.now l c.in-Layer.is c.loop-child.child
+          c.requires.valid below,
+      l.kids.ok.0,
+    )
 
 pub held-requires : goal.held-requires
 held-requires g t c κs within =
@@ -47,7 +52,18 @@ held-requires g t c κs within =
     let there = child_there rule n l c.in-Layer.is child c.requires.valid below in
     let v = child_valid rule n l c.in-Layer.is child k c.requires.valid there read in (
       omega (arith, kid_lower rule n l c.in-Layer.is child k there read, c.decreases),
-      (search rules, (search rules, (v.1, λ j h. subst (λ ms. j < length ms) (sym c.loop-child.invariant.reads.working) (c.requires.below j (child_leaves rule n l c.in-Layer.is child k there read j h))))),
+      (
+        search rules,
+        (
+          search rules,
+          (
+            v.1,
+            λ j h. subst (λ ms. j < length ms)
+                (sym c.loop-child.invariant.reads.working)
+                (c.requires.below j (child_leaves rule n l c.in-Layer.is child k there read j h)),
+          ),
+        ),
+      ),
     )
 
 pub returns-in_default-clause-held : goal.returns-in_default-clause-held
@@ -198,7 +214,13 @@ returns-in_default-clause-few_steps g t c = λ whole.
     let here = subst (λ ms. b.work c.held.new.leaves ≤ b.work c.loop-child.leaves + tree_steps ms
     (tree_of k)) inv.reads.working (c.in_ok-found-in-Layer.ensures.few_steps (inv.whole whole))
     in
-    omega (arith, here, inv.few_steps whole, child_steps n l c.in-Layer.is maps child k there c.index-kid.ensures, layer_steps n l c.in-Layer.is maps (child + 1))
+    omega (
+      arith,
+      here,
+      inv.few_steps whole,
+      child_steps n l c.in-Layer.is maps child k there c.index-kid.ensures,
+      layer_steps n l c.in-Layer.is maps (child + 1),
+    )
 
 pub returns-after-loop-child-clause-few_steps : goal.returns-after-loop-child-clause-few_steps
 returns-after-loop-child-clause-few_steps g t c = λ whole.
@@ -206,7 +228,11 @@ returns-after-loop-child-clause-few_steps g t c = λ whole.
     let at = c.loop-child in
     let maps = g.B.View.working c.args.leaves.now in
     on_ok_always c.join_parts.result
-    (omega (arith, at.invariant.few_steps whole, layer_steps c.args.self.now l c.in-Layer.is maps at.child))
+    (omega (
+      arith,
+      at.invariant.few_steps whole,
+      layer_steps c.args.self.now l c.in-Layer.is maps at.child,
+    ))
 
 pub returns-in_default-clause-counts : goal.returns-in_default-clause-counts
 returns-in_default-clause-counts g t c = λ w.
@@ -217,7 +243,8 @@ returns-in_default-clause-counts g t c = λ w.
     c.held.new.counts inv.reads.working (inv.counts w)
     (c.in_ok-found-in-Layer.ensures.counts (inv.whole w))
 
-pub returns-in_err-add_parts-in-Layer-clause-counts : goal.returns-in_err-add_parts-in-Layer-clause-counts
+pub returns-in_err-add_parts-in-Layer-clause-counts :
+    goal.returns-in_err-add_parts-in-Layer-clause-counts
 returns-in_err-add_parts-in-Layer-clause-counts g t c = λ w.
     let b = g.B.View in
     let at = c.loop-child in

@@ -14,7 +14,12 @@ index-kid-requires g t c =
     let l = c.in-Layer.layer in
     let below : c.loop-child.child < (rule l.mapping).kids = omega (arith, c.kids-child-end.ensures)
     in
-    omega (arith, child_there rule c.args.self.now l c.in-Layer.is c.loop-child.child c.requires below, l.kids.ok.0)
+    omega (
+      arith,
+      child_there rule c.args.self.now l c.in-Layer.is c.loop-child.child c.requires
+          below,
+      l.kids.ok.0,
+    )
 
 pub indexed-requires : goal.indexed-requires
 indexed-requires g t c κs within =
@@ -25,8 +30,14 @@ indexed-requires g t c κs within =
     let child = c.loop-child.child in
     let below : child < (rule l.mapping).kids = omega (arith, c.kids-child-end.ensures) in
     let there = child_there rule n l c.in-Layer.is child c.requires below in
-    let v = child_valid rule n l c.in-Layer.is child k c.requires there c.index-kid.ensures in
-    (omega (arith, kid_lower rule n l c.in-Layer.is child k there c.index-kid.ensures, c.decreases), (search rules, v.1))
+    let v = child_valid rule n l c.in-Layer.is child k c.requires there c.index-kid.ensures in (
+      omega (
+        arith,
+        kid_lower rule n l c.in-Layer.is child k there c.index-kid.ensures,
+        c.decreases,
+      ),
+      (search rules, v.1),
+    )
 
 pub loop-child-init : goal.loop-child-init
 loop-child-init g t c =

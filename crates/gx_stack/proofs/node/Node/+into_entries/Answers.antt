@@ -23,7 +23,12 @@ index-first-requires-in-Some-2 g t c =
     let is = subst (IsWhole (m.rule l.mapping) rec) c.in-Some-2.is c.in_ok-whole-in-Layer.ensures in
     let fits = subst (λ f. IsOf f rec) (layer_form m.rule n l c.in-Layer.is) c.requires.of_form in
     let child = whole_child (g.met.M.Mapping.laws l.mapping) rec whole fits is in
-    omega (arith, child_there m.rule n l c.in-Layer.is whole.child c.requires.valid child.0, l.kids.ok.0)
+    omega (
+      arith,
+      child_there m.rule n l c.in-Layer.is whole.child c.requires.valid
+          child.0,
+      l.kids.ok.0,
+    )
 
 pub into_entries-requires-in-Some-2 : goal.into_entries-requires-in-Some-2
 into_entries-requires-in-Some-2 g t c κs within =
@@ -38,8 +43,10 @@ into_entries-requires-in-Some-2 g t c κs within =
     let k = c.index-first-in-Some-2.result.now in
     let read = c.index-first-in-Some-2.ensures in
     let there = child_there m.rule n l c.in-Layer.is whole.child c.requires.valid child.0 in
-    let v = child_valid m.rule n l c.in-Layer.is whole.child k c.requires.valid there read in
-    (omega (arith, kid_lower m.rule n l c.in-Layer.is whole.child k there read, c.decreases), (search rules, (v.1, subst (λ f. IsOf f rec) (sym v.0) child.1)))
+    let v = child_valid m.rule n l c.in-Layer.is whole.child k c.requires.valid there read in (
+      omega (arith, kid_lower m.rule n l c.in-Layer.is whole.child k there read, c.decreases),
+      (search rules, (v.1, subst (λ f. IsOf f rec) (sym v.0) child.1)),
+    )
 
 pub loop-part-init : goal.loop-part-init
 loop-part-init g t c =
@@ -141,8 +148,15 @@ into_entries-requires-in-loop-part g t c κs within =
     let part = layer_part m.rule c.args.self.now l c.in-Layer.is (g.met.M.Mapping.laws l.mapping)
     c.args.rec p c.requires.valid c.requires.of_form there in
     let k = c.index-kid.result.now in
-    let both = part.1 k c.index-kid.ensures in
-    (omega (arith, kid_lower m.rule c.args.self.now l c.in-Layer.is p.child k part.0 c.index-kid.ensures, c.decreases), (search rules, (both.0, both.1)))
+    let both = part.1 k c.index-kid.ensures in (
+      omega (
+        arith,
+        kid_lower m.rule c.args.self.now l c.in-Layer.is p.child k part.0
+            c.index-kid.ensures,
+        c.decreases,
+      ),
+      (search rules, (both.0, both.1)),
+    )
 
 pub loop-part-preserved : goal.loop-part-preserved
 loop-part-preserved g t c =

@@ -21,7 +21,12 @@ index-kid-requires g t c =
     let l = c.in-Layer.layer in
     let index = (g.met.M.Mapping.laws l.mapping).indexed c.args.field.now c.in-Some.child
     (sym c.indexes.ensures ∙ c.in-Some.is) in
-    omega (arith, child_there rule c.args.self.now l c.in-Layer.is c.in-Some.child c.requires.valid index.child, l.kids.ok.0)
+    omega (
+      arith,
+      child_there rule c.args.self.now l c.in-Layer.is c.in-Some.child c.requires.valid
+          index.child,
+      l.kids.ok.0,
+    )
 
 pub select-requires-clause-valid : goal.select-requires-clause-valid
 select-requires-clause-valid g t c =
@@ -124,7 +129,12 @@ index-kid-requires-then-carries g t c =
     let l = c.in-Layer.layer in
     let below : c.loop-child.child < (rule l.mapping).kids = omega (arith, c.kids-child-end.ensures)
     in
-    omega (arith, child_there rule c.args.self.now l c.in-Layer.is c.loop-child.child c.requires.valid below, l.kids.ok.0)
+    omega (
+      arith,
+      child_there rule c.args.self.now l c.in-Layer.is c.loop-child.child
+          c.requires.valid below,
+      l.kids.ok.0,
+    )
 
 pub keys_where-requires : goal.keys_where-requires
 keys_where-requires g t c κs within =
@@ -163,7 +173,8 @@ keys_where-requires g t c κs within =
       ),
     )
 
-pub returns-in_err-keys_where-in-Layer-clause-reads : goal.returns-in_err-keys_where-in-Layer-clause-reads
+pub returns-in_err-keys_where-in-Layer-clause-reads :
+    goal.returns-in_err-keys_where-in-Layer-clause-reads
 returns-in_err-keys_where-in-Layer-clause-reads g t c =
     let rule = g.M.Mapping.rule in
     let l = c.in-Layer.layer in

@@ -12,7 +12,11 @@ pub remove_others-requires : goal.remove_others-requires
 remove_others-requires g c =
     let t = tree_of c.args.self.now in
     let k = length (g.B.View.working c.args.leaves.now) in
-    record { small = subst (AreSmall k) (sym c.requires.gone.2) (all_small g.M.Mapping.rule t g.met.M.Mapping.laws c.requires.gone.0 k c.requires.valid c.requires.gone.1 c.requires.below) }
+    record {
+      small = subst (AreSmall k) (sym c.requires.gone.2)
+          (all_small g.M.Mapping.rule t g.met.M.Mapping.laws c.requires.gone.0 k c.requires.valid
+          c.requires.gone.1 c.requires.below);
+    }
 
 pub put_new-requires : goal.put_new-requires
 put_new-requires g c =
