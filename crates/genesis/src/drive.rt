@@ -1,5 +1,5 @@
 // A device in a file.
-ghost use Rattle.std.specs.Prelude.{◌≡◌, ◌≢◌, ◌<◌, ◌≤◌, length, IfOk, IsErrOf};
+ghost use Rattle.std.specs.Prelude.{◌≡◌, ◌<◌, IsErrOf};
 ghost use Rattle.genesis.specs.Errors.{open_stop, make_stop};
 ghost use Rattle.std.specs.IoError.{error_kind};
 

@@ -1,5 +1,5 @@
 // How a layer is made.
-ghost use Rattle.std.specs.Prelude.{◌≡◌, ◌≤◌, ◌∷◌, [], IfOk};
+ghost use Rattle.std.specs.Prelude.{◌≡◌, ◌≤◌, IfOk};
 ghost use Rattle.gx_actual.specs.Bodies.{field_width, field_widths, AreShortTexts};
 ghost use Rattle.gx_actual.specs.Forms.{body_field, actual_form};
 ghost use Rattle.gx_actual.specs.Rules.{form_of};

@@ -1,5 +1,5 @@
 // How a branch is written.
-ghost use Rattle.std.specs.Prelude.{◌≡◌, ◌+◌, ◌^◌, ◌<◌, ◌≤◌, ◌++◌, length};
+ghost use Rattle.std.specs.Prelude.{◌≡◌, ◌+◌, ◌<◌, ◌≤◌, length};
 ghost use Rattle.std.specs.List.{sum_by};
 ghost use Rattle.gx_bytes.specs.Parts.{overwritten};
 ghost use Rattle.gx_bytes.specs.Records.{SplitsRecord};

@@ -1,8 +1,6 @@
 // An entry is taken from a chain.
-ghost use Rattle.std.specs.Prelude.{◌≡◌, ◌≤◌, ◌≢◌, ℕ, List, length, IsTrue, OnOk, IsErrOf};
-ghost use Rattle.gx_values.specs.declared.bytes.TheConstants.{MAX_KEY_LEN};
+ghost use Rattle.std.specs.Prelude.{◌≡◌, ◌≤◌, ℕ, List, length, IsTrue, OnOk, IsErrOf};
 ghost use Rattle.gx_bytes.specs.declared.page.TheConstants.{PAGE_LEN};
-ghost use Rattle.gx_ports.specs.declared.pages.TheConstants.{MAX_OWNER};
 ghost use Rattle.gx_ports.specs.Files.{EndsFile};
 ghost use Rattle.gx_ports.specs.PageCalls.{KeepsPages};
 ghost use Rattle.gx_ports.specs.Sheets.{IsPast};

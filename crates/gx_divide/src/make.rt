@@ -1,5 +1,5 @@
 // How a layer is made.
-ghost use Rattle.std.specs.Prelude.{◌≡◌, ◌∷◌, ◌++◌, [], IfOk};
+ghost use Rattle.std.specs.Prelude.{◌≡◌, IfOk};
 ghost use Rattle.gx_divide.specs.Forms.{seq_field, piece_field, divide_form, IsDivide};
 ghost use Rattle.gx_divide.specs.Rules.{form_of, size_of};
 

@@ -1,5 +1,5 @@
 // Pieces of bytes as parts, and back.
-ghost use Rattle.std.specs.Prelude.{◌≡◌, ◌∷◌, [], ◌<◌, ◌≤◌, ◌+◌, ◌++◌, pos, length, drop, slice_index_or, IfOk};
+ghost use Rattle.std.specs.Prelude.{◌≡◌, ◌∷◌, [], ◌<◌, ◌≤◌, ◌+◌, ◌++◌, pos, length, slice_index_or, IfOk};
 ghost use Rattle.std.specs.Option.{option_map};
 ghost use Rattle.gx_values.specs.declared.values.Value.TheVariants as value;
 ghost use Rattle.gx_mapping.specs.declared.parts.Part.{Part as ThePart};

@@ -9,9 +9,9 @@ ghost use Rattle.gx_typing.specs.Dues.{file_form};
 ghost use Rattle.gx_scan.specs.Files.{IsStorable};
 ghost use Rattle.gx_edits.specs.Home.{IsHome};
 
-use gx_scan::{searched_node, whole_span};
+use gx_scan::searched_node;
 use gx_schema::FileDef;
-use gx_stack::Node;
+use gx_stack::{Node, whole_span};
 use gx_types::{AnyMapping, Passing};
 use gx_values::Value;
 

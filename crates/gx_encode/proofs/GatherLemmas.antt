@@ -10,7 +10,7 @@ use Rattle.gx_values.specs.declared.values.Value.{Value}
 use Rattle.gx_values.specs.declared.values.Value.TheVariants as value
 use Rattle.gx_values.specs.declared.records.Field.{Field}
 use Rattle.gx_values.specs.declared.records.Form.{Form}
-use Rattle.gx_values.specs.Values.{Fits, AreFit, no_field, no_value}
+use Rattle.gx_values.specs.Values.{Fits, AreFit, no_field, no_value, coded_kind}
 use Rattle.gx_values.specs.Written.{IsRead}
 use Rattle.gx_mapping.specs.declared.parts.Part.{Part}
 use Rattle.gx_mapping.specs.Rule.{AreOfKey, IsGathered}
@@ -18,7 +18,7 @@ use Rattle.gx_mapping.proofs.RuleLemmas.{whole_key}
 use Rattle.gx_mapping.proofs.FieldLemmas.{fit_length}
 use Rattle.gx_encode.specs.Runs.{runs_of, joined, AreShort, IsUnrle}
 use Rattle.gx_encode.specs.RunLaws.{runs_joined}
-use Rattle.gx_encode.specs.Codes.{code_of, IsCodeKind, coded_kind}
+use Rattle.gx_encode.specs.Codes.{code_of, IsCodeKind}
 use Rattle.gx_encode.specs.Forms.{changed, coded_field, IsEncode}
 use Rattle.gx_encode.specs.Rules.{coded, encode_rule, only_part, bytes_in}
 

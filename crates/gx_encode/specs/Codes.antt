@@ -1,5 +1,5 @@
 -- The code of a value, and which fields may have one.
-use Rattle.std.specs.Prelude.{ℕ, ◌*◌, ◌≤◌, List, [], length}
+use Rattle.std.specs.Prelude.{ℕ, ◌≤◌, List, [], length}
 use Rattle.std.specs.Coded.{Unit-prop, le_prop}
 use Rattle.gx_values.specs.declared.values.Code.{Code}
 use Rattle.gx_values.specs.declared.values.Code.TheVariants as code
@@ -44,10 +44,3 @@ IsCodeKind-prop code.Pack (kind.Bytes most) = Prim.hlevel
 IsCodeKind-prop code.Rle kind.Int = Prim.hlevel
 IsCodeKind-prop code.Rle (kind.Text most) = le_prop
 IsCodeKind-prop code.Rle (kind.Bytes most) = Prim.hlevel
-
--- codes as bytes: at most 8 of an int, at most two for each byte of a text
-abbrev pub coded_kind : Code → Kind → Kind
-coded_kind code.Pack k = kind.Bytes 8
-coded_kind code.Rle kind.Int = kind.Int
-coded_kind code.Rle (kind.Text most) = kind.Bytes (2 * most)
-coded_kind code.Rle (kind.Bytes most) = kind.Bytes most

@@ -3,11 +3,10 @@ use Rattle.std.specs.Prelude.{ℕ, zero, suc, ◌<◌, List, [], ◌∷◌, leng
 use Rattle.std.specs.Coded.{le_prop}
 use Rattle.gx_values.specs.declared.values.Code.{Code}
 use Rattle.gx_values.specs.declared.values.Kind.TheVariants as kind
-use Rattle.gx_values.specs.declared.values.Value.TheVariants as value
 use Rattle.gx_values.specs.declared.records.Field.{Field}
 use Rattle.gx_values.specs.declared.records.Form.{Form}
-use Rattle.gx_values.specs.Values.{no_field}
-use Rattle.gx_encode.specs.Codes.{IsCodeKind, IsCodeKind-prop, coded_kind}
+use Rattle.gx_values.specs.Values.{no_field, coded_kind}
+use Rattle.gx_encode.specs.Codes.{IsCodeKind, IsCodeKind-prop}
 
 -- with another one in the place of the one with the number
 abbrev pub changed : {A : Type 0} → ℕ → (A → A) → List A → List A

@@ -12,15 +12,15 @@ use Rattle.gx_values.specs.declared.values.Value.TheVariants as value
 use Rattle.gx_values.specs.declared.records.Field.{Field}
 use Rattle.gx_values.specs.declared.records.Form.{Form}
 use Rattle.gx_values.specs.declared.records.Rec.{Rec}
-use Rattle.gx_values.specs.Values.{Fits, AreFit, no_field}
+use Rattle.gx_values.specs.Values.{Fits, AreFit, no_field, coded_kind, kind_in}
 use Rattle.gx_mapping.specs.declared.parts.Part.{Part}
-use Rattle.gx_mapping.specs.Rule.{IsOf, value_in, kind_in, is_field, first_in}
+use Rattle.gx_mapping.specs.Rule.{IsOf, value_in, is_field, first_in}
 use Rattle.gx_mapping.specs.Laws.{MappingLaws, IsCarried, IsCarrier}
 use Rattle.gx_mapping.proofs.RuleLemmas.{the_one, sorted_one}
 use Rattle.gx_mapping.proofs.FieldLemmas.{has_value}
 use Rattle.gx_encode.specs.PackLaws.{same_pack, short_pack}
 use Rattle.gx_encode.specs.RunLaws.{same_rle, short_rle}
-use Rattle.gx_encode.specs.Codes.{code_of, IsCodable, IsCodeKind, coded_kind}
+use Rattle.gx_encode.specs.Codes.{code_of, IsCodable, IsCodeKind}
 use Rattle.gx_encode.specs.Forms.{changed, coded_field, encode_form, IsEncode}
 use Rattle.gx_encode.specs.Rules.{coded, encode_part, encode_rule, bytes_in}
 

@@ -1,7 +1,7 @@
 // How a layer is made.
 ghost use Rattle.std.specs.Prelude.{◌≡◌, ◌<◌, length, slice_index_or, IfOk};
-ghost use Rattle.gx_encode.specs.Codes.{coded_kind, IsCodeKind};
-ghost use Rattle.gx_values.specs.Values.{no_field};
+ghost use Rattle.gx_encode.specs.Codes.{IsCodeKind};
+ghost use Rattle.gx_values.specs.Values.{no_field, coded_kind};
 ghost use Rattle.gx_encode.specs.Forms.{changed, coded_field, encode_form, IsEncode};
 ghost use Rattle.gx_encode.specs.Rules.{form_of, field_of, used_code_of};
 

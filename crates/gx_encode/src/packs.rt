@@ -1,5 +1,5 @@
 // Ints as their shortest two's complement bytes.
-ghost use Rattle.std.specs.Prelude.{◌≡◌, ◌≤◌, ℕ, length, true, IfOk};
+ghost use Rattle.std.specs.Prelude.{◌≡◌, ◌≤◌, length, true, IfOk};
 ghost use Rattle.gx_encode.specs.Packs.{sign_of, extended, shortest, pack, IsPack, IsUnpacked};
 ghost use Rattle.gx_encode.specs.PackLaws.{IsShortest};
 

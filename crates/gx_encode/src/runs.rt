@@ -1,7 +1,6 @@
 // Texts as their runs.
 ghost use Rattle.std.specs.Prelude.{◌≡◌, ◌≤◌, ◌<◌, ◌++◌, length, drop, IfOk};
 ghost use Rattle.std.proofs.Math.ListN.{replicate};
-ghost use Rattle.gx_values.specs.Values.{is_printable};
 ghost use Rattle.gx_encode.specs.Runs.{rle, IsCodeOfRuns, IsUnrle, is_next, repeats};
 
 use gx_values::{NoMemory, Octets};

@@ -12,8 +12,8 @@ ghost use Rattle.gx_commands.specs.Commands.{IsCondOf};
 ghost use Rattle.gx_finds.specs.Spans.{is_on, meets_on, HoldsAllMet, is_from, is_up_to};
 
 use gx_commands::Cond;
-use gx_scan::whole_span;
 use gx_schema::FileDef;
+use gx_stack::whole_span;
 use gx_values::{KeyBuf, Kind, Op, Span, span};
 
 /// The span of the values of a field that meet all conditions on it, but for those by `<>`. `None`:

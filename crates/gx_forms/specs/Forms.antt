@@ -1,6 +1,7 @@
 -- The forms that heads give to their children, which are counted from 0.
 use Rattle.std.specs.Prelude.{ℕ, zero, suc, ◌*◌, max, not, List, [], ◌∷◌, ◌++◌, map, filter, Option, Some, nat_eq, if◌then◌else◌, slice_index_or, codes}
 use Rattle.std.specs.Cmp.Lexicographic.{pointwise}
+use Rattle.gx_values.specs.Values.{coded_kind, kind_in}
 use Rattle.gx_values.specs.Keys.{width_of}
 use Rattle.gx_values.specs.declared.values.Code.{Code}
 use Rattle.gx_values.specs.declared.values.Code.TheVariants as code
@@ -14,13 +15,7 @@ use Rattle.gx_equation.specs.declared.heads.Linkset.{Linkset}
 use Rattle.gx_equation.specs.declared.heads.Linkset.TheVariants as linksets
 use Rattle.gx_schema.specs.declared.schema.TheConstants.{MOST_MEMBERS}
 pub use Rattle.gx_actual.specs.Forms.{actual_form}
-use Rattle.gx_forms.specs.Fields.{field, kind_in, has_name}
-
--- an int becomes bytes 8, a text of at most n bytes becomes bytes 2 n
-abbrev pub coded_kind : Code → Kind → Kind
-coded_kind code.Pack kind = kinds.Bytes 8
-coded_kind code.Rle (kinds.Text most) = kinds.Bytes (2 * most)
-coded_kind code.Rle other = other
+use Rattle.gx_forms.specs.Fields.{field, has_name}
 
 abbrev pub coded_field : List ℕ → Code → Field → Field
 coded_field name code f =

@@ -1,10 +1,10 @@
 // Fields of a form by their names, and how wide they are.
-ghost use Rattle.std.specs.Prelude.{◌≡◌, ◌≤◌, ◌+◌, min, ◌++◌, OnOk, IfOk, Option};
+ghost use Rattle.std.specs.Prelude.{◌≡◌, min, Option};
+ghost use Rattle.gx_values.specs.Values.{first_kind, kind_in};
 ghost use Rattle.gx_values.specs.Keys.{width_of, widths};
-ghost use Rattle.gx_forms.specs.Fields.{body_width, body_widths, kind_in, has_name, first_kind};
+ghost use Rattle.gx_forms.specs.Fields.{body_width, body_widths, has_name};
 
-use gx_values::{Field, Fields, Form, Kind, Name};
-use std::alloc::{AllocError, Global};
+use gx_values::{Field, Kind, Name};
 
 /// How many bytes the key of such a value has at most, up to 65,535.
 pub fn key_width(kind: Kind) -> u16

@@ -1,11 +1,10 @@
 // The forms that heads give to their children.
-ghost use Rattle.std.specs.Prelude.{◌≡◌, ◌<◌, ◌≤◌, ◌∷◌, ◌++◌, [], min, not, length, map, filter, take, codes, IfOk};
-ghost use Rattle.gx_values.specs.declared.records.Field.{Field as FieldOf};
-ghost use Rattle.gx_values.specs.declared.values.Kind.TheVariants as kinds;
+ghost use Rattle.std.specs.Prelude.{◌≡◌, ◌<◌, ◌≤◌, ◌∷◌, [], not, length, filter, IfOk};
+ghost use Rattle.gx_values.specs.Values.{coded_kind};
 ghost use Rattle.gx_equation.specs.Seen.{tree_of};
 ghost use Rattle.gx_equation.specs.Trees.{head_of, arity, One_kid, Two_kids};
 ghost use Rattle.gx_forms.specs.Fields.{field, has_name};
-ghost use Rattle.gx_forms.specs.Forms.{coded_kind, coded_field, actual_form, encode_form, named_form, others_form, one_field, divide_form, index_form, index_kind, kid_form};
+ghost use Rattle.gx_forms.specs.Forms.{coded_field, actual_form, encode_form, named_form, others_form, one_field, divide_form, index_form, index_kind, kid_form};
 ghost use Rattle.gx_forms.specs.Narrow.{narrow, narrow_kind, narrow_field};
 
 use crate::fields::{body_widths, has_name, kind_in};

@@ -1,9 +1,8 @@
 // The forms that the heads of links give to their children, by the kinds of the keys of the owner
 // file and of the member file.
-ghost use Rattle.std.specs.Prelude.{◌≡◌, ◌≤◌, ◌*◌, ◌∷◌, [], max, min, codes, IfOk};
+ghost use Rattle.std.specs.Prelude.{◌≡◌, ◌≤◌, ◌*◌, max, IfOk};
 ghost use Rattle.gx_values.specs.Keys.{width_of};
 ghost use Rattle.gx_schema.specs.declared.schema.TheConstants.{MOST_MEMBERS};
-ghost use Rattle.gx_forms.specs.Fields.{field};
 ghost use Rattle.gx_forms.specs.Forms.{array_form, ring_form, inverted_form};
 ghost use Rattle.gx_forms.specs.Narrow.{narrow};
 

@@ -1,5 +1,5 @@
 -- Keys compared one value after the other, and their fronts.
-use Rattle.std.proofs.Common.{◌≡◌, ◌<◌, ◌≤◌, ◌+◌, ℕ, List, [], ◌∷◌, ◌⊎◌, inl, inr, sym, ap, ◌∙◌, length, get_or, take, drop, arith}
+use Rattle.std.proofs.Common.{◌≡◌, ◌<◌, ◌≤◌, ◌+◌, ℕ, List, [], ◌∷◌, ◌⊎◌, inl, inr, sym, ◌∙◌, length, get_or, drop, arith}
 use Rattle.std.specs.Prelude.{min}
 use Rattle.std.proofs.lemmas.Bool.{cases_lt}
 use Rattle.std.proofs.lemmas.List.{drop_more}
@@ -8,8 +8,6 @@ use Rattle.std.specs.declared.cmp.Ordering.TheVariants.{Less, Equal, Greater}
 use Rattle.std.specs.Cmp.{nat_cmp_is}
 use Rattle.gx_values.specs.declared.values.Value.{Value}
 use Rattle.gx_values.specs.Values.{value_cmp, values_cmp}
-use Rattle.gx_mapping.specs.declared.parts.Part.{Part}
-use Rattle.gx_gather.specs.Gather.{first_front}
 
 -- where one is at its end
 pub keys_end : (i m n : ℕ) (a b : List Value) → length a + i ≡ m → length b + i ≡ n
@@ -29,12 +27,6 @@ keys_next a b i x y read read' l l' =
     (λ j. values_cmp (drop_more a i x l j) (drop_more b i y l' j))
     ∙ (λ j. ordering_then (value_cmp (sym read j) (sym read' j))
     (values_cmp (drop (i + 1) a) (drop (i + 1) b)))
-
--- the front of the first part's key
-pub first_front_is : (width : ℕ) (group : List Part) (p : Part) → 0 < length group
-    → p ≡ get_or group 0 p → first_front width group ≡ take width p.rec.key
-first_front_is width [] p some read = absurd (omega arith)
-first_front_is width (g ∷ gs) p some read = ap (λ (x : Part). take width x.rec.key) (sym read)
 
 -- at the end of the shorter one
 pub shorter : (i m n : ℕ) → min m n ≤ i → (m ≤ i) ⊎ (n ≤ i)

@@ -2,7 +2,6 @@
 ghost use Rattle.std.specs.Prelude.{◌≡◌, ◌<◌, ◌++◌, ◌∷◌, [], ℕ, true, List, Some, None, length, map, take, OnOk, IsErrOf, IfOk, IfSome, IfNone};
 ghost use Rattle.std.specs.List.Sorted.{IsSortedBy, IsStrictlySortedBy};
 ghost use Rattle.std.specs.Ordering.{is_lt};
-ghost use Rattle.gx_values.specs.Values.{AreSized};
 ghost use Rattle.gx_values.specs.declared.records.Rec.{Rec as Record};
 ghost use Rattle.gx_ports.specs.LeafMaps.{Extends};
 ghost use Rattle.gx_mapping.specs.Rule.{In, AreOfKey, IsGathered, part_cmp};
@@ -246,7 +245,6 @@ fn gather_several<M: Mapping>(
 
 // The key that a part's key begins with.
 fn copy_front(alloc: Global, width: usize, key: &[Value]) -> Result<Values, NoMemory>
-    requires { AreSized (take width key.now) }
     ensures { IfOk result (λ copy. copy ≡ take width key.now) }
 {
     let key = front(width, key);

@@ -4,7 +4,6 @@ use Rattle.std.specs.Coded.{le_prop}
 use Rattle.std.proofs.Common.{refl}
 use Rattle.gx_values.specs.declared.values.Kind.{Kind}
 use Rattle.gx_values.specs.declared.values.Kind.TheVariants as kind
-use Rattle.gx_values.specs.declared.values.Value.TheVariants as value
 use Rattle.gx_values.specs.declared.records.Form.{Form}
 use Rattle.gx_values.specs.Keys.{IsKeyKind}
 use Rattle.gx_values.specs.Values.{no_field}

@@ -1,6 +1,5 @@
 -- Index pages: byte 0 is 0x58, byte 1 is 0, the number of buckets, 1 to 64, in two bytes, for each
--- bucket its first page in four, and then
--- for each bucket but the first a separator.
+-- bucket its first page in four, and then for each bucket but the first a separator.
 use Rattle.std.specs.Prelude.{◌≡◌, ℕ, ◌+◌, ◌-◌, ◌*◌, ◌^◌, ◌<◌, ◌≤◌, Bool, true, false, List, ◌++◌, length, take, drop, slice_index}
 use Rattle.std.specs.Borrow.{Bor}
 use Rattle.std.specs.Int.{w16, w32, to_be_bytes, from_be_bytes}

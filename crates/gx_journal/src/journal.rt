@@ -1,5 +1,5 @@
 // Pages over a device, with the working ones in a few frames.
-ghost use Rattle.std.specs.Prelude.{◌≡◌, ◌↔◌, ◌<◌, ◌≤◌, ◌+◌, ◌*◌, ◌/◌, ◌-◌, ◌≢◌, ◌∷◌, [], false, length, replicate, drop, slice_set, slice_index_or, IsTrue, IfOk, IfErr, OnOk, OnErr};
+ghost use Rattle.std.specs.Prelude.{◌≡◌, ◌↔◌, ◌<◌, ◌≤◌, ◌+◌, ◌*◌, ◌-◌, ◌≢◌, ◌∷◌, [], false, length, replicate, drop, slice_set, slice_index_or, IsTrue, IfOk, IfErr, OnOk, OnErr};
 ghost use Rattle.gx_device.specs.Content.{Content, Silent, Hears, Listens, Says, Speaks, block_of};
 ghost use Rattle.gx_device.specs.Crash.{LeavesOnly};
 ghost use Rattle.gx_device.specs.Quiet.{IsOldOrNew};

@@ -1,5 +1,5 @@
 // The bitmap: which pages count in their slots.
-ghost use Rattle.std.specs.Prelude.{◌≡◌, ◌≢◌, ◌<◌, ◌≤◌, ◌+◌, ℕ, IsTrue, true, false, length, get_or, OnOk};
+ghost use Rattle.std.specs.Prelude.{◌≡◌, ◌≢◌, ◌<◌, ◌≤◌, ℕ, IsTrue, true, false, length, OnOk};
 ghost use Rattle.gx_device.specs.Content.{block_of};
 ghost use Rattle.gx_device.specs.Crash.{Through, Outside};
 ghost use Rattle.gx_device.specs.Faults.{IsCounted};

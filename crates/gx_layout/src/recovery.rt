@@ -1,9 +1,9 @@
 // What a crash left is settled.
-ghost use Rattle.std.specs.Prelude.{◌≡◌, ◌↔◌, ◌<◌, ◌≤◌, ◌+◌, ◌*◌, ℕ, true, false, Bool, List, length, IsTrue, IfOk, OnOk, OnErr};
+ghost use Rattle.std.specs.Prelude.{◌≡◌, ◌↔◌, ◌<◌, ◌≤◌, ◌+◌, ◌*◌, true, false, length, IsTrue, IfOk, OnOk, OnErr};
 ghost use Rattle.gx_device.specs.Content.{OnlyTime, NonePending, Silent, block_of};
 ghost use Rattle.gx_device.specs.Faults.{IsCounted};
 ghost use Rattle.gx_device.specs.Crash.{Through, Outside, LeavesOnly};
-ghost use Rattle.gx_layout.specs.Layout.{View, is_open, has_bit, IsIn, flags, StandsFor, ReadsAs, AtRest, IsReady, IsOpened, CopiedBelow, OnlyBlocks};
+ghost use Rattle.gx_layout.specs.Layout.{View, is_open, has_bit, IsIn, flags, StandsFor, ReadsAs, AtRest, IsReady, CopiedBelow, OnlyBlocks};
 ghost use Rattle.gx_layout.specs.Head.{HasMagic};
 ghost use Rattle.gx_layout.specs.Recovered.{Recovers, IsOfRecovery};
 ghost use Rattle.gx_device.specs.declared.device.TheConstants.{BLOCK_LEN};

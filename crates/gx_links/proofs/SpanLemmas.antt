@@ -6,11 +6,10 @@ use Rattle.gx_values.specs.declared.values.Op.TheVariants as op
 use Rattle.gx_values.specs.declared.records.Field.{Field}
 use Rattle.gx_values.specs.declared.records.Form.{Form}
 use Rattle.gx_values.specs.declared.keys.Span.{Span}
-use Rattle.gx_values.specs.Values.{Fits, AreFit}
+use Rattle.gx_values.specs.Values.{Fits, AreFit, first_kind}
 use Rattle.gx_values.specs.Keys.{bytes_of, key_of, is_inside}
 use Rattle.gx_values.specs.Spans.{HoldsThoseMet, IsValueSpan}
 use Rattle.gx_stack.specs.Selected.{IsKeySpan}
-use Rattle.gx_links.specs.Kinds.{first_kind}
 use Rattle.gx_links.specs.Spans.{begins_with}
 
 -- no key is a proper prefix of an end, where no first value's bytes are

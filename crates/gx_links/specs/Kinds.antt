@@ -10,11 +10,6 @@ use Rattle.gx_values.specs.Values.{Fits}
 abbrev pub kinds_of : List Field → List Kind
 kinds_of = map (λ field. field.kind)
 
--- the kind of the first field
-abbrev pub first_kind : List Field → Kind
-first_kind [] = kind.Int
-first_kind (field ∷ fields) = field.kind
-
 -- one value for each kind, and each fits
 abbrev pub AreOfKinds : List Kind → List Value → Type 0
 AreOfKinds [] [] = Unit {0}

@@ -8,14 +8,13 @@ use Rattle.gx_values.specs.declared.values.Kind.{Kind}
 use Rattle.gx_values.specs.declared.values.Value.{Value}
 use Rattle.gx_values.specs.declared.records.Form.{Form}
 use Rattle.gx_values.specs.declared.records.Rec.{Rec}
-use Rattle.gx_values.specs.Values.{value_cmp, Fits}
+use Rattle.gx_values.specs.Values.{value_cmp, Fits, first_kind}
 use Rattle.gx_ports.specs.LeafMaps.{LeafMap}
 use Rattle.gx_mapping.specs.declared.parts.Part.{Part}
 use Rattle.gx_mapping.specs.Rule.{Rule, In, IsOf, part_cmp}
 use Rattle.gx_stack.specs.declared.entries.LeafEntry.{LeafEntry}
 use Rattle.gx_stack.specs.Tree.{Tree, Kids, no_kids, kid, kids_leaves, kid_entries, tree_form}
 use Rattle.gx_stack.specs.Internal.{parts_for, AreInternal}
-use Rattle.gx_links.specs.Kinds.{first_kind}
 use Rattle.gx_links.specs.Links.{Link, members_of, owners_of, most_members, IsLink}
 use Rattle.gx_links.specs.Linksets.{LinkRule}
 

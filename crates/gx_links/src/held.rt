@@ -1,5 +1,5 @@
 // What two nodes hold.
-ghost use Rattle.std.specs.Prelude.{◌≡◌, ◌<◌, ℕ, length, IfOk};
+ghost use Rattle.std.specs.Prelude.{◌<◌, ℕ, length, IfOk};
 ghost use Rattle.gx_ports.specs.Calls.{ReadsMaps};
 ghost use Rattle.gx_mapping.specs.Rule.{In};
 ghost use Rattle.gx_stack.specs.Tree.{leaves_of, IsValid};

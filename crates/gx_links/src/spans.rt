@@ -1,11 +1,10 @@
 // The span of the keys that begin with one value.
 ghost use Rattle.std.specs.Prelude.{◌≡◌, ◌<◌, List, length};
 ghost use Rattle.gx_values.specs.declared.values.Value.{Value as FieldValue};
-ghost use Rattle.gx_values.specs.Values.{Fits, AreFit};
+ghost use Rattle.gx_values.specs.Values.{Fits, AreFit, first_kind};
 ghost use Rattle.gx_values.specs.Keys.{key_of, is_inside};
 ghost use Rattle.gx_values.specs.Spans.{IsSpanKind};
 ghost use Rattle.gx_stack.specs.Selected.{IsKeySpan};
-ghost use Rattle.gx_links.specs.Kinds.{first_kind};
 ghost use Rattle.gx_links.specs.Spans.{begins_with};
 
 use gx_values::{Form, Op, Span, Value, span};

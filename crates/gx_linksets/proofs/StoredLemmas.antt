@@ -2,6 +2,7 @@
 -- told by the schema.
 use Rattle.std.proofs.Common.{◌≡◌, ◌<◌, ◌≤◌, ℕ, zero, suc, List, [], ◌∷◌, length, get_or, refl, sym, ap, subst, ◌∙◌, arith}
 use Rattle.std.specs.Prelude.{◌*◌, ◌↔◌, true, false}
+use Rattle.gx_values.specs.Values.{first_kind}
 use Rattle.gx_values.specs.declared.values.Kind.{Kind}
 use Rattle.gx_values.specs.declared.values.Kind.TheVariants as kind
 use Rattle.gx_values.specs.declared.values.Value.{Value}
@@ -24,7 +25,7 @@ use Rattle.gx_types.specs.declared.built.LinkTree.TheVariants.{Array, Ring, Inve
 use Rattle.gx_types.specs.Any.{any_rule}
 use Rattle.gx_types.specs.Links.{linkset_of, link_kids, linkset_at, link_kids_at}
 use Rattle.gx_types.specs.Nodes.{AreLinkNodes}
-use Rattle.gx_links.specs.Kinds.{kinds_of, first_kind}
+use Rattle.gx_links.specs.Kinds.{kinds_of}
 use Rattle.gx_links.specs.Links.{Link}
 use Rattle.gx_links.specs.Linksets.{LinkRule}
 use Rattle.gx_links.specs.Rows.{IsHeldLink, link_rule, owner_entries}

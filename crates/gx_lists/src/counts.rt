@@ -11,7 +11,7 @@ ghost use Rattle.gx_lists.specs.Counts.{IsCount};
 use gx_gather::Recs;
 use gx_mapping::Mapping;
 use gx_ports::{Entries, Leaves, Stop};
-use gx_stack::{LeafNode, Node};
+use gx_stack::Node;
 use gx_values::Span;
 use std::alloc::Global;
 

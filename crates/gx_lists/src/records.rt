@@ -7,7 +7,7 @@ ghost use Rattle.gx_links.specs.Pairs.{rows_of};
 ghost use Rattle.gx_lists.specs.Inverted.{pair_rec, owned_rec, member_in, owner_in, inverted_rows};
 
 use gx_gather::Recs;
-use gx_links::{Owners, Pairs};
+use gx_links::Owners;
 use gx_mapping::{Part, Parts};
 use gx_values::{NoMemory, Rec, Value, Values};
 use std::alloc::{AllocError, Global};

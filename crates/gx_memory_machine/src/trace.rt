@@ -38,7 +38,7 @@ pub struct Trace {
 impl Model for Trace {
     ghost use Rattle.std.specs.Prelude.{◌-◌, min, vec_len, vec_capacity};
     ghost use Rattle.std.specs.Coded.{codes};
-    ghost use Rattle.gx_device.specs.Content.{Moment, coded_devices};
+    ghost use Rattle.gx_device.specs.Content.{coded_devices};
     ghost use Rattle.gx_memory_machine.specs.Names.{by_name};
     ghost use Rattle.gx_memory_machine.specs.Log.{first, earlier};
     ghost use Rattle.gx_memory_machine.specs.Trace.{Traced, shelf_of, IsTrace};

@@ -1,5 +1,5 @@
 // The numbers on a page of the table of owners.
-ghost use Rattle.std.specs.Prelude.{◌≡◌, ◌*◌, ◌%◌, ◌≤◌, ◌<◌, ℕ, Some, length, slice_get};
+ghost use Rattle.std.specs.Prelude.{◌≡◌, ◌*◌, ◌%◌, ◌<◌, ℕ, Some, length, slice_get};
 ghost use Rattle.std.specs.Int.{w16, to_be_bytes};
 ghost use Rattle.gx_bytes.specs.Parts.{overwritten};
 ghost use Rattle.gx_bytes.specs.declared.page.TheConstants.{PAGE_LEN};

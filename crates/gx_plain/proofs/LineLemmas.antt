@@ -4,7 +4,6 @@ use Rattle.std.specs.Prelude.{is_some, IfOk}
 use Rattle.std.proofs.lemmas.List.{append-nil, append_assoc, length-append}
 use Rattle.gx_schema.specs.declared.schema.Schema.{Schema}
 use Rattle.gx_commands.specs.declared.command.LineWhy.{LineWhy}
-use Rattle.gx_commands.specs.declared.command.LineWhy.TheVariants as why
 use Rattle.gx_commands.specs.Lines.{Lines, with_line, no_lines, script_lines, stopped as stopped_lines}
 use Rattle.gx_model.specs.States.{empty_state}
 use Rattle.gx_model.specs.Play.{end_at, end_text, start_at}

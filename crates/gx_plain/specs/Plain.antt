@@ -1,10 +1,7 @@
 -- What contracts say of the plain program.
 use Rattle.std.specs.Prelude.{◌≡◌, ℕ, ◌<◌, List, ◌++◌, length, Option, None, Some}
-use Rattle.std.specs.List.{AllByRecursion}
 use Rattle.std.specs.Option.{option_map}
-use Rattle.gx_values.specs.Values.{IsSized}
 use Rattle.gx_schema.specs.declared.schema.Schema.{Schema}
-use Rattle.gx_commands.specs.declared.command.Change.{Change}
 use Rattle.gx_commands.specs.declared.command.Command.{Command}
 use Rattle.gx_commands.specs.declared.command.Of.{Of}
 use Rattle.gx_commands.specs.Lines.{Lines, script_lines}
@@ -31,10 +28,6 @@ refusal_line schema s c = option_map refusal_text (refusal_of schema s c)
 abbrev pub IsOfLink : State → Option Of → Type 0
 IsOfLink s None = Unit {0}
 IsOfLink s (Some of) = of.link < length s.links
-
--- an int among the new values has 64 bits
-abbrev pub AreSizedChanges : List Change → Type 0
-AreSizedChanges = AllByRecursion (λ c. IsSized c.value)
 
 -- ---- lines
 

@@ -1,11 +1,10 @@
 // What a command changes.
 ghost use Rattle.std.specs.Prelude.{◌≡◌, ◌-◌, ◌<◌, length, slice_set, OnOk, IfOk};
-ghost use Rattle.gx_values.specs.Values.{AreSized, IsSized};
 ghost use Rattle.gx_schema.specs.WellFormed.{IsWellFormed};
 ghost use Rattle.gx_commands.specs.Commands.{IsOfSchema};
 ghost use Rattle.gx_commands.specs.declared.command.Command.TheVariants as command;
 ghost use Rattle.gx_model.specs.Commands.{with_changes, next_state, state_after};
-ghost use Rattle.gx_plain.specs.Plain.{HasParts, AreSizedChanges};
+ghost use Rattle.gx_plain.specs.Plain.{HasParts};
 
 use crate::refusals::refusal;
 use gx_commands::{Change, Command};
@@ -67,8 +66,7 @@ fn change(
 }
 
 fn insert(alloc: Global, state: &mut PlainState, file: u16, values: &Values) -> Result<(), NoMemory>
-    requires file { file < length state.old.files }
-    requires sized { AreSized values.now }
+    requires { file < length state.old.files }
     ensures { OnOk result (state.new ≡ state_after state.old (command.Insert file values.now)) }
 {
     let mut values = values.copy(alloc)?;
@@ -86,9 +84,7 @@ fn update(
     key: &Value,
     changes: &[Change],
 ) -> Result<(), NoMemory>
-    requires file { file < length state.old.files }
-    requires key { IsSized key.now }
-    requires changes { AreSizedChanges changes.now }
+    requires { file < length state.old.files }
     ensures { OnOk result
         (state.new ≡ state_after state.old (command.Update file key.now changes.now)) }
 {
@@ -105,10 +101,7 @@ fn update(
 
 // The values after the changes.
 fn changed_values(alloc: Global, values: Values, changes: &[Change]) -> Result<Values, NoMemory>
-    requires values { AreSized values }
-    requires changes { AreSizedChanges changes.now }
-    ensures changed { IfOk result (λ after. after ≡ with_changes values changes.now) }
-    ensures sized { IfOk result AreSized }
+    ensures { IfOk result (λ after. after ≡ with_changes values changes.now) }
 {
     let mut values = values.0;
     for change in changes {

@@ -1,6 +1,5 @@
 // What a command that isn't refused answers.
 ghost use Rattle.std.specs.Prelude.{◌≡◌, ◌<◌, length, IfOk};
-ghost use Rattle.gx_values.specs.Values.{IsSized};
 ghost use Rattle.gx_schema.specs.Lookups.{file_at};
 ghost use Rattle.gx_schema.specs.WellFormed.{IsWellFormed};
 ghost use Rattle.gx_commands.specs.Commands.{IsOfSchema};
@@ -100,8 +99,8 @@ fn members_text(
     requires well_formed { IsWellFormed schema.now }
     requires parts { HasParts schema.now state.now }
     requires link { link < length schema.now.links }
-    ensures { IsSized owner.now →
-        IfOk result (IsReply schema.now state.now (command.Members link owner.now order)) }
+    ensures { IfOk result
+        (IsReply schema.now state.now (command.Members link owner.now order)) }
 {
     let file = member_number(schema, link);
     let of = Some(Of {

@@ -1,10 +1,10 @@
 // Files: records in the order of their keys.
-ghost use Rattle.std.specs.Prelude.{◌≡◌, ◌≤◌, filter, length, not, IfOk, IfSome, OnOk, OnErr};
+ghost use Rattle.std.specs.Prelude.{◌≡◌, ◌≤◌, filter, length, not, IfOk, OnOk, OnErr};
 ghost use Rattle.std.specs.List.{prefix_len};
 ghost use Rattle.std.specs.Option.{option_map};
 ghost use Rattle.std.specs.Ordering.{eq_by_cmp, is_gt};
 ghost use Rattle.std.specs.FinMap as fin;
-ghost use Rattle.gx_values.specs.Values.{value_cmp, AreSized};
+ghost use Rattle.gx_values.specs.Values.{value_cmp};
 
 use gx_rows::Row;
 use gx_values::{NoMemory, Value, Values, compare};
@@ -53,8 +53,7 @@ impl PlainFile {
 
     /// The values of the record with this key, where there is one.
     pub fn get(&self, key: &Value) -> Option<&Values>
-        ensures value { option_map (λ values. values.now) result ≡ fin.get self.now key.now }
-        ensures sized { IfSome result (λ values. AreSized values.now) }
+        ensures { option_map (λ values. values.now) result ≡ fin.get self.now key.now }
     {
         find_values(&self.rows, key)
     }
@@ -83,8 +82,7 @@ impl PlainFile {
 }
 
 fn find_values<'a>(rows: &'a [Row], key: &Value) -> Option<&'a Values>
-    ensures value { option_map (λ values. values.now) result ≡ fin.find value_cmp key.now rows.now }
-    ensures sized { IfSome result (λ values. AreSized values.now) }
+    ensures { option_map (λ values. values.now) result ≡ fin.find value_cmp key.now rows.now }
 {
     let mut rest = rows;
     while let [first, after @ ..] = rest {

@@ -1,10 +1,10 @@
 // Pairs of a member and its owner, and links of them in the order of the members.
-ghost use Rattle.std.specs.Prelude.{◌≡◌, ◌≤◌, filter, length, not, IfOk, IfSome, OnOk, OnErr};
+ghost use Rattle.std.specs.Prelude.{◌≡◌, ◌≤◌, filter, length, not, IfOk, OnOk, OnErr};
 ghost use Rattle.std.specs.List.{prefix_len, list_any};
 ghost use Rattle.std.specs.Option.{option_map};
 ghost use Rattle.std.specs.Ordering.{eq_by_cmp, is_gt};
 ghost use Rattle.std.specs.FinMap as fin;
-ghost use Rattle.gx_values.specs.Values.{value_cmp, IsSized};
+ghost use Rattle.gx_values.specs.Values.{value_cmp};
 ghost use Rattle.gx_model.specs.States.{is_same, pairs_of};
 
 use gx_values::{NoMemory, Value, compare};
@@ -20,13 +20,10 @@ pub struct Pair {
 
 impl Model for Pair {
     ghost use Rattle.gx_values.specs.declared.values.Value.{Value as FieldValue};
-    ghost use Rattle.gx_values.specs.Values.{IsSized};
 
     ghost Value = { FieldValue × FieldValue };
 
     ghost view = { λ p. (p.member, p.owner) };
-
-    ghost invariant = { λ p. IsSized p.member × IsSized p.owner };
 }
 
 impl Pair {
@@ -83,8 +80,7 @@ impl PlainLink {
 
     /// The owner of a member, where it has one.
     pub fn get(&self, member: &Value) -> Option<&Value>
-        ensures value { option_map (λ owner. owner.now) result ≡ fin.get self.now member.now }
-        ensures sized { IfSome result (λ owner. IsSized owner.now) }
+        ensures { option_map (λ owner. owner.now) result ≡ fin.get self.now member.now }
     {
         find_owner(&self.pairs, member)
     }
@@ -137,9 +133,8 @@ pub fn is_same(a: &Value, b: &Value) -> bool
 }
 
 fn find_owner<'a>(pairs: &'a [Pair], member: &Value) -> Option<&'a Value>
-    ensures value { option_map (λ owner. owner.now) result
+    ensures { option_map (λ owner. owner.now) result
         ≡ fin.find value_cmp member.now pairs.now }
-    ensures sized { IfSome result (λ owner. IsSized owner.now) }
 {
     let mut rest = pairs;
     while let [first, after @ ..] = rest {

@@ -1,6 +1,5 @@
 // The printed lines of plans.
 ghost use Rattle.std.specs.Prelude.{◌≡◌, ◌<◌, ◌++◌, length, IfOk, OnOk, codes};
-ghost use Rattle.std.specs.Fmt.{decimal};
 ghost use Rattle.std.specs.List.{AllByRecursion, slice_get};
 ghost use Rattle.gx_schema.specs.Lookups.{file_at};
 ghost use Rattle.gx_commands.specs.Commands.{IsFindOf, IsCondOf};

@@ -7,7 +7,6 @@ use Rattle.gx_values.specs.declared.values.Value.{Value}
 use Rattle.gx_values.specs.Values.{Fits}
 use Rattle.gx_values.specs.Keys.{width_of}
 use Rattle.gx_values.specs.Spans.{IsSpanKind}
-use Rattle.gx_values.proofs.CopyLemmas.{fit_sized}
 use Rattle.gx_values.proofs.KeyLemmas.{fit_bytes}
 use Rattle.gx_mapping.specs.Rule.{Rule, In, IsOf}
 use Rattle.gx_gather.proofs.Lists.{take_in, in_at, in_right}
@@ -34,7 +33,7 @@ width_small (kind.Bytes most) small = absurd small
 
 pub key_value_of : (k : Kind) (v : Value) → IsSpanKind k → Fits k v → IsKeyValue v
 key_value_of k v small fits =
-    (fit_sized k v fits, omega (arith, fit_bytes k v fits, width_small k small))
+    omega (arith, fit_bytes k v fits, width_small k small)
 
 pub key_value_if : (k : Kind) (v : Option Value) → IsSpanKind k → IfThere v (Fits k)
     → IfThere v IsKeyValue

@@ -5,7 +5,7 @@ use Rattle.gx_values.specs.declared.values.Kind.{Kind}
 use Rattle.gx_values.specs.declared.values.Value.{Value}
 use Rattle.gx_values.specs.declared.records.Rec.{Rec}
 use Rattle.gx_values.specs.declared.keys.Span.{Span}
-use Rattle.gx_values.specs.Values.{values_cmp, Fits}
+use Rattle.gx_values.specs.Values.{values_cmp, Fits, first_kind}
 use Rattle.gx_values.specs.Keys.{key_of, is_inside}
 use Rattle.gx_values.proofs.OrderLemmas.{same_value, value_itself}
 use Rattle.gx_ports.specs.LeafMaps.{LeafMap}
@@ -16,7 +16,7 @@ use Rattle.gx_gather.proofs.Orders.{not_before_itself, ascends}
 use Rattle.gx_stack.specs.Tree.{Tree, tree_form, entry_total}
 use Rattle.gx_stack.specs.Internal.{IfThere, entries_if}
 use Rattle.gx_stack.specs.Selected.{IsFound, IsSelection}
-use Rattle.gx_links.specs.Kinds.{kinds_of, first_kind, AreOfKinds}
+use Rattle.gx_links.specs.Kinds.{kinds_of, AreOfKinds}
 use Rattle.gx_links.specs.Links.{is_same}
 use Rattle.gx_links.proofs.KindLemmas.{fit_kinds}
 use Rattle.gx_ring.specs.Reads.{IsFoundAt, IsRecordAt}

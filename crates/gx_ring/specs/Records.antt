@@ -3,7 +3,7 @@ use Rattle.std.specs.Prelude.{◌≡◌, ◌≤◌, length, Option, Some, None}
 use Rattle.gx_values.specs.declared.values.Kind.{Kind}
 use Rattle.gx_values.specs.declared.values.Value.{Value}
 use Rattle.gx_values.specs.declared.records.Rec.{Rec}
-use Rattle.gx_values.specs.Values.{Fits, IsSized}
+use Rattle.gx_values.specs.Values.{Fits}
 use Rattle.gx_values.specs.Keys.{bytes_of}
 use Rattle.gx_values.specs.declared.bytes.TheConstants.{MAX_KEY_LEN}
 use Rattle.gx_stack.specs.Internal.{IfThere}
@@ -11,9 +11,9 @@ use Rattle.gx_ring.specs.declared.records.Behind.{Behind}
 use Rattle.gx_ring.specs.declared.records.Behind.TheVariants as found
 use Rattle.gx_ring.specs.Ring.{chain_rec}
 
--- a value whose int has 64 bits, and whose bytes a key has room for
+-- a value whose bytes a key has room for
 abbrev pub IsKeyValue : Value → Type 0
-IsKeyValue v = IsSized v × (length (bytes_of v) ≤ MAX_KEY_LEN)
+IsKeyValue v = length (bytes_of v) ≤ MAX_KEY_LEN
 
 -- what a record of a chain has behind its member
 abbrev pub behind_of : Option Value → Behind

@@ -1,13 +1,13 @@
 // Single records of nodes.
 ghost use Rattle.std.specs.Prelude.{◌≡◌, ◌<◌, ◌∷◌, [], ℕ, length, slice_get, IfOk};
-ghost use Rattle.gx_values.specs.Values.{Fits};
+ghost use Rattle.gx_values.specs.Values.{Fits, first_kind};
 ghost use Rattle.gx_values.specs.Spans.{IsSpanKind};
 ghost use Rattle.gx_ports.specs.Calls.{ReadsMaps};
 ghost use Rattle.gx_mapping.specs.Rule.{In};
 ghost use Rattle.gx_stack.specs.Tree.{leaves_of, tree_form, IsValid};
 ghost use Rattle.gx_stack.specs.Seen.{tree_of};
 ghost use Rattle.gx_stack.specs.Internal.{HasSet};
-ghost use Rattle.gx_links.specs.Kinds.{kinds_of, first_kind};
+ghost use Rattle.gx_links.specs.Kinds.{kinds_of};
 ghost use Rattle.gx_ring.specs.Reads.{IsRecordAt};
 
 use gx_gather::Recs;

@@ -14,8 +14,6 @@ use std::alloc::Global;
 
 // The record of an owner, with its first member.
 pub fn head_rec(alloc: Global, owner: &Value, member: &Value) -> Result<Rec, NoMemory>
-    requires owner { IsKeyValue owner.now }
-    requires member { IsKeyValue member.now }
     ensures { IfOk result (λ rec. rec ≡ head_rec owner.now member.now) }
 {
     Ok(Rec {
@@ -30,8 +28,6 @@ pub fn head_if(
     owner: &Value,
     member: Option<&Value>,
 ) -> Result<Option<Rec>, NoMemory>
-    requires owner { IsKeyValue owner.now }
-    requires member { IfThere (option_map (λ v. v.now) member) IsKeyValue }
     ensures { IfOk result (λ rec. rec ≡ head_if owner.now (option_map (λ v. v.now) member.entry)) }
 {
     match member {
@@ -48,7 +44,6 @@ pub fn chain_rec(
     next: Option<&Value>,
 ) -> Result<Rec, NoMemory>
     requires owner { IsKeyValue owner.now }
-    requires member { IsKeyValue member.now }
     requires next { IfThere (option_map (λ v. v.now) next) IsKeyValue }
     ensures { IfOk result
         (λ rec. rec ≡ chain_rec owner.now member.now (option_map (λ v. v.now) next.entry)) }
@@ -63,8 +58,7 @@ pub fn chain_rec(
 
 // What a record of the chain has besides its key.
 fn link_fields(alloc: Global, last: i64, next: &Value, owner: &Value) -> Result<Values, NoMemory>
-    requires next { IsKeyValue next.now }
-    requires owner { IsKeyValue owner.now }
+    requires { IsKeyValue next.now }
     ensures { IfOk result (λ values.
         values ≡ value.Int last ∷ value.Bytes (bytes_of next.now) ∷ owner.now ∷ []) }
 {
@@ -77,7 +71,6 @@ fn link_fields(alloc: Global, last: i64, next: &Value, owner: &Value) -> Result<
 }
 
 fn one_value(alloc: Global, value: &Value) -> Result<Values, NoMemory>
-    requires { IsKeyValue value.now }
     ensures { IfOk result (λ values. values ≡ value.now ∷ []) }
 {
     let mut values = Vec::with_capacity(alloc, 1)?;

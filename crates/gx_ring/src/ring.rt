@@ -278,7 +278,6 @@ fn lead_change(
 ) -> Result<Change, NoMemory>
     requires owner { IsKeyValue owner.now }
     requires member { IsKeyValue member.now }
-    requires before { IfThere (option_map (λ v. v.now) at.before) IsKeyValue }
     requires next { IfThere (option_map (λ v. v.now) at.next) IsKeyValue }
     ensures { IfOk result (λ change. change
         ≡ lead_change owner.now member.now (option_map (λ v. v.now) at.entry.before)
@@ -304,7 +303,6 @@ fn own_change(
     at: Neighbours,
 ) -> Result<Change, NoMemory>
     requires owner { IsKeyValue owner.now }
-    requires member { IsKeyValue member.now }
     requires next { IfThere (option_map (λ v. v.now) at.next) IsKeyValue }
     ensures { IfOk result (λ change. change
         ≡ own_change owner.now member.now (option_map (λ v. v.now) at.entry.next)) }

@@ -9,10 +9,9 @@ ghost use Rattle.gx_ring.specs.Ring.{chain, ring_rows};
 ghost use Rattle.gx_ring.specs.Records.{IsKeyValue};
 
 use crate::records::{chain_rec, head_rec};
-use gx_gather::Recs;
-use gx_links::{Owners, Pairs};
+use gx_links::Owners;
 use gx_mapping::{Part, Parts};
-use gx_values::{NoMemory, Value, Values};
+use gx_values::{NoMemory, Value};
 use std::alloc::Global;
 
 // The rows of owners with their members.

@@ -2,7 +2,7 @@
 use gx_values::{Value, Values};
 use std::marker::Model;
 
-/// A record: its key and its other values, in the order of the fields. Its ints have 64 bits.
+/// A record: its key and its other values, in the order of the fields.
 #[derive(Debug, Drop)]
 pub struct Row {
     /// the value of field 0
@@ -13,11 +13,8 @@ pub struct Row {
 
 impl Model for Row {
     ghost use Rattle.gx_model.specs.States.{Row as TheRow};
-    ghost use Rattle.gx_values.specs.Values.{IsSized, AreSized};
 
     ghost Value = { TheRow };
 
     ghost view = { λ r. (r.key, r.values) };
-
-    ghost invariant = { λ r. IsSized r.key × AreSized r.values };
 }

@@ -1,5 +1,5 @@
 -- Records and their values.
-use Rattle.std.proofs.Common.{[], ◌≡◌, ◌≤◌, List, ◌∷◌, ◌++◌, length, Option, Some, None, get_or, refl, sym, ap, subst, arith, length-append, inl}
+use Rattle.std.proofs.Common.{[], ◌≡◌, ◌≤◌, List, ◌∷◌, ◌++◌, length, Option, Some, None, refl, sym, subst, arith, length-append, inl}
 use Rattle.std.specs.Prelude.{IfSome}
 use Rattle.gx_values.specs.declared.values.Kind.{Kind}
 use Rattle.gx_values.specs.declared.values.Kind.TheVariants as kind
@@ -30,8 +30,3 @@ pub last_fits : (P : Rec → Type 0) (found front : List Rec) (o : Option Rec)
 last_fits P found front None is all = tt
 last_fits P found front (Some r) is all =
     all r (subst (In r) (sym is) (in_right r front (r ∷ []) (inl refl)))
-
--- the last of one value
-pub last_one : (front : List Value) (k q : Value) → k ∷ [] ≡ front ++ q ∷ [] → k ≡ q
-last_one [] k q e = ap (λ (l : List Value). get_or l 0 k) e
-last_one (v ∷ front) k q e = absurd (omega (arith, ap length e, length-append front (q ∷ [])))

@@ -18,7 +18,7 @@ use Rattle.gx_values.specs.declared.records.Field.{Field}
 use Rattle.gx_values.specs.declared.records.Form.{Form}
 use Rattle.gx_values.specs.declared.records.Rec.{Rec}
 use Rattle.gx_values.specs.declared.keys.Span.{Span}
-use Rattle.gx_values.specs.Values.{value_cmp, no_field}
+use Rattle.gx_values.specs.Values.{value_cmp, no_field, kind_in}
 use Rattle.gx_values.specs.Keys.{bytes_of, is_inside, IsKeyKind, AreKeyFields}
 use Rattle.gx_values.specs.Spans.{IsSpanKind, IsValueSpan}
 use Rattle.gx_values.proofs.OrderLemmas.{value_cmp_total}
@@ -27,7 +27,7 @@ use Rattle.gx_schema.specs.Lookups.{field_at, data_fields}
 use Rattle.gx_commands.specs.declared.command.Cond.{Cond}
 use Rattle.gx_actual.specs.Bodies.{IsShort}
 use Rattle.gx_actual.proofs.BodyLemmas.{item_short}
-use Rattle.gx_mapping.specs.Rule.{In, is_field, first_in, kind_in}
+use Rattle.gx_mapping.specs.Rule.{In, is_field, first_in}
 use Rattle.gx_mapping.proofs.FieldLemmas.{first_kind, first_value}
 use Rattle.gx_mapping.proofs.RuleLemmas.{all_in}
 use Rattle.gx_stack.specs.Tree.{Tree, tree_form}

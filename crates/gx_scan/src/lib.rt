@@ -32,4 +32,4 @@ pub use by_records::{into_row, meets_all};
 pub use gx_types::AnyMapping;
 pub use records::find_record;
 pub use searched::searched_node;
-pub use within::{rows_within, whole_span};
+pub use within::rows_within;

@@ -1,7 +1,5 @@
 // The records of a file within a span that meet conditions.
-ghost use Rattle.std.specs.Prelude.{◌≡◌, ℕ, List, length, true};
-ghost use Rattle.gx_values.specs.declared.records.Form.{Form as TheForm};
-ghost use Rattle.gx_values.specs.Keys.{is_inside};
+ghost use Rattle.std.specs.Prelude.{length};
 ghost use Rattle.gx_stack.specs.Selected.{IsKeySpan};
 ghost use Rattle.gx_stack.specs.Seen.{tree_of};
 ghost use Rattle.gx_typing.specs.Dues.{file_form};
@@ -23,7 +21,7 @@ use gx_rows::Row;
 use gx_schema::FileDef;
 use gx_stack::Node;
 use gx_types::AnyMapping;
-use gx_values::{KeyBuf, Span};
+use gx_values::Span;
 use std::alloc::Global;
 
 /// Appends the records of the file within the span that meet the conditions, in any order. Where
@@ -96,15 +94,4 @@ pub fn rows_within<B: Leaves>(
 // Whether the span is that of one key.
 fn is_one_key(span: &Span) -> bool {
     !span.lo.as_slice().is_empty() && span.lo.as_slice() == span.hi.as_slice()
-}
-
-/// The span of all keys.
-pub fn whole_span() -> Span
-    ensures all { (key : List ℕ) → is_inside result.lo result.hi key ≡ true }
-    ensures keys { (form : TheForm) → IsKeySpan form result }
-{
-    Span {
-        lo: KeyBuf::from_slice(&[]),
-        hi: KeyBuf::from_slice(&[]),
-    }
 }

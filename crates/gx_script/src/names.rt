@@ -1,7 +1,7 @@
 // Files, links and fields by their names, and by their numbers.
 ghost use Rattle.std.specs.Prelude.{◌≡◌, ◌<◌, length, IfOk, IfSome};
 ghost use Rattle.gx_tokens.specs.Reading.{map_ok};
-ghost use Rattle.gx_schema.specs.Lookups.{file_at, link_at, field_at, key_kind};
+ghost use Rattle.gx_schema.specs.Lookups.{file_at, link_at, field_at};
 ghost use Rattle.gx_schema.specs.WellFormed.{HasFields, IsWellFormed};
 ghost use Rattle.gx_commands.specs.Cutting.{words_in};
 ghost use Rattle.gx_script.specs.Names.{file_number, link_number, field_number};

@@ -1,5 +1,5 @@
 // Values as they are written in a line.
-ghost use Rattle.std.specs.Prelude.{◌≡◌, [], length};
+ghost use Rattle.std.specs.Prelude.{[]};
 ghost use Rattle.gx_commands.specs.Cutting.{word_of, words_in};
 ghost use Rattle.gx_script.specs.Reading.{Gives, want, a_value, values_at};
 

@@ -13,9 +13,9 @@ use Rattle.gx_values.specs.declared.values.Value.{Value}
 use Rattle.gx_values.specs.declared.records.Field.{Field}
 use Rattle.gx_values.specs.declared.records.Form.{Form}
 use Rattle.gx_values.specs.declared.records.Rec.{Rec}
-use Rattle.gx_values.specs.Values.{values_cmp, Fits, AreFit, no_field, no_value}
+use Rattle.gx_values.specs.Values.{values_cmp, Fits, AreFit, no_field, no_value, kind_in}
 use Rattle.gx_mapping.specs.declared.parts.Part.{Part}
-use Rattle.gx_mapping.specs.Rule.{In, IsOf, part_cmp, value_in, kind_in, is_field, first_in}
+use Rattle.gx_mapping.specs.Rule.{In, IsOf, part_cmp, value_in, is_field, first_in}
 use Rattle.gx_mapping.specs.Laws.{MappingLaws, IsCarried, IsCarrier}
 use Rattle.gx_mapping.proofs.FieldLemmas.{has_value, first_within, fit_length}
 use Rattle.gx_mapping.proofs.RuleLemmas.{all_data}

@@ -8,12 +8,12 @@ use Rattle.gx_values.specs.declared.records.Field.{Field}
 use Rattle.gx_values.specs.declared.records.Form.{Form}
 use Rattle.gx_values.specs.declared.records.Rec.{Rec}
 use Rattle.gx_values.specs.declared.keys.Span.{Span}
-use Rattle.gx_values.specs.Values.{AreFit}
+use Rattle.gx_values.specs.Values.{AreFit, kind_in}
 use Rattle.gx_values.specs.Keys.{key_of, is_inside}
 use Rattle.gx_values.specs.Spans.{IsValueSpan}
 use Rattle.gx_ports.specs.LeafMaps.{LeafMap}
 use Rattle.gx_values.specs.declared.values.Kind.{Kind}
-use Rattle.gx_mapping.specs.Rule.{Rule, In, IsOf, kind_in}
+use Rattle.gx_mapping.specs.Rule.{Rule, In, IsOf}
 use Rattle.gx_mapping.specs.Laws.{MappingLaws, IsIndex}
 use Rattle.gx_stack.specs.declared.node.Node.{Node}
 use Rattle.gx_stack.specs.declared.node.Node.TheVariants as V

@@ -1,11 +1,12 @@
 // The keys of records that are found by an indexed field.
 ghost use Rattle.std.specs.Prelude.{◌≡◌, ◌<◌, ◌++◌, true, Some, ℕ, length, map, drop, OnOk};
+ghost use Rattle.gx_values.specs.Values.{kind_in};
 ghost use Rattle.gx_values.specs.declared.values.Kind.{Kind as TheKind};
 ghost use Rattle.gx_values.specs.declared.records.Rec.{Rec as Record};
 ghost use Rattle.gx_values.specs.Spans.{IsValueSpan};
 ghost use Rattle.gx_ports.specs.LeafMaps.{Extends};
 ghost use Rattle.gx_ports.specs.Calls.{ReadsMaps};
-ghost use Rattle.gx_mapping.specs.Rule.{In, kind_in};
+ghost use Rattle.gx_mapping.specs.Rule.{In};
 ghost use Rattle.gx_stack.specs.Tree.{leaves_of, tree_form, IsValid};
 ghost use Rattle.gx_stack.specs.Seen.{tree_of};
 ghost use Rattle.gx_stack.specs.Internal.{HasSet};

@@ -1,14 +1,17 @@
 // What the leaves of a tree hold, where they are read whole.
-ghost use Rattle.std.specs.Prelude.{◌≡◌, ◌≢◌, ◌<◌, ◌≤◌, ◌+◌, ◌++◌, [], ℕ, true, false, not, length, map, slice_set, Some, OnOk, IfOk, IfErr};
+ghost use Rattle.std.specs.Prelude.{◌≡◌, ◌≢◌, ◌<◌, ◌≤◌, ◌+◌, ◌++◌, [], ℕ, List, true, false, not, length, slice_set, Some, OnOk, IfOk, IfErr};
 ghost use Rattle.std.specs.List.{filter, flat_map};
 ghost use Rattle.std.specs.FinMap.{len};
+ghost use Rattle.gx_values.specs.declared.records.Form.{Form as TheForm};
 ghost use Rattle.gx_values.specs.declared.records.Rec.{Rec as Record};
+ghost use Rattle.gx_values.specs.Keys.{is_inside};
 ghost use Rattle.gx_ports.specs.LeafMaps.{map_at};
 ghost use Rattle.gx_ports.specs.Calls.{ReadsMaps};
 ghost use Rattle.gx_mapping.specs.declared.parts.Part.{Part as ThePart};
 ghost use Rattle.gx_mapping.specs.Rule.{In, IsOf};
 ghost use Rattle.gx_stack.specs.Tree.{IsLeafForm};
 ghost use Rattle.gx_gather.specs.Gather.{AreDataParts};
+ghost use Rattle.gx_stack.specs.Selected.{IsKeySpan};
 ghost use Rattle.gx_stack.specs.Held.{IsLeafHeld, AreCounts, other_parts, is_same_part, AreJoined};
 
 use crate::read::read_records;
@@ -61,6 +64,8 @@ fn note_count(counts: &mut [Option<usize>], leaf: u32, count: usize)
 
 /// The span of all keys.
 pub fn whole_span() -> Span
+    ensures all { (key : List ℕ) → is_inside result.lo result.hi key ≡ true }
+    ensures keys { (form : TheForm) → IsKeySpan form result }
     ensures lo { result.lo ≡ [] }
     ensures hi { result.hi ≡ [] }
 {

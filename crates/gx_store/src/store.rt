@@ -1,5 +1,5 @@
 // A database's leaves on a device, and how large the device may be.
-ghost use Rattle.std.specs.Prelude.{◌≡◌, ◌↔◌, ◌≤◌, ◌<◌, ◌^◌, ℕ, List, length, IsTrue};
+ghost use Rattle.std.specs.Prelude.{◌≡◌, ◌↔◌, ◌≤◌, ◌<◌, ℕ, List, length, IsTrue};
 ghost use Rattle.gx_leaves.specs.Paged.{places_in, kept_of, head_of, WasWhole};
 ghost use Rattle.gx_leaves.specs.Places.{specs_of};
 ghost use Rattle.gx_store.specs.Device.{smallest_device, IsSize, IsHeadOf, IsSettled};
@@ -22,8 +22,7 @@ pub type Store<M> = PagedLeaves<Paged<M>>;
 /// before the pages, and two for each page of the table of owners and for each root page.
 pub fn smallest_device(specs: &[LeafSpec]) -> u32
     requires { length specs.now ≤ MAX_LEAVES }
-    ensures value { result ≡ smallest_device specs.now }
-    ensures small { result < 2 ^ 18 }
+    ensures { result ≡ smallest_device specs.now }
 {
     HEAD_BLOCKS + 2 * (TABLE_PAGES + root_pages(specs))
 }

@@ -4,6 +4,7 @@ use Rattle.std.specs.Prelude.{◌||◌, not, filter, nat_eq, slice_index_or}
 use Rattle.std.specs.List.{AllByRecursion}
 use Rattle.std.specs.Cmp.Lexicographic.{pointwise, bytes_decides}
 use Rattle.std.proofs.lemmas.Bool.{cond-true, cond-false, or_parts}
+use Rattle.gx_values.specs.Values.{coded_kind, kind_in}
 use Rattle.gx_values.specs.Keys.{widths, IsKeyKind, AreKeyFields}
 use Rattle.gx_values.specs.declared.values.Code.{Code}
 use Rattle.gx_values.specs.declared.values.Code.TheVariants as code
@@ -17,8 +18,8 @@ use Rattle.gx_equation.specs.declared.heads.Head.{Head}
 use Rattle.gx_equation.specs.declared.heads.Head.TheVariants as heads
 use Rattle.gx_equation.specs.Printing.{IsHead, IsCount, IsTerm}
 use Rattle.gx_equation.specs.Trees.{TermTree, Trees, node, none, kid, list_of, arity}
-use Rattle.gx_forms.specs.Fields.{field, kind_in, has_name}
-use Rattle.gx_forms.specs.Forms.{coded_kind, coded_field, index_kind, kid_form}
+use Rattle.gx_forms.specs.Fields.{field, has_name}
+use Rattle.gx_forms.specs.Forms.{coded_field, index_kind, kid_form}
 use Rattle.gx_types.specs.FileForms.{IsLimited, AreLimited, AreDistinct, room_of, rooms, IsFileForm}
 use Rattle.gx_typing.specs.Typed.{IsCodeFor, IsMet, IsTypedTerm, AreTypedTerms}
 use Rattle.gx_typing.specs.Typing.{count}

@@ -9,14 +9,12 @@ use Rattle.std.proofs.lemmas.List.{length-map}
 use Rattle.gx_laws.proofs.NumberLemmas.{nat_eq_itself}
 use Rattle.gx_values.specs.Keys.{IsKeyKind}
 use Rattle.gx_values.specs.declared.values.Code.{Code}
-use Rattle.gx_values.specs.declared.values.Code.TheVariants as code
 use Rattle.gx_values.specs.declared.values.Kind.{Kind}
 use Rattle.gx_values.specs.declared.values.Kind.TheVariants as kinds
 use Rattle.gx_values.specs.declared.records.Field.{Field}
 use Rattle.gx_values.specs.declared.records.Form.{Form}
-use Rattle.gx_values.specs.Values.{no_field}
+use Rattle.gx_values.specs.Values.{no_field, coded_kind, kind_in}
 use Rattle.gx_mapping.specs.Rule.{is_field, first_in}
-use Rattle.gx_encode.specs.Codes.{coded_kind as kind_by_code}
 use Rattle.gx_encode.specs.Forms.{changed, coded_field as field_by_code}
 use Rattle.gx_index.specs.Forms.{entry_form}
 use Rattle.gx_split.specs.Groups.{marks, chosen}
@@ -27,8 +25,8 @@ use Rattle.gx_equation.specs.declared.heads.Head.TheVariants as heads
 use Rattle.gx_equation.specs.Printing.{IsCount}
 use Rattle.gx_equation.specs.Trees.{Trees, list_of, arity}
 use Rattle.gx_types.specs.Build.{IsFirstOf, IsPlaceOf}
-use Rattle.gx_forms.specs.Fields.{field, kind_in, has_name}
-use Rattle.gx_forms.specs.Forms.{coded_kind, coded_field, index_kind, kid_form}
+use Rattle.gx_forms.specs.Fields.{field, has_name}
+use Rattle.gx_forms.specs.Forms.{coded_field, index_kind, kid_form}
 use Rattle.gx_types.specs.FileForms.{AreDistinct}
 use Rattle.gx_types.specs.HeadRules.{numbers_from, place_in, head_rule, IsLayer}
 use Rattle.gx_typing.specs.Typed.{IsField, IsMet}
@@ -198,14 +196,8 @@ marked p fs = ap (marks (numbers_from 0 (map p fs)) 0) (sym (length-map fs p))
     ∙ marks_again 0 (map p fs)
 
 -- the layer and typing give a coded field one kind
-same_code : (c : Code) (k : Kind) → kind_by_code c k ≡ coded_kind c k
-same_code code.Pack k = refl
-same_code code.Rle kinds.Int = refl
-same_code code.Rle (kinds.Text most) = refl
-same_code code.Rle (kinds.Bytes most) = refl
-
 same_field : (c : Code) → field_by_code c ≡ (λ (f : Field). field f.name (coded_kind c f.kind))
-same_field c = λ i f. field f.name (same_code c f.kind i)
+same_field c = refl
 
 changed_first : (name : List ℕ) (c : Code) (fs : List Field) → AreDistinct fs
     → is_field fs name ≡ true

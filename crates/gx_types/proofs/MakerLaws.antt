@@ -6,13 +6,12 @@ use Rattle.std.specs.List.{AllByRecursion}
 use Rattle.std.specs.Cmp.Lexicographic.{pointwise, bytes_decides}
 use Rattle.std.proofs.lemmas.Bool.{true≢false}
 use Rattle.gx_values.specs.Keys.{key_of, width_of, widths, IsKeyKind}
-use Rattle.gx_values.specs.Values.{Fits, AreSized, no_field}
+use Rattle.gx_values.specs.Values.{Fits, no_field, is_bytes}
 use Rattle.gx_values.specs.declared.values.Code.{Code}
 use Rattle.gx_values.specs.declared.values.Code.TheVariants as code
 use Rattle.gx_values.specs.declared.values.Kind.{Kind}
 use Rattle.gx_values.specs.declared.values.Kind.TheVariants as kinds
 use Rattle.gx_values.specs.declared.values.Value.{Value}
-use Rattle.gx_values.specs.declared.values.Value.TheVariants as values
 use Rattle.gx_values.specs.declared.records.Field.{Field}
 use Rattle.gx_values.specs.declared.records.Form.{Form}
 use Rattle.gx_values.specs.declared.records.Rec.{Rec}
@@ -24,7 +23,7 @@ use Rattle.gx_schema.proofs.WellFormedLaws.{fields_few}
 use Rattle.gx_actual.specs.Bodies.{body_of, IsShortText, AreShortTexts}
 use Rattle.gx_actual.specs.Laws.{body_width}
 use Rattle.gx_encode.specs.Codes.{IsCodeKind}
-use Rattle.gx_divide.specs.Forms.{is_bytes, is_bytes_form, most_of, most_in}
+use Rattle.gx_divide.specs.Forms.{is_bytes_form, most_of, most_in}
 use Rattle.gx_partition.specs.Bounds.{IsPartition}
 use Rattle.gx_partition.specs.Places.{kind_at, IsPlace}
 use Rattle.gx_partition.specs.declared.place.Where.{Where}
@@ -258,12 +257,6 @@ limited_short (f ∷ fs) are = (one f.kind are.0, limited_short fs are.1)
     one (kinds.Text most) is = omega (arith, is)
     one (kinds.Bytes most) is = tt
 
-bound_sized : (bounds : List Value) → AllByRecursion IsBound bounds → AreSized bounds
-bound_sized [] are = tt
-bound_sized (values.Int n ∷ bounds) are = (are.0, bound_sized bounds are.1)
-bound_sized (values.Text text ∷ bounds) are = (tt, bound_sized bounds are.1)
-bound_sized (values.Bytes bytes ∷ bounds) are = absurd are.0
-
 limited_width : (fs : List Field) (i : ℕ) → AreLimited fs → i < length fs
     → IsKeyKind (slice_index_or fs i no_field).kind
     → width_of (slice_index_or fs i no_field).kind ≤ 201
@@ -296,7 +289,7 @@ partition_can levels form name bounds kids fits met are few =
       kind = key;
       narrow = place_narrow levels form at fits (within form name at place) key;
       fit = subst (λ (k : Kind). AllByRecursion (Fits k) bounds) (sym is)
-          (bounds_fit met.kind bounds met.fit (bound_sized bounds are));
+          (bounds_fit met.kind bounds met.fit are);
       ascending = sorted_bounds bounds met.ascend;
       few = omega arith;
     }

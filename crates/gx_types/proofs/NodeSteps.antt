@@ -5,6 +5,7 @@ use Rattle.std.specs.Cmp.Lexicographic.{pointwise, bytes_decides}
 use Rattle.std.proofs.lemmas.Bool.{true≢false, cond-false}
 use Rattle.std.proofs.lemmas.List.{drop_more, append-nil}
 use Rattle.std.proofs.Math.Numerals.{add-one}
+use Rattle.gx_values.specs.Values.{kind_in}
 use Rattle.gx_ports.specs.declared.kinds.LeafKind.{LeafKind}
 use Rattle.gx_values.specs.declared.values.Kind.{Kind}
 use Rattle.gx_values.specs.declared.values.Value.{Value}
@@ -25,7 +26,6 @@ use Rattle.gx_stack.specs.Tree.{no_kids}
 use Rattle.gx_stack.specs.Seen.{tree_of as node_tree, kids_from as node_kids}
 use Rattle.gx_types.specs.declared.any.AnyMapping.{AnyMapping}
 use Rattle.gx_types.specs.Build.{kids_of, leaf_count, leaf_counts, IsFirstOf, file_leaf_count, IsTreeOf, AreTreesOf, AreTreesOfFiles, IsReady, AreReady}
-use Rattle.gx_forms.specs.Fields.{kind_in}
 use Rattle.gx_types.proofs.ReadyLaws.{first_ready, others_ready}
 use Rattle.gx_types.proofs.TreeLaws.{no_shift}
 use Rattle.gx_typing.proofs.SeenAs.{seen_transpose, seen_partition}

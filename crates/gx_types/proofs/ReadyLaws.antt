@@ -6,7 +6,7 @@ use Rattle.std.specs.List.{AllByRecursion}
 use Rattle.std.specs.List.Sorted.{IsStrictlySortedBy}
 use Rattle.std.specs.declared.cmp.Ordering.TheVariants.{Less}
 use Rattle.std.proofs.lemmas.Bool.{cond-true, cond-false}
-use Rattle.gx_values.specs.Values.{value_cmp, Fits, AreSized, IsSized, no_field}
+use Rattle.gx_values.specs.Values.{value_cmp, Fits, no_field, kind_in}
 use Rattle.gx_values.specs.declared.values.Kind.{Kind}
 use Rattle.gx_values.specs.declared.values.Kind.TheVariants as kinds
 use Rattle.gx_values.specs.declared.values.Value.{Value}
@@ -20,10 +20,9 @@ use Rattle.gx_partition.specs.declared.place.Where.TheVariants.{Key, Rest}
 use Rattle.gx_equation.specs.declared.heads.Head.{Head}
 use Rattle.gx_equation.specs.Trees.{TermTree, Trees, node, kid}
 use Rattle.gx_types.specs.FileForms.{IsFileForm}
-use Rattle.gx_equation.specs.Printing.{IsTerm}
+use Rattle.gx_equation.specs.Printing.{IsTerm, IsBound}
 use Rattle.gx_types.proofs.FormLaws.{kept}
 use Rattle.gx_types.specs.Build.{leaf_count, leaf_counts, IsFirstOf, IsPlaceOf, IsReady, AreReady}
-use Rattle.gx_forms.specs.Fields.{kind_in}
 use Rattle.gx_forms.specs.Forms.{kid_form}
 use Rattle.gx_typing.specs.Places.{leaves_at}
 use Rattle.gx_typing.specs.Typed.{IsField, IsBoundFor, AscendStrictly}
@@ -123,19 +122,19 @@ kind_is form name (Rest i) kind is (inr field) =
     some_same : {a b : Kind} → ◌≡◌ {A = Option Kind} (Some a) (Some b) → a ≡ b
     some_same e = cc
 
-bound_fits : (k : Kind) (v : Value) → IsBoundFor k v → IsSized v → Fits k v
-bound_fits kinds.Int (values.Int n) is sized = sized
-bound_fits kinds.Int (values.Text t) is sized = absurd is
-bound_fits kinds.Int (values.Bytes t) is sized = absurd is
-bound_fits (kinds.Text most) (values.Int n) is sized = absurd is
-bound_fits (kinds.Text most) (values.Text t) is sized = is
-bound_fits (kinds.Text most) (values.Bytes t) is sized = absurd is
-bound_fits (kinds.Bytes most) v is sized = absurd is
+bound_fits : (k : Kind) (v : Value) → IsBoundFor k v → IsBound v → Fits k v
+bound_fits kinds.Int (values.Int n) is bound = bound
+bound_fits kinds.Int (values.Text t) is bound = absurd is
+bound_fits kinds.Int (values.Bytes t) is bound = absurd is
+bound_fits (kinds.Text most) (values.Int n) is bound = absurd is
+bound_fits (kinds.Text most) (values.Text t) is bound = is
+bound_fits (kinds.Text most) (values.Bytes t) is bound = absurd is
+bound_fits (kinds.Bytes most) v is bound = absurd is
 
-pub bounds_fit : (k : Kind) (vs : List Value) → AllByRecursion (IsBoundFor k) vs → AreSized vs
-    → AllByRecursion (Fits k) vs
-bounds_fit k [] are sized = tt
-bounds_fit k (v ∷ vs) are sized = (bound_fits k v are.0 sized.0, bounds_fit k vs are.1 sized.1)
+pub bounds_fit : (k : Kind) (vs : List Value) → AllByRecursion (IsBoundFor k) vs
+    → AllByRecursion IsBound vs → AllByRecursion (Fits k) vs
+bounds_fit k [] are bound = tt
+bounds_fit k (v ∷ vs) are bound = (bound_fits k v are.0 bound.0, bounds_fit k vs are.1 bound.1)
 
 below_all : (a b : Value) (vs : List Value) → value_cmp a b ≡ Less
     → AllByRecursion (λ v. value_cmp b v ≡ Less) vs → AllByRecursion (λ v. value_cmp a v ≡ Less) vs

@@ -1,6 +1,7 @@
 -- The nodes that equations mean.
 use Rattle.std.specs.Prelude.{◌≡◌, ◌≢◌, ℕ, zero, suc, ◌+◌, ◌<◌, ◌≤◌, List, [], ◌∷◌, length, take, drop, None}
 use Rattle.std.specs.List.{AllByRecursion}
+use Rattle.gx_values.specs.Values.{kind_in}
 use Rattle.gx_values.specs.Keys.{width_of}
 use Rattle.gx_values.specs.declared.values.Kind.{Kind}
 use Rattle.gx_values.specs.declared.records.Field.{Field}
@@ -22,7 +23,6 @@ use Rattle.gx_types.specs.declared.built.LinkTree.{LinkTree}
 use Rattle.gx_types.specs.Any.{any_rule}
 use Rattle.gx_types.specs.Links.{linkset_of, link_kids}
 use Rattle.gx_typing.specs.Dues.{file_form, owner_kind, member_kind}
-use Rattle.gx_forms.specs.Fields.{kind_in}
 use Rattle.gx_types.specs.FileForms.{IsFileForm}
 use Rattle.gx_forms.specs.Forms.{kid_form, link_form}
 use Rattle.gx_types.specs.HeadRules.{head_rule, IsLayer}

@@ -1,5 +1,4 @@
 // The mappings of all layers as one type.
-ghost use Rattle.std.specs.Prelude.{◌≡◌};
 
 use gx_actual::Actual;
 use gx_divide::Divide;

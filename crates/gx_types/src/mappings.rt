@@ -1,5 +1,6 @@
 // The mapping of a term's head.
 ghost use Rattle.std.specs.Prelude.{◌≡◌, ◌<◌, ◌≤◌, ℕ, length, None, IfOk, IfSome, IfNone};
+ghost use Rattle.gx_values.specs.Values.{kind_in};
 ghost use Rattle.gx_actual.specs.Bodies.{field_widths, AreShortTexts};
 ghost use Rattle.gx_divide.specs.Forms.{IsDivide};
 ghost use Rattle.gx_encode.specs.Forms.{IsEncode};
@@ -11,7 +12,6 @@ ghost use Rattle.gx_equation.specs.declared.heads.Head.TheVariants as heads;
 ghost use Rattle.gx_equation.specs.Seen.{tree_of};
 ghost use Rattle.gx_equation.specs.Trees.{head_of};
 ghost use Rattle.gx_types.specs.Build.{IsFirstOf, IsPlaceOf, IsMappingOf, IsReady};
-ghost use Rattle.gx_forms.specs.Fields.{kind_in};
 ghost use Rattle.gx_types.specs.HeadRules.{numbers_in, place_in, IsLayer};
 ghost use Rattle.gx_types.specs.Makers.{CanTranspose};
 ghost use Rattle.gx_typing.specs.Typed.{IsField};

@@ -1,5 +1,5 @@
 // Nodes of terms and of files.
-ghost use Rattle.std.specs.Prelude.{◌≡◌, ◌<◌, ◌≤◌, ◌+◌, map, slice_index_or, OnOk, IfOk};
+ghost use Rattle.std.specs.Prelude.{◌≡◌, ◌<◌, ◌+◌, map, slice_index_or, OnOk, IfOk};
 ghost use Rattle.gx_equation.specs.Seen.{tree_of, side_of, definitions_of};
 ghost use Rattle.gx_equation.specs.Trees.{list_of};
 ghost use Rattle.gx_stack.specs.Seen.{tree_of as node_tree, kids_from as node_kids};

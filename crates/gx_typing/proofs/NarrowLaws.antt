@@ -5,6 +5,7 @@ use Rattle.std.specs.Cmp.Lexicographic.{pointwise}
 use Rattle.std.specs.List.{list_all}
 use Rattle.std.proofs.lemmas.Bool.Decides.{nat_tests}
 use Rattle.std.proofs.lemmas.List.{length-map}
+use Rattle.gx_values.specs.Values.{coded_kind, is_bytes, kind_in}
 use Rattle.gx_values.specs.Keys.{widths}
 use Rattle.gx_values.specs.declared.values.Code.{Code}
 use Rattle.gx_values.specs.declared.values.Code.TheVariants as code
@@ -19,10 +20,10 @@ use Rattle.gx_equation.specs.Trees.{TermTree, Trees, node, none, kid}
 use Rattle.gx_typing.specs.declared.reasons.TypeWhy.{TypeWhy}
 use Rattle.gx_typing.specs.declared.reasons.TypeWhy.TheVariants as why
 use Rattle.gx_typing.specs.declared.typing.Typing.{Typing}
-use Rattle.gx_forms.specs.Fields.{field, kind_in, has_name, body_width, body_widths}
-use Rattle.gx_typing.specs.Conditions.{is_key_kind, is_bytes, is_coded, is_bound, is_data, are_data, ascends, leaves_some}
+use Rattle.gx_forms.specs.Fields.{field, has_name, body_width, body_widths}
+use Rattle.gx_typing.specs.Conditions.{is_key_kind, is_coded, is_bound, is_data, are_data, ascends, leaves_some}
 use Rattle.gx_typing.specs.Rows.{◌>>=◌, tested, data_from, any_from, body_of, leaf_row, one_bytes, row}
-use Rattle.gx_forms.specs.Forms.{coded_kind, coded_field, index_kind, kid_form}
+use Rattle.gx_forms.specs.Forms.{coded_field, index_kind, kid_form}
 use Rattle.gx_typing.specs.Typing.{Mistake, other_lines, at, count, with_head, typed_at, kids_typed}
 use Rattle.gx_forms.specs.Narrow.{narrow_kind, narrow_field, narrow}
 

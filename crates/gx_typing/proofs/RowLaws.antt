@@ -8,7 +8,7 @@ use Rattle.std.proofs.lemmas.Bool.{and_parts}
 use Rattle.gx_laws.proofs.OrderingLemmas.{less_from_lt}
 use Rattle.gx_laws.proofs.NumberLemmas.{same_number, at_most_from_nat_le, nat_le_from_at_most}
 use Rattle.gx_values.specs.Keys.{widths, IsKeyKind}
-use Rattle.gx_values.specs.Values.{value_cmp, is_printable}
+use Rattle.gx_values.specs.Values.{value_cmp, is_printable, is_bytes, kind_in}
 use Rattle.gx_values.specs.declared.values.Code.{Code}
 use Rattle.gx_values.specs.declared.values.Code.TheVariants as code
 use Rattle.gx_values.specs.declared.values.Kind.{Kind}
@@ -21,8 +21,8 @@ use Rattle.gx_equation.specs.declared.heads.Head.{Head}
 use Rattle.gx_equation.specs.declared.heads.Head.TheVariants as heads
 use Rattle.gx_typing.specs.declared.reasons.TypeWhy.{TypeWhy}
 use Rattle.gx_typing.specs.declared.reasons.TypeWhy.TheVariants as why
-use Rattle.gx_forms.specs.Fields.{kind_in, has_name}
-use Rattle.gx_typing.specs.Conditions.{is_key_kind, is_bytes, is_coded, is_bound, is_data, are_data, ascends, leaves_some}
+use Rattle.gx_forms.specs.Fields.{has_name}
+use Rattle.gx_typing.specs.Conditions.{is_key_kind, is_coded, is_bound, is_data, are_data, ascends, leaves_some}
 use Rattle.gx_typing.specs.Rows.{◌>>=◌, tested, data_from, any_from, data_kind, any_kind, body_of, leaf_body, one_bytes, row}
 use Rattle.gx_typing.specs.Typed.{IsDataField, IsField, AreDataFields, IsCodeFor, IsBoundFor, AscendStrictly, IsLeafData, IsOneBytes, IsMet}
 

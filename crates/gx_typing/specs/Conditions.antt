@@ -10,19 +10,14 @@ use Rattle.gx_values.specs.declared.values.Value.{Value}
 use Rattle.gx_values.specs.declared.values.Value.TheVariants as values
 use Rattle.gx_values.specs.declared.records.Field.{Field}
 use Rattle.gx_values.specs.declared.records.Form.{Form}
-use Rattle.gx_values.specs.Values.{value_cmp, is_printable}
-use Rattle.gx_forms.specs.Fields.{kind_in, has_name}
+use Rattle.gx_values.specs.Values.{value_cmp, is_printable, kind_in}
+use Rattle.gx_forms.specs.Fields.{has_name}
 
 -- ints and texts
 abbrev pub is_key_kind : Kind → Bool
 is_key_kind kinds.Int = true
 is_key_kind (kinds.Text most) = true
 is_key_kind (kinds.Bytes most) = false
-
-abbrev pub is_bytes : Kind → Bool
-is_bytes kinds.Int = false
-is_bytes (kinds.Text most) = false
-is_bytes (kinds.Bytes most) = true
 
 -- `pack` is for ints, `rle` for texts
 abbrev pub is_coded : Code → Kind → Bool

@@ -2,6 +2,7 @@
 -- reasons.
 use Rattle.std.specs.Prelude.{ℕ, suc, ◌+◌, Bool, false, ◌&&◌, List, [], ◌∷◌, length, Option, Some, None, Result, Ok, Err, nat_lt, nat_le, ◌==◌, if◌then◌else◌}
 use Rattle.std.specs.List.{list_all}
+use Rattle.gx_values.specs.Values.{is_bytes, kind_in}
 use Rattle.gx_values.specs.Keys.{widths}
 use Rattle.gx_values.specs.declared.bytes.TheConstants.{MAX_KEY_LEN}
 use Rattle.gx_values.specs.declared.values.Code.{Code}
@@ -15,8 +16,7 @@ use Rattle.gx_equation.specs.declared.heads.Head.{Head}
 use Rattle.gx_equation.specs.declared.heads.Head.TheVariants as heads
 use Rattle.gx_typing.specs.declared.reasons.TypeWhy.{TypeWhy}
 use Rattle.gx_typing.specs.declared.reasons.TypeWhy.TheVariants as why
-use Rattle.gx_forms.specs.Fields.{kind_in}
-use Rattle.gx_typing.specs.Conditions.{is_key_kind, is_bytes, is_coded, is_bound, ascends, are_data, leaves_some}
+use Rattle.gx_typing.specs.Conditions.{is_key_kind, is_coded, is_bound, ascends, are_data, leaves_some}
 
 -- the reason, unless the condition is met
 abbrev pub tested : TypeWhy → Bool → Result (Unit {0}) TypeWhy

@@ -3,7 +3,7 @@ use Rattle.std.specs.Prelude.{◌≡◌, ℕ, suc, ◌+◌, ◌<◌, ◌≤◌, 
 use Rattle.std.specs.List.{list_all, AllByRecursion}
 use Rattle.std.specs.declared.cmp.Ordering.TheVariants.{Less}
 use Rattle.gx_values.specs.Keys.{widths, IsKeyKind}
-use Rattle.gx_values.specs.Values.{value_cmp, is_printable}
+use Rattle.gx_values.specs.Values.{value_cmp, is_printable, kind_in}
 use Rattle.gx_values.specs.declared.bytes.TheConstants.{MAX_KEY_LEN}
 use Rattle.gx_values.specs.declared.values.Code.{Code}
 use Rattle.gx_values.specs.declared.values.Code.TheVariants as code
@@ -24,7 +24,7 @@ use Rattle.gx_typing.specs.declared.dues.Stored.{Stored}
 use Rattle.gx_typing.specs.declared.dues.Stored.TheVariants as stored
 use Rattle.gx_typing.specs.declared.typing.Typing.{Typing}
 use Rattle.gx_typing.specs.Dues.{dues}
-use Rattle.gx_forms.specs.Fields.{kind_in, has_name}
+use Rattle.gx_forms.specs.Fields.{has_name}
 use Rattle.gx_forms.specs.Forms.{kid_form, link_form, others_form}
 use Rattle.gx_typing.specs.Leaves.{leaf_spec}
 use Rattle.gx_typing.specs.Typing.{count}

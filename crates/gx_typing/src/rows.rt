@@ -1,5 +1,5 @@
 // What each head asks of the form that it gets.
-ghost use Rattle.std.specs.Prelude.{◌≡◌, ◌≤◌, ◌==◌, min, length, not, OnOk};
+ghost use Rattle.std.specs.Prelude.{◌≡◌, ◌≤◌, ◌==◌, length, OnOk};
 ghost use Rattle.gx_values.specs.Keys.{widths};
 ghost use Rattle.gx_values.specs.declared.bytes.TheConstants.{MAX_KEY_LEN};
 ghost use Rattle.gx_typing.specs.Conditions.{is_bound, ascends, is_coded, is_key_kind, is_data, are_data, leaves_some};
@@ -7,7 +7,7 @@ ghost use Rattle.gx_forms.specs.Fields.{has_name};
 ghost use Rattle.gx_equation.specs.Seen.{tree_of};
 ghost use Rattle.gx_typing.specs.Typing.{term_row};
 ghost use Rattle.gx_typing.specs.Rows.{tested, data_kind, any_kind, leaf_body, leaf_row, encode_row, segment_row, transpose_row, partition_row, divide_row, index_row};
-ghost use Rattle.std.specs.List.{list_all, list_any};
+ghost use Rattle.std.specs.List.{list_all};
 
 use crate::reasons::TypeWhy;
 use gx_equation::{Names, Term};

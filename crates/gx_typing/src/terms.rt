@@ -1,11 +1,10 @@
 // Typing of terms.
-ghost use Rattle.std.specs.Prelude.{◌≡◌, ◌≤◌, ℕ, length, Ok};
+ghost use Rattle.std.specs.Prelude.{◌≡◌, ℕ, length, Ok};
 ghost use Rattle.gx_values.specs.declared.records.Form.{Form as FormOf};
 ghost use Rattle.gx_equation.specs.Seen.{tree_of, trees_of};
 ghost use Rattle.gx_equation.specs.Trees.{node, none, kid, kids_from};
 ghost use Rattle.gx_equation.specs.declared.heads.Head.TheVariants as heads;
 ghost use Rattle.gx_forms.specs.Forms.{one_field};
-ghost use Rattle.gx_typing.specs.Leaves.{leaf_spec};
 ghost use Rattle.gx_forms.specs.Narrow.{narrow};
 ghost use Rattle.gx_typing.specs.Rows.{leaf_row};
 ghost use Rattle.gx_typing.specs.Typing.{Answers, at, here, other_lines, with_leaf, typed_at, kids_typed};

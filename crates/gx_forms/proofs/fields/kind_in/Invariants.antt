@@ -1,5 +1,5 @@
 use Rattle.std.proofs.Common.{◌≡◌, length}
-use Rattle.gx_forms.specs.Fields.{kind_in}
+use Rattle.gx_values.specs.Values.{kind_in}
 use Rattle.gx_forms.proofs.fields.kind_in.Given as goal
 
 abbrev pub invariant-loop-rest : goal.invariant-loop-rest

@@ -1,5 +1,6 @@
 use Rattle.std.proofs.Common.{◌≡◌, ◌∷◌, take}
-use Rattle.gx_forms.specs.Fields.{field, kind_in}
+use Rattle.gx_values.specs.Values.{kind_in}
+use Rattle.gx_forms.specs.Fields.{field}
 use Rattle.gx_forms.specs.Forms.{index_kind}
 use Rattle.gx_forms.proofs.forms.index_form.Given as goal
 

@@ -1,4 +1,3 @@
-use Rattle.gx_journal.proofs.ForgetLemmas.{all_home, all_stored}
 use Rattle.gx_journal.proofs.UnchangedLemmas.{all_unchanged}
 use Rattle.gx_journal.proofs.forget.forget.Goals as goal
 

@@ -1,10 +1,6 @@
 use Rattle.std.proofs.Common.{◌≡◌, take}
-use Rattle.gx_values.specs.Values.{AreSized}
 use Rattle.gx_model.specs.Commands.{with_changes}
 use Rattle.gx_plain.proofs.changes.changed_values.Given as goal
 
 abbrev pub invariant-loop-change : goal.invariant-loop-change
-invariant-loop-change l = record {
-  so_far : l.values.items ≡ with_changes l.fn.values (take l.change-index l.changes);
-  sized : AreSized l.values.items;
-}
+invariant-loop-change l = l.values.items ≡ with_changes l.fn.values (take l.change-index l.changes)

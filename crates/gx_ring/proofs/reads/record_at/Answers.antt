@@ -1,8 +1,7 @@
 use Rattle.std.proofs.Common.{[], ◌∷◌, sym, subst}
-use Rattle.gx_values.specs.Values.{AreFit}
+use Rattle.gx_values.specs.Values.{AreFit, first_kind}
 use Rattle.gx_values.specs.declared.records.Form.{Form}
 use Rattle.gx_links.proofs.KindLemmas.{fit_fields}
-use Rattle.gx_links.specs.Kinds.{first_kind}
 use Rattle.gx_stack.specs.Tree.{tree_form}
 use Rattle.gx_stack.specs.Seen.{tree_of}
 use Rattle.gx_stack.specs.Selected.{IsFound}

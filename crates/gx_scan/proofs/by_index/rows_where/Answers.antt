@@ -1,7 +1,7 @@
 use Rattle.std.proofs.Common.{rules, ◌≡◌, ◌∙◌, ◌++◌, ◌+◌, ◌*◌, ◌≤◌, List, ℕ, true, length, filter, [], sym, ap, subst, append-nil}
 use Rattle.std.specs.Prelude.{flat_map}
 use Rattle.gx_values.specs.declared.values.Value.{Value}
-use Rattle.gx_values.specs.Values.{AreFit}
+use Rattle.gx_values.specs.Values.{AreFit, kind_in}
 use Rattle.gx_ports.specs.LeafMaps.{LeafMap}
 use Rattle.gx_mapping.specs.Rule.{In}
 use Rattle.gx_stack.specs.Seen.{tree_of}
@@ -10,7 +10,6 @@ use Rattle.gx_model.specs.Found.{meets_conds}
 use Rattle.gx_scan.specs.Files.{IsInternal, file_records}
 use Rattle.gx_scan.specs.Entries.{ArePlaces}
 use Rattle.gx_scan.specs.Where.{rows_at_key}
-use Rattle.gx_mapping.specs.Rule.{kind_in}
 use Rattle.gx_stack.specs.Tree.{leaves_of, tree_form}
 use Rattle.gx_stack.specs.Indexed.{is_indexed, AreKeysOf}
 use Rattle.gx_types.specs.Any.{any_rule}

@@ -1,22 +1,10 @@
 use Rattle.std.proofs.Common.{◌∙◌, Some, get_or, sym, subst, ap}
-use Rattle.std.specs.Prelude.{IfSome}
 use Rattle.std.proofs.lemmas.Option.{same_Some}
 use Rattle.gx_schema.specs.declared.schema.FileDef.{FileDef}
-use Rattle.gx_schema.specs.Lookups.{data_fields}
 use Rattle.gx_values.specs.Keys.{bytes_of}
-use Rattle.gx_values.specs.Values.{AreFit}
 use Rattle.gx_values.specs.Written.{IsRead}
-use Rattle.gx_values.proofs.CopyLemmas.{fit_sized, are_sized}
 use Rattle.gx_scan.proofs.EntryLemmas.{kind_is, key_read}
 use Rattle.gx_scan.proofs.coded.coded_row.Goals as goal
-
-pub invariant_of-result : goal.invariant_of-result
-invariant_of-result c =
-    let key = subst (IsRead bytes_of c.index.result.now.kind c.args.key.now) c.in-Some.is
-    c.in_ok-key.ensures in
-    let values = subst (λ o. IfSome o (AreFit (data_fields c.args.file.now))) c.in-Some-2.is
-    c.in_ok-values.ensures.fits in
-    (fit_sized _ c.in-Some.key key.0, are_sized _ c.in-Some-2.values values)
 
 pub returns-clause-read : goal.returns-clause-read
 returns-clause-read c = λ r fit key_is body_is.

@@ -3,17 +3,8 @@ use Rattle.gx_schema.specs.declared.schema.FileDef.{FileDef}
 use Rattle.gx_values.specs.Keys.{bytes_of}
 use Rattle.gx_values.specs.Written.{AreRead, IsRead}
 use Rattle.gx_actual.specs.Bodies.{field_bytes}
-use Rattle.gx_values.proofs.CopyLemmas.{fit_sized, are_sized}
 use Rattle.gx_scan.proofs.EntryLemmas.{kind_is, row_read}
 use Rattle.gx_scan.proofs.scan.read_row.Goals as goal
-
-pub invariant_of-result : goal.invariant_of-result
-invariant_of-result c =
-    let key = subst (IsRead bytes_of c.index.result.now.kind c.args.key.now) c.in-Some.is
-    c.in_ok-key.ensures in
-    let values = subst (AreRead field_bytes c.data_fields.result.now c.args.body.now) c.in-Some-2.is
-    c.in_ok-values.ensures in
-    (fit_sized _ c.in-Some.key key.0, are_sized _ c.in-Some-2.values values.0)
 
 pub returns-clause-read : goal.returns-clause-read
 returns-clause-read c r fit key_is body_is =

@@ -1,10 +1,10 @@
 use Rattle.std.proofs.Common.{◌≡◌, ℕ, List, None, ap, sym, subst, ◌∙◌, arith}
+use Rattle.gx_values.specs.Values.{kind_in}
 use Rattle.gx_values.specs.declared.records.Field.{Field}
 use Rattle.gx_values.specs.declared.records.Form.{Form}
 use Rattle.gx_encode.specs.Forms.{IsEncode}
 use Rattle.gx_encode.specs.Rules.{encode_rule}
 use Rattle.gx_types.specs.Build.{IsFirstOf}
-use Rattle.gx_forms.specs.Fields.{kind_in}
 use Rattle.gx_types.proofs.HeadLaws.{first_only, none_first}
 use Rattle.gx_types.proofs.mappings.encode_of.Goals as goal
 

@@ -1,6 +1,6 @@
 use Rattle.std.proofs.Common.{◌≡◌, ◌+◌, ℕ, drop}
+use Rattle.gx_values.specs.Values.{kind_in}
 use Rattle.gx_types.specs.Build.{IsFirstOf}
-use Rattle.gx_forms.specs.Fields.{kind_in}
 use Rattle.gx_types.proofs.mappings.position.Given as goal
 
 abbrev pub invariant-loop-i : goal.invariant-loop-i

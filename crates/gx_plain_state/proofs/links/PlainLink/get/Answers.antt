@@ -4,8 +4,8 @@ use Rattle.gx_values.specs.Values.{value_cmp}
 use Rattle.gx_plain_state.proofs.MapLemmas.{get_view}
 use Rattle.gx_plain_state.proofs.links.PlainLink.get.Goals as goal
 
-pub returns-clause-value : goal.returns-clause-value
-returns-clause-value c =
-    c.find_owner.ensures.value ∙ ap (fin.find value_cmp c.args.member.now) c.deref.ensures.value
+pub returns : goal.returns
+returns c =
+    c.find_owner.ensures ∙ ap (fin.find value_cmp c.args.member.now) c.deref.ensures.value
     ∙ sym (get_view c.self.inside.pairs.items c.args.member.now c.self.invariant)
     ∙ ap (λ m. fin.get m c.args.member.now) c.self.view_is

@@ -16,18 +16,6 @@ use Rattle.gx_ring.proofs.ComeLemmas.{key_value_of, before_fits, next_fits, lead
 use Rattle.gx_ring.proofs.AskLemmas.{connected, connect_full}
 use Rattle.gx_ring.proofs.ring.Ring.put_among.Goals as goal
 
-pub lead_change-requires-clause-before : goal.lead_change-requires-clause-before
-lead_change-requires-clause-before g c =
-    let nexts = tree_of c.args.self.now.chain.now in
-    let is : option_map (λ v. v.now) c.neighbours_of-at.result.before ≡ before_in c.args.members.now
-    c.args.member.now = c.neighbours_of-at.ensures.before
-    ∙ ap (λ ms. before_in ms c.args.member.now) (c.deref.ensures.value ∙ c.members.view_is)
-    in
-    subst (λ x. IfThere x IsKeyValue) (sym is)
-    (before_fits IsKeyValue c.args.members.now c.args.member.now
-    (λ x h. key_value_of (member_kind g.M.Mapping.rule nexts) x c.requires.valid.member
-    (c.requires.members x h)))
-
 pub lead_change-requires-clause-next : goal.lead_change-requires-clause-next
 lead_change-requires-clause-next g c =
     let nexts = tree_of c.args.self.now.chain.now in
@@ -43,11 +31,6 @@ pub own_change-requires-clause-owner : goal.own_change-requires-clause-owner
 own_change-requires-clause-owner g c =
     key_value_of (owner_kind g.M.Mapping.rule (tree_of c.args.self.now.heads.now)) c.args.owner.now
     c.requires.valid.owner c.requires.owner
-
-pub own_change-requires-clause-member : goal.own_change-requires-clause-member
-own_change-requires-clause-member g c =
-    key_value_of (member_kind g.M.Mapping.rule (tree_of c.args.self.now.chain.now))
-    c.args.member.now c.requires.valid.member c.requires.member
 
 pub own_change-requires-clause-next : goal.own_change-requires-clause-next
 own_change-requires-clause-next g c =

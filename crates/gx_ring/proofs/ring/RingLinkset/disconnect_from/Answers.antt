@@ -41,18 +41,6 @@ lead_change-requires-clause-member g c =
     key_value_of (member_kind g.M.Mapping.rule (tree_of c.args.self.now.chain.now))
     c.args.member.now c.requires.valid.member c.requires.member
 
-pub lead_change-requires-clause-before : goal.lead_change-requires-clause-before
-lead_change-requires-clause-before g c =
-    let same = c.deref.ensures.value ∙ c.others.view_is in
-    let fit = others_fit _ _ _ _ _ _ _ _ _ _ _ c.in_ok-members.ensures.found c.new.ensures.items
-    c.without-others.ensures in
-    let beside = beside_fit (member_kind g.M.Mapping.rule (tree_of c.args.self.now.chain.now)) _
-    c.args.member.now _ _ (c.neighbours_of-at.ensures.before
-    ∙ ap (λ ms. before_in ms c.args.member.now) same)
-    (c.neighbours_of-at.ensures.next ∙ ap (λ ms. next_in ms c.args.member.now) same) fit in
-    key_value_if (member_kind g.M.Mapping.rule (tree_of c.args.self.now.chain.now)) _
-    c.requires.valid.member beside.0
-
 pub lead_change-requires-clause-next : goal.lead_change-requires-clause-next
 lead_change-requires-clause-next g c =
     let same = c.deref.ensures.value ∙ c.others.view_is in

@@ -1,6 +1,6 @@
 use Rattle.std.proofs.Common.{rules, ◌≡◌, []}
-use Rattle.gx_scan.proofs.within.whole_span.Goals as goal
 use Rattle.gx_stack.proofs.Selects.{ends_empty}
+use Rattle.gx_stack.proofs.held.whole_span.Goals as goal
 
 pub returns-clause-keys : goal.returns-clause-keys
 returns-clause-keys c = λ form.
