@@ -238,29 +238,29 @@ module _ (schema : Schema) (indexed : ℕ → List Bool) where
     is.0 ++ ending_line (ending.Line number why),
     (number, why, record { plans = is.0; explained = is.1; text_is = refl }),
     behind old.now.said mid.now.said new.now.said is.0 (ending_line (ending.Line number why)) is.2
-        (e.said (λ f. cc) (λ f. cc)),
+        (e.words.said (λ f. cc) (λ f. cc)),
   )
   line_said old mid new number why status.Memory is e =
-      short_said old mid new (firsts old mid number why is) (e.memory refl)
+      short_said old mid new (firsts old mid number why is) (e.words.memory refl)
   line_said old mid new number why status.Outside is e =
-      line_front old mid new number why is (e.cut refl)
+      line_front old mid new number why is (e.words.cut refl)
   line_said old mid new number why status.Done is e =
-      absurd (never (e.status_is (λ f. cc) (λ f. cc)))
+      absurd (never (e.due.status_is (λ f. cc) (λ f. cc)))
     where
       never : status.Done ≡ status.Script → ⊥
       never f = cc
   line_said old mid new number why status.Refused is e =
-      absurd (never (e.status_is (λ f. cc) (λ f. cc)))
+      absurd (never (e.due.status_is (λ f. cc) (λ f. cc)))
     where
       never : status.Refused ≡ status.Script → ⊥
       never f = cc
   line_said old mid new number why status.Full is e =
-      absurd (never (e.status_is (λ f. cc) (λ f. cc)))
+      absurd (never (e.due.status_is (λ f. cc) (λ f. cc)))
     where
       never : status.Full ≡ status.Script → ⊥
       never f = cc
   line_said old mid new number why status.Device is e =
-      absurd (never (e.status_is (λ f. cc) (λ f. cc)))
+      absurd (never (e.due.status_is (λ f. cc) (λ f. cc)))
     where
       never : status.Device ≡ status.Script → ⊥
       never f = cc
@@ -268,25 +268,25 @@ module _ (schema : Schema) (indexed : ℕ → List Bool) where
   memory_said : (old mid new : Content) (s : Status)
       → SaysText (AreFirstExplained schema indexed (script_lines old.script)) old mid
       → IsEnded ending.NoMemory mid new s → IsScriptExplained schema indexed old new s
-  memory_said old mid new status.Memory is e = short_said old mid new is (e.memory refl)
-  memory_said old mid new status.Outside is e = memory_front old mid new is (e.cut refl)
-  memory_said old mid new status.Script is e = absurd (never (e.status_is (λ f. cc) (λ f. cc)))
+  memory_said old mid new status.Memory is e = short_said old mid new is (e.words.memory refl)
+  memory_said old mid new status.Outside is e = memory_front old mid new is (e.words.cut refl)
+  memory_said old mid new status.Script is e = absurd (never (e.due.status_is (λ f. cc) (λ f. cc)))
     where
       never : status.Script ≡ status.Memory → ⊥
       never f = cc
-  memory_said old mid new status.Done is e = absurd (never (e.status_is (λ f. cc) (λ f. cc)))
+  memory_said old mid new status.Done is e = absurd (never (e.due.status_is (λ f. cc) (λ f. cc)))
     where
       never : status.Done ≡ status.Memory → ⊥
       never f = cc
-  memory_said old mid new status.Refused is e = absurd (never (e.status_is (λ f. cc) (λ f. cc)))
+  memory_said old mid new status.Refused is e = absurd (never (e.due.status_is (λ f. cc) (λ f. cc)))
     where
       never : status.Refused ≡ status.Memory → ⊥
       never f = cc
-  memory_said old mid new status.Full is e = absurd (never (e.status_is (λ f. cc) (λ f. cc)))
+  memory_said old mid new status.Full is e = absurd (never (e.due.status_is (λ f. cc) (λ f. cc)))
     where
       never : status.Full ≡ status.Memory → ⊥
       never f = cc
-  memory_said old mid new status.Device is e = absurd (never (e.status_is (λ f. cc) (λ f. cc)))
+  memory_said old mid new status.Device is e = absurd (never (e.due.status_is (λ f. cc) (λ f. cc)))
     where
       never : status.Device ≡ status.Memory → ⊥
       never f = cc
@@ -299,7 +299,7 @@ module _ (schema : Schema) (indexed : ℕ → List Bool) where
   end_said old mid new (play_end.Line number why) s is e = line_said old mid new number why s is e
   end_said old mid new (play_end.Stop stop.NoMemory) s is e = memory_said old mid new s is e
   end_said old mid new (play_end.Stop stop.Fault) s is e =
-      subst (IsScriptExplained schema indexed old new) (sym (e.fault refl))
-      (fault_front old mid new is (e.silent refl))
+      subst (IsScriptExplained schema indexed old new) (sym (e.due.fault refl))
+      (fault_front old mid new is (e.words.silent refl))
   end_said old mid new (play_end.Stop stop.Full) s is e = absurd is
   end_said old mid new (play_end.Stop (stop.Damaged block)) s is e = absurd is

@@ -128,15 +128,23 @@ IsPlayEnding _ = ⊥
 
 -- ---- what was said of an ending
 
--- what was said of it, and the status that it gave
-pub record IsEnded (why : Ending) (old new : Content) (s : Status) : Type 0 where
+-- the status that is due
+pub record IsStatusFor (why : Ending) (s : Status) : Type 0 where
   pub status_is : s ≢ status.Outside → s ≢ status.Memory → s ≡ status_of why
+  pub fault : why ≡ ending.Fault → s ≡ status.Outside
+
+-- what is said of it where it has this status
+pub record SaysEnding (why : Ending) (old new : Content) (s : Status) : Type 0 where
   pub said : s ≢ status.Outside → s ≢ status.Memory → new.now.said ≡ old.now.said ++ ending_line why
   pub memory : s ≡ status.Memory → new.now.said ≡ old.now.said ++ memory_line
   pub cut : s ≡ status.Outside → IsCut (ending_line why) memory_line old new
-  pub fault : why ≡ ending.Fault → s ≡ status.Outside
   pub silent : why ≡ ending.Fault → new.now.said ≡ old.now.said
   pub script : new.script ≡ old.script
+
+-- the status that it gave, and what was said of it
+pub record IsEnded (why : Ending) (old new : Content) (s : Status) : Type 0 where
+  pub due : IsStatusFor why s
+  pub words : SaysEnding why old new s
 
 -- the same of a play, which says nothing more where it ends at no line
 abbrev pub IsFinished : Result (Unit {0}) Ending → Content → Content → Status → Type 0

@@ -3,7 +3,7 @@ ghost use Rattle.std.specs.Prelude.{◌≡◌, ◌≢◌, ◌++◌, ◌≤◌, �
 ghost use Rattle.std.specs.Fmt.{decimal};
 ghost use Rattle.gx_device.specs.Faults.{Rose};
 ghost use Rattle.gx_play.specs.Summaries.{accepted_line};
-ghost use Rattle.gx_play.specs.Endings.{ending_line, status_of, device_line, made_line, IsEnded};
+ghost use Rattle.gx_play.specs.Endings.{ending_line, status_of, device_line, made_line, IsStatusFor, SaysEnding};
 ghost use Rattle.gx_play.specs.Say.{OnlySays, SameDevices};
 
 use crate::play::PlayEnd;
@@ -109,13 +109,11 @@ impl From<PlayEnd> for Ending<'_> {
 /// there is no memory for the line, `stopped: memory` is said in its place, and where the line
 /// can't be said, the status is `Outside`.
 pub fn end<M: Machine>(alloc: Global, ending: Ending<'_>, machine: &mut M) -> Status
-    ensures status { result ≢ Status.Outside → result ≢ Status.Memory →
-        result ≡ status_of ending.entry }
-    ensures ended { IsTrue M.tells →
-        IsEnded ending.entry (M.content machine.old) (M.content machine.new) result }
+    ensures due { IsStatusFor ending.entry result }
+    ensures words { IsTrue M.tells →
+        SaysEnding ending.entry (M.content machine.old) (M.content machine.new) result }
     ensures outside { result ≡ Status.Outside →
         (ending.entry ≡ Ending.Fault) ⊎ Rose (M.faults machine.old) (M.faults machine.new) }
-    ensures fault { ending.entry ≡ Ending.Fault → result ≡ Status.Outside }
     ensures rest { OnlySays (M.content machine.old) (M.content machine.new) }
     ensures devices { SameDevices (M.content machine.old) (M.content machine.new) }
     ensures counted { result ≢ Status.Outside → M.faults machine.new ≡ M.faults machine.old }

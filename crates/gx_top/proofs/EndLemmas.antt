@@ -122,28 +122,28 @@ unprepared_said : (words : List (List ℕ)) (old mid new : Content) (before now 
     → IsUnprepared words old.aside.texts before now why → mid.now.said ≡ old.now.said
     → ((t : Task) → StartsAlike t old new) → IsEnded why mid new s → IsSaid words old new s
 unprepared_said words old mid new before now why status.Refused is unsaid starts e =
-    refused_says words old mid new before now why is (sym (e.status_is (λ f. cc) (λ f. cc)))
-    (e.said (λ f. cc) (λ f. cc)) unsaid
+    refused_says words old mid new before now why is (sym (e.due.status_is (λ f. cc) (λ f. cc)))
+    (e.words.said (λ f. cc) (λ f. cc)) unsaid
 unprepared_said words old mid new before now why status.Memory is unsaid starts e =
-    inl (memory_says words old mid new (e.memory refl) unsaid (λ t task. starts t))
+    inl (memory_says words old mid new (e.words.memory refl) unsaid (λ t task. starts t))
 unprepared_said words old mid new before now why status.Outside is unsaid starts e =
     inl (record {
-      said = unprepared_front words old mid new before now why is e.silent
-          (e.cut refl) unsaid;
+      said = unprepared_front words old mid new before now why is e.words.silent
+          (e.words.cut refl) unsaid;
       starts = λ t task. inl (starts t);
     })
 unprepared_said words old mid new before now why status.Done is unsaid starts e =
     absurd (not_done (status_of why) (unplayed words old before now why is)
-    (e.status_is (λ f. cc) (λ f. cc)))
+    (e.due.status_is (λ f. cc) (λ f. cc)))
 unprepared_said words old mid new before now why status.Script is unsaid starts e =
     absurd (not_script (status_of why) (unplayed words old before now why is)
-    (e.status_is (λ f. cc) (λ f. cc)))
+    (e.due.status_is (λ f. cc) (λ f. cc)))
 unprepared_said words old mid new before now why status.Full is unsaid starts e =
     absurd (not_full (status_of why) (unplayed words old before now why is)
-    (e.status_is (λ f. cc) (λ f. cc)))
+    (e.due.status_is (λ f. cc) (λ f. cc)))
 unprepared_said words old mid new before now why status.Device is unsaid starts e =
     absurd (not_device (status_of why) (unplayed words old before now why is)
-    (e.status_is (λ f. cc) (λ f. cc)))
+    (e.due.status_is (λ f. cc) (λ f. cc)))
 
 unprepared_end : (words : List (List ℕ)) (old mid new : Content) (before now : ℕ) (why : Ending)
     (s : Status)
@@ -155,12 +155,12 @@ unprepared_end words old mid new before now why s is same devices e = record {
       ∙ ap (λ n. device_at n name) same.now)) e;
   heard = λ done t task limit start from. absurd
       (not_done (status_of why) (unplayed words old before now why is)
-      (sym done ∙ e.status_is (done_not_outside s done) (done_not_memory s done)));
+      (sym done ∙ e.due.status_is (done_not_outside s done) (done_not_memory s done)));
   heard_explained = λ done r. absurd
       (not_done (status_of why) (unplayed words old before now why is)
-      (sym done ∙ e.status_is (done_not_outside s done) (done_not_memory s done)));
-  unheard = λ none other. e.script ∙ same.script;
-  unheard_wrong = λ wrong. e.script ∙ same.script;
+      (sym done ∙ e.due.status_is (done_not_outside s done) (done_not_memory s done)));
+  unheard = λ none other. e.words.script ∙ same.script;
+  unheard_wrong = λ wrong. e.words.script ∙ same.script;
 }
 
 unprepared_due : (words : List (List ℕ)) (old mid new : Content) (before now : ℕ) (why : Ending)
@@ -171,8 +171,8 @@ unprepared_due words old mid new before now why s is e due can outside = by_due 
   where
     -- where it isn't refused, there was no memory
     memory : (¬ IsRefused words old.aside.texts why) → s ≡ status.Memory
-    memory never = unprepared_memory words old.aside.texts before now why s is never e.status_is
-        e.fault outside
+    memory never = unprepared_memory words old.aside.texts before now why s is never e.due.status_is
+        e.due.fault outside
 
     by_due : (due : Status) → IsDueStatus words old due → (s ≡ due) ⊎ (s ≡ status.Memory)
     by_due status.Done (inl (t, task, play)) =
@@ -205,7 +205,8 @@ unprepared_due words old mid new before now why s is e due can outside = by_due 
     by_due status.Device (inr (inr un)) =
         inr (memory (worked_not_refused words old.aside.texts un.blocks un.records why un.request))
     by_due status.Refused refused =
-        unprepared_refuses words old.aside.texts before now why s is e.status_is e.fault outside
+        unprepared_refuses words old.aside.texts before now why s is e.due.status_is
+        e.due.fault outside
     by_due status.Memory due = absurd due
     by_due status.Full due = absurd due
     by_due status.Outside due = absurd due
@@ -226,33 +227,33 @@ check_said : (words : List (List ℕ)) (old mid new : Content) (summary : Summar
     → IsSummary words old.aside.texts summary → mid.now.said ≡ old.now.said
     → IsEnded (ending.Accepted summary) mid new s → IsSaid words old new s
 check_said words old mid new summary status.Done is unsaid e =
-    inl (check_done words old mid new summary is unsaid (e.said (λ f. cc) (λ f. cc)))
+    inl (check_done words old mid new summary is unsaid (e.words.said (λ f. cc) (λ f. cc)))
 check_said words old mid new summary status.Memory is unsaid e =
-    inl (memory_says words old mid new (e.memory refl) unsaid
+    inl (memory_says words old mid new (e.words.memory refl) unsaid
     (λ t task. absurd (checked_no_task words old t task (is.0, is.1, is.2, is.3))))
 check_said words old mid new summary status.Outside is unsaid e =
     inl (record {
-      said = check_front words old mid new summary is unsaid (e.cut refl);
+      said = check_front words old mid new summary is unsaid (e.words.cut refl);
       starts = λ t task. absurd
           (checked_no_task words old t task (is.0, is.1, is.2, is.3));
     })
 check_said words old mid new summary status.Refused is unsaid e =
-    absurd (never (e.status_is (λ f. cc) (λ f. cc)))
+    absurd (never (e.due.status_is (λ f. cc) (λ f. cc)))
   where
     never : status.Refused ≡ status.Done → ⊥
     never f = cc
 check_said words old mid new summary status.Script is unsaid e =
-    absurd (never (e.status_is (λ f. cc) (λ f. cc)))
+    absurd (never (e.due.status_is (λ f. cc) (λ f. cc)))
   where
     never : status.Script ≡ status.Done → ⊥
     never f = cc
 check_said words old mid new summary status.Full is unsaid e =
-    absurd (never (e.status_is (λ f. cc) (λ f. cc)))
+    absurd (never (e.due.status_is (λ f. cc) (λ f. cc)))
   where
     never : status.Full ≡ status.Done → ⊥
     never f = cc
 check_said words old mid new summary status.Device is unsaid e =
-    absurd (never (e.status_is (λ f. cc) (λ f. cc)))
+    absurd (never (e.due.status_is (λ f. cc) (λ f. cc)))
   where
     never : status.Device ≡ status.Done → ⊥
     never f = cc
@@ -266,8 +267,8 @@ check_end words old mid new summary s is unsaid unheard e = record {
   heard = λ done t task limit start from. absurd
       (checked_no_task words old t task (is.0, is.1, is.2, is.3));
   heard_explained = λ done r. absurd (checked_not_explained words old (is.0, is.1, is.2, is.3) r);
-  unheard = λ none other. e.script ∙ unheard;
-  unheard_wrong = λ wrong. e.script ∙ unheard;
+  unheard = λ none other. e.words.script ∙ unheard;
+  unheard_wrong = λ wrong. e.words.script ∙ unheard;
 }
 
 pub check_due : (words : List (List ℕ)) (old mid new : Content) (summary : Summary) (s : Status)
@@ -278,7 +279,7 @@ check_due words old mid new summary s is e due can outside = by_due due can
     by_due : (due : Status) → IsDueStatus words old due → (s ≡ due) ⊎ (s ≡ status.Memory)
     by_due status.Done (inl (t, task, play)) =
         absurd (checked_no_task words old t task (is.0, is.1, is.2, is.3))
-    by_due status.Done (inr (inl checkable)) = said_complete s e.status_is outside
+    by_due status.Done (inr (inl checkable)) = said_complete s e.due.status_is outside
     by_due status.Done (inr (inr (inr (inl (r, text, ends))))) =
         absurd (checked_not_explained words old (is.0, is.1, is.2, is.3) r)
     by_due status.Done (inr (inr (inr (inr (inl sound))))) =

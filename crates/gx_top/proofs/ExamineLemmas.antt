@@ -39,7 +39,8 @@ use Rattle.gx_top.specs.Found.{IsTold}
 use Rattle.gx_top.specs.Inspected.{IsToInspect, inspected, IsStoredOn, LeavesInspected, LeavesInspectedBy}
 use Rattle.gx_top.proofs.StoredLemmas.{same_internal}
 use Rattle.gx_top.proofs.StayLemmas.{devices_same, ReadsAlike, reads_itself, reads_between, held_still, unprepared_devices}
-use Rattle.gx_top.proofs.CompleteLemmas.{same_words, had_not_wrong}
+use Rattle.gx_top.proofs.AskedLemmas.{same_words}
+use Rattle.gx_top.proofs.CompleteLemmas.{had_not_wrong}
 use Rattle.gx_operations.proofs.NameLemmas.{other_at}
 use Rattle.gx_top.proofs.RanLemmas.{stays_itself}
 use Rattle.gx_top.proofs.UnopenedLemmas.{IsTried, not_failed, gone, stays}
@@ -200,7 +201,7 @@ module _ (words : List (List ℕ)) (device : List ℕ) (x : Stored) (old middle 
           (tried.attaches.said ∙ ap (λ n. n.said) same.now) s ended
 
       pub unopened_script : new.script ≡ old.script
-      unopened_script = ended.script ∙ tried.attaches.script ∙ same.script
+      unopened_script = ended.words.script ∙ tried.attaches.script ∙ same.script
 
       reads_still : s ≢ status.Outside → ReadsAlike device old new
       reads_still outside =
@@ -209,7 +210,7 @@ module _ (words : List (List ℕ)) (device : List ℕ) (x : Stored) (old middle 
           (record {
             absent = tried.absent;
             alike = tried.kept
-                (not_failed why (λ f. outside (ended.fault f)));
+                (not_failed why (λ f. outside (ended.due.fault f)));
           })
 
       holds_still : s ≢ status.Outside → (limit : Option Limits) (state : State)
@@ -221,7 +222,7 @@ module _ (words : List (List ℕ)) (device : List ℕ) (x : Stored) (old middle 
       unopened_left = record {
         wrong = λ outside r wrong is_wrong. stays Asked device old middle mid new why same.now tried
             devices
-            (not_failed why (λ f. outside (ended.fault f))) wrong
+            (not_failed why (λ f. outside (ended.due.fault f))) wrong
             (wrong_here r wrong (one_inspection words old.aside.texts r Request).devices is_wrong);
         holds = λ outside r limit state held. (
           limit,

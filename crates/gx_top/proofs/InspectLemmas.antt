@@ -129,12 +129,13 @@ module _ (t : Task) (device : List ℕ) (old mid new : Content) (why : Ending)
   front =
       by_uninspected t device old (λ w. IsEnded w mid new status.Outside
       → SaysFront (IsFoundText t device old new) old new) why is
-      (λ wrong found e. cut_front (device_line wrong) (inr (inl (wrong, found, refl))) (e.cut refl))
-      (λ e. cut_front memory_line (inr (inr refl)) (e.cut refl))
+      (λ wrong found e. cut_front (device_line wrong) (inr (inl (wrong, found, refl)))
+      (e.words.cut refl))
+      (λ e. cut_front memory_line (inr (inr refl)) (e.words.cut refl))
       (λ e. (
         memory_line,
         inr (inr refl),
-        (0, e.silent refl ∙ unsaid ∙ sym (append-nil old.now.said)),
+        (0, e.words.silent refl ∙ unsaid ∙ sym (append-nil old.now.said)),
       ))
 
   wrong_said : IsEnded why mid new status.Device → SaysText (IsWrongText t device old) old new
@@ -144,27 +145,27 @@ module _ (t : Task) (device : List ℕ) (old mid new : Content) (why : Ending)
       (λ wrong found e. (
         device_line wrong,
         (wrong, found, refl),
-        e.said (λ f. cc) (λ f. cc)
+        e.words.said (λ f. cc) (λ f. cc)
             ∙ ap (λ s. s ++ device_line wrong) unsaid,
       ))
-      (λ e. memory_device (e.status_is (λ f. cc) (λ f. cc)))
-      (λ e. outside_device (e.status_is (λ f. cc) (λ f. cc)))
+      (λ e. memory_device (e.due.status_is (λ f. cc) (λ f. cc)))
+      (λ e. outside_device (e.due.status_is (λ f. cc) (λ f. cc)))
 
   pub uninspected_row : (s : Status) → IsEnded why mid new s → IsInspectedOr t device old new s
   uninspected_row status.Device e = wrong_said e
-  uninspected_row status.Memory e = e.memory refl ∙ ap (λ s. s ++ memory_line) unsaid
+  uninspected_row status.Memory e = e.words.memory refl ∙ ap (λ s. s ++ memory_line) unsaid
   uninspected_row status.Outside e = front e
   uninspected_row status.Done e =
-      absurd (subst IsStop (sym (e.status_is (λ f. cc) (λ f. cc)))
+      absurd (subst IsStop (sym (e.due.status_is (λ f. cc) (λ f. cc)))
       (uninspected_status t device old why is))
   uninspected_row status.Refused e =
-      absurd (subst IsStop (sym (e.status_is (λ f. cc) (λ f. cc)))
+      absurd (subst IsStop (sym (e.due.status_is (λ f. cc) (λ f. cc)))
       (uninspected_status t device old why is))
   uninspected_row status.Script e =
-      absurd (subst IsStop (sym (e.status_is (λ f. cc) (λ f. cc)))
+      absurd (subst IsStop (sym (e.due.status_is (λ f. cc) (λ f. cc)))
       (uninspected_status t device old why is))
   uninspected_row status.Full e =
-      absurd (subst IsStop (sym (e.status_is (λ f. cc) (λ f. cc)))
+      absurd (subst IsStop (sym (e.due.status_is (λ f. cc) (λ f. cc)))
       (uninspected_status t device old why is))
 
 -- ---- a device that was examined

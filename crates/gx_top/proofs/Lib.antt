@@ -3,6 +3,7 @@ mod TryLemmas
 mod EntryLemmas
 mod RowLemmas
 mod StoredLemmas
+mod AskedLemmas
 mod CompleteLemmas
 mod OnceLemmas
 mod EndLemmas

@@ -31,7 +31,8 @@ use Rattle.gx_play.specs.Say.{SameDevices}
 use Rattle.gx_top.specs.Tasks.{Task, IsTask, IsToPlay}
 use Rattle.gx_top.specs.Tries.{IsAsDue, IsDueStatus}
 use Rattle.gx_requests.specs.Words.{Action, checking, trying, explaining, making, running, inspecting, request_words, IsCount}
-use Rattle.gx_top.proofs.CompleteLemmas.{same_words, one_acceptance, accepted_not_refused, made_not_explained, made_not_inspected, made_not_worked}
+use Rattle.gx_top.proofs.AskedLemmas.{same_words}
+use Rattle.gx_top.proofs.CompleteLemmas.{one_acceptance, accepted_not_refused, made_not_explained, made_not_inspected, made_not_worked}
 use Rattle.gx_top.proofs.StayLemmas.{devices_same, unprepared_devices}
 use Rattle.gx_top.proofs.EndLemmas.{done_not_outside, done_not_memory, unplayed, not_done}
 use Rattle.gx_top.proofs.UnhadLemmas.{IsUnhad}
@@ -182,7 +183,7 @@ no_memory s (inr is) = is
 status_is : (why : Ending) (old new : Content) (s t : Status) → IsEnded why old new s → s ≡ t
     → t ≢ status.Outside → t ≢ status.Memory → status_of why ≡ t
 status_is why old new s t e is outside memory =
-    sym (e.status_is (λ o. outside (sym is ∙ o)) (λ m. memory (sym is ∙ m))) ∙ is
+    sym (e.due.status_is (λ o. outside (sym is ∙ o)) (λ m. memory (sym is ∙ m))) ∙ is
 
 -- no device that may be made can't be
 pub not_both : (specs : List LeafSpec) (device : List ℕ) (count : ℕ) (before : Content)
@@ -255,13 +256,13 @@ module _ (words : List (List ℕ)) (device digits : List ℕ) (count : ℕ) (x :
   made_status : (why : Ending) (s t : Status) → IsEnded why end new s → s ≢ status.Outside
       → status_of why ≡ t
       → (s ≡ t) ⊎ (s ≡ status.Memory)
-  made_status why s t e outside is = said_or_memory s t (λ o m. e.status_is o m ∙ is) outside
+  made_status why s t e outside is = said_or_memory s t (λ o m. e.due.status_is o m ∙ is) outside
 
   memory_only : (why : Ending) (s t : Status) → IsEnded why end new s → s ≢ status.Outside
       → (why ≡ ending.NoMemory) ⊎ (why ≡ ending.Fault) → (s ≡ t) ⊎ (s ≡ status.Memory)
   memory_only why s t e outside (inl is) =
       inr (no_memory s (made_status why s status.Memory e outside (ap status_of is)))
-  memory_only why s t e outside (inr is) = absurd (outside (e.fault is))
+  memory_only why s t e outside (inr is) = absurd (outside (e.due.fault is))
 
   -- the device can be made
   can_due : (why : Ending) (s : Status)

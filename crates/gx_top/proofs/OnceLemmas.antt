@@ -29,7 +29,8 @@ use Rattle.gx_play.specs.Played.{IsPlayText}
 use Rattle.gx_top.specs.Tasks.{Task, IsTask, IsToPlay}
 use Rattle.gx_top.specs.Tries.{IsWholeText, IsUnder, PlayOneScript}
 use Rattle.gx_requests.specs.Words.{Action, checking, trying, explaining, making, running, inspecting, working, request_words, IsCounted}
-use Rattle.gx_top.proofs.CompleteLemmas.{NamesSchema, same_words, one_request, named, not_missing, not_long, text_once, equation_read}
+use Rattle.gx_top.proofs.AskedLemmas.{NamesSchema, same_words, one_request, named, not_missing, not_long, text_once}
+use Rattle.gx_top.proofs.CompleteLemmas.{equation_read}
 
 -- ---- the line of a refusal, from what stands in the texts
 

@@ -124,24 +124,24 @@ module _ (t : Task) (built : Built) (trees : IsBuiltOf t.schema t.definitions bu
   stop_row : (why : Ending) (s : Status) → As (Err why) → IsPlayEnding why → IsEnded why mid new s
       → Row t limit start old new s
   stop_row why status.Done is ends e =
-      absurd (subst IsStopStatus (sym (e.status_is (λ f. cc) (λ f. cc))) (stop_status why ends))
+      absurd (subst IsStopStatus (sym (e.due.status_is (λ f. cc) (λ f. cc))) (stop_status why ends))
   stop_row why status.Refused is ends e =
-      absurd (subst IsStopStatus (sym (e.status_is (λ f. cc) (λ f. cc))) (stop_status why ends))
+      absurd (subst IsStopStatus (sym (e.due.status_is (λ f. cc) (λ f. cc))) (stop_status why ends))
   stop_row why status.Script is ends e =
       stopped_row t.schema t.definitions built limit start (IsLeft t new) trees old mid new why is
-      (e.said (λ f. cc) (λ f. cc)) (sym (e.status_is (λ f. cc) (λ f. cc)))
+      (e.words.said (λ f. cc) (λ f. cc)) (sym (e.due.status_is (λ f. cc) (λ f. cc)))
   stop_row why status.Memory is ends e =
       short_row t.schema t.definitions built limit start (IsLeft t new) trees old mid new why is
-      (never_fault why mid new e) (e.memory refl)
+      (never_fault why mid new e) (e.words.memory refl)
   stop_row why status.Full is ends e =
       full_row t.schema t.definitions built limit start (IsLeft t new) trees old mid new why is
-      (e.said (λ f. cc) (λ f. cc)) (sym (e.status_is (λ f. cc) (λ f. cc)))
+      (e.words.said (λ f. cc) (λ f. cc)) (sym (e.due.status_is (λ f. cc) (λ f. cc)))
   stop_row why status.Outside is ends e =
       front_row t.schema t.definitions built limit start (IsLeft t new) trees old mid new why is
-      e.silent (e.cut refl)
+      e.words.silent (e.words.cut refl)
   stop_row why status.Device is ends e =
       device_unplayed why t (IsLeft t new) built limit start old.script old.now.said mid.now.said is
-      (e.status_is (λ f. cc) (λ f. cc))
+      (e.due.status_is (λ f. cc) (λ f. cc))
 
   row : (played : Result (Unit {0}) Ending) (s : Status) → As played → IfErr played IsPlayEnding
       → IsFinished played mid new s → Row t limit start old new s
@@ -174,7 +174,7 @@ damage_said words old mid new (ending.Device (device_why.Damaged block)) ends e 
       (
         found.1.0,
         behind old.now.said mid.now.said new.now.said found.1.0
-            (device_line (device_why.Damaged block)) found.1.1 (e.said (λ f. cc) (λ f. cc)),
+            (device_line (device_why.Damaged block)) found.1.1 (e.words.said (λ f. cc) (λ f. cc)),
       ),
     )
 damage_said words old mid new (ending.Device device_why.Missing) ends e damaged = absurd ends
@@ -184,16 +184,16 @@ damage_said words old mid new (ending.Device device_why.NoDatabase) ends e damag
 damage_said words old mid new (ending.Device (device_why.OtherEquation place)) ends e damaged =
     absurd ends
 damage_said words old mid new ending.NoMemory ends e damaged =
-    device_memory (e.status_is (λ f. cc) (λ f. cc))
+    device_memory (e.due.status_is (λ f. cc) (λ f. cc))
 damage_said words old mid new ending.Fault ends e damaged =
-    device_outside (e.status_is (λ f. cc) (λ f. cc))
+    device_outside (e.due.status_is (λ f. cc) (λ f. cc))
 damage_said words old mid new ending.Full ends e damaged =
-    absurd (never (e.status_is (λ f. cc) (λ f. cc)))
+    absurd (never (e.due.status_is (λ f. cc) (λ f. cc)))
   where
     never : status.Device ≡ status.Full → ⊥
     never f = cc
 damage_said words old mid new (ending.Line number reason) ends e damaged =
-    absurd (never (e.status_is (λ f. cc) (λ f. cc)))
+    absurd (never (e.due.status_is (λ f. cc) (λ f. cc)))
   where
     never : status.Device ≡ status.Script → ⊥
     never f = cc
@@ -223,7 +223,7 @@ run_unrefused words t old mid new (Ok x) r = never r.finished.0
     never : status.Refused ≡ status.Done → ⊥
     never f = cc
 run_unrefused words t old mid new (Err why) r =
-    subst IsStopStatus (sym (r.finished.status_is (λ f. cc) (λ f. cc)))
+    subst IsStopStatus (sym (r.finished.due.status_is (λ f. cc) (λ f. cc)))
     (stop_status why r.play_ending)
 
 run_said : (words : List (List ℕ)) (t : Task) (old mid new : Content)
@@ -251,7 +251,7 @@ run_heard words t old mid new (Ok x) s r done limit start from =
     ap (λ (c : Content). c.script) r.finished.1 ∙ r.heard limit start from refl
 run_heard words t old mid new (Err why) s r done limit start from =
     absurd (subst IsStopStatus
-    (sym (r.finished.status_is (done_not_outside s done) (done_not_memory s done))
+    (sym (r.finished.due.status_is (done_not_outside s done) (done_not_memory s done))
     ∙ done) (stop_status why r.play_ending))
 
 pub run_end : (words : List (List ℕ)) (t : Task) (old mid new : Content)

@@ -16,7 +16,7 @@ use Rattle.gx_top.specs.Devices.{IsWrong, IsBefore}
 use Rattle.gx_top.specs.Ran.{StaysWrong, LeavesRun, LeavesRunBy}
 use Rattle.gx_play.specs.Say.{SameDevices}
 use Rattle.gx_requests.specs.Words.{Action, checking, trying, explaining, making, running, inspecting, request_words}
-use Rattle.gx_top.proofs.CompleteLemmas.{same_words}
+use Rattle.gx_top.proofs.AskedLemmas.{same_words}
 use Rattle.gx_top.proofs.PlayedLemmas.{IsStopStatus, stop_status}
 use Rattle.gx_top.proofs.StayLemmas.{devices_same, unprepared_devices}
 use Rattle.gx_operations.proofs.NameLemmas.{other_at}
@@ -31,24 +31,25 @@ finish_unrefused (Ok x) mid new ends e = never e.0
     never : status.Refused ≡ status.Done → ⊥
     never f = cc
 finish_unrefused (Err why) mid new ends e =
-    subst IsStopStatus (sym (e.status_is (λ f. cc) (λ f. cc))) (stop_status why ends)
+    subst IsStopStatus (sym (e.due.status_is (λ f. cc) (λ f. cc))) (stop_status why ends)
 
 refused_device : status.Refused ≡ status.Device → ⊥
 refused_device f = cc
 
 pub unopened_unrefused : (why : Unopened) (mid new : Content)
     → IsEnded (unopened_ending why) mid new status.Refused → ⊥
-unopened_unrefused unopened.Missing mid new e = refused_device (e.status_is (λ f. cc) (λ f. cc))
-unopened_unrefused unopened.Exists mid new e = refused_device (e.status_is (λ f. cc) (λ f. cc))
-unopened_unrefused unopened.Size mid new e = refused_device (e.status_is (λ f. cc) (λ f. cc))
-unopened_unrefused unopened.NoDatabase mid new e = refused_device (e.status_is (λ f. cc) (λ f. cc))
+unopened_unrefused unopened.Missing mid new e = refused_device (e.due.status_is (λ f. cc) (λ f. cc))
+unopened_unrefused unopened.Exists mid new e = refused_device (e.due.status_is (λ f. cc) (λ f. cc))
+unopened_unrefused unopened.Size mid new e = refused_device (e.due.status_is (λ f. cc) (λ f. cc))
+unopened_unrefused unopened.NoDatabase mid new e =
+    refused_device (e.due.status_is (λ f. cc) (λ f. cc))
 unopened_unrefused (unopened.OtherTexts place) mid new e =
-    refused_device (e.status_is (λ f. cc) (λ f. cc))
-unopened_unrefused unopened.Fault mid new e = never (e.status_is (λ f. cc) (λ f. cc))
+    refused_device (e.due.status_is (λ f. cc) (λ f. cc))
+unopened_unrefused unopened.Fault mid new e = never (e.due.status_is (λ f. cc) (λ f. cc))
   where
     never : status.Refused ≡ status.Outside → ⊥
     never f = cc
-unopened_unrefused unopened.NoMemory mid new e = never (e.status_is (λ f. cc) (λ f. cc))
+unopened_unrefused unopened.NoMemory mid new e = never (e.due.status_is (λ f. cc) (λ f. cc))
   where
     never : status.Refused ≡ status.Memory → ⊥
     never f = cc

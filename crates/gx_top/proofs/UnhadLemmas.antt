@@ -87,14 +87,14 @@ unhad_front words old mid new why is unsaid =
     by_unhad words old (λ w. IsEnded w mid new status.Outside
     → SaysFront (IsOtherText words old) old new) why is
     (λ blocks pages make pages_are e. other_front words old mid new (made_line blocks pages)
-    (inr (inr (inl (made_done words old blocks pages make pages_are)))) unsaid (e.cut refl))
+    (inr (inr (inl (made_done words old blocks pages make pages_are)))) unsaid (e.words.cut refl))
     (λ wrong device early e. other_front words old mid new (device_line wrong)
-    (inr (inr (inr (wrong, device, refl)))) unsaid (e.cut refl))
-    (λ e. other_front words old mid new memory_line (inr (inl refl)) unsaid (e.cut refl))
+    (inr (inr (inr (wrong, device, refl)))) unsaid (e.words.cut refl))
+    (λ e. other_front words old mid new memory_line (inr (inl refl)) unsaid (e.words.cut refl))
     (λ e. (
       memory_line,
       inr (inl refl),
-      (0, e.silent refl ∙ unsaid ∙ sym (append-nil old.now.said)),
+      (0, e.words.silent refl ∙ unsaid ∙ sym (append-nil old.now.said)),
     ))
 
 -- the status of such an ending
@@ -149,11 +149,11 @@ unhad_done words old mid new why is unsaid =
     (λ blocks pages make pages_are e. (
       made_line blocks pages,
       made_done words old blocks pages make pages_are,
-      e.said (λ f. cc) (λ f. cc) ∙ ap (λ t. t ++ made_line blocks pages) unsaid,
+      e.words.said (λ f. cc) (λ f. cc) ∙ ap (λ t. t ++ made_line blocks pages) unsaid,
     ))
-    (λ wrong device early e. no_done (e.status_is (λ f. cc) (λ f. cc)))
-    (λ e. done_memory (e.status_is (λ f. cc) (λ f. cc)))
-    (λ e. done_outside (e.status_is (λ f. cc) (λ f. cc)))
+    (λ wrong device early e. no_done (e.due.status_is (λ f. cc) (λ f. cc)))
+    (λ e. done_memory (e.due.status_is (λ f. cc) (λ f. cc)))
+    (λ e. done_outside (e.due.status_is (λ f. cc) (λ f. cc)))
 
 abbrev pub SaysDevice : List (List ℕ) → Content → Content → Type 0
 SaysDevice words old new = (wrong : DeviceWhy) × IsWrong words old wrong × SaysWrong wrong old new
@@ -163,15 +163,15 @@ unhad_device : (words : List (List ℕ)) (old mid new : Content) (why : Ending)
     → mid.now.said ≡ old.now.said → IsEnded why mid new status.Device → SaysDevice words old new
 unhad_device words old mid new why is unsaid =
     by_unhad words old (λ w. IsEnded w mid new status.Device → SaysDevice words old new) why is
-    (λ blocks pages make pages_are e. no_done (sym (e.status_is (λ f. cc) (λ f. cc))))
+    (λ blocks pages make pages_are e. no_done (sym (e.due.status_is (λ f. cc) (λ f. cc))))
     (λ wrong device early e. (
       wrong,
       device,
       before_says wrong old new early
-          (e.said (λ f. cc) (λ f. cc) ∙ ap (λ t. t ++ device_line wrong) unsaid),
+          (e.words.said (λ f. cc) (λ f. cc) ∙ ap (λ t. t ++ device_line wrong) unsaid),
     ))
-    (λ e. device_memory (e.status_is (λ f. cc) (λ f. cc)))
-    (λ e. device_outside (e.status_is (λ f. cc) (λ f. cc)))
+    (λ e. device_memory (e.due.status_is (λ f. cc) (λ f. cc)))
+    (λ e. device_outside (e.due.status_is (λ f. cc) (λ f. cc)))
 
 -- unless a call failed, the device on which a script was to be played holds the states that it held
 abbrev Starts : List (List ℕ) → Content → Content → Ending → Type 0
@@ -193,12 +193,12 @@ unhad_starts words old mid new why is unsaid starts recovered e t task =
     (λ blocks pages make pages_are from ended. inl (from (λ f. cc) t task))
     (λ wrong device early from ended. inl (from (λ f. cc) t task))
     (λ from ended. inl (from (λ f. cc) t task))
-    (λ from ended. inr (ended.silent refl ∙ unsaid, recovered t task))
+    (λ from ended. inr (ended.words.silent refl ∙ unsaid, recovered t task))
     starts e
 
 pub never_fault : (why : Ending) (mid new : Content) → IsEnded why mid new status.Memory
     → why ≢ ending.Fault
-never_fault why mid new e f = never (e.fault f)
+never_fault why mid new e f = never (e.due.fault f)
   where
     never : status.Memory ≡ status.Outside → ⊥
     never g = cc
@@ -210,7 +210,8 @@ unhad_said : (words : List (List ℕ)) (old mid new : Content) (why : Ending) (s
 unhad_said words old mid new why status.Done is unsaid starts recovered e =
     inl (unhad_done words old mid new why is unsaid e)
 unhad_said words old mid new why status.Memory is unsaid starts recovered e =
-    inl (memory_says words old mid new (e.memory refl) unsaid (starts (never_fault why mid new e)))
+    inl (memory_says words old mid new (e.words.memory refl) unsaid
+    (starts (never_fault why mid new e)))
 unhad_said words old mid new why status.Outside is unsaid starts recovered e =
     inl (record {
       said = unhad_front words old mid new why is unsaid e;
@@ -220,13 +221,13 @@ unhad_said words old mid new why status.Outside is unsaid starts recovered e =
 unhad_said words old mid new why status.Device is unsaid starts recovered e =
     inl (unhad_device words old mid new why is unsaid e)
 unhad_said words old mid new why status.Script is unsaid starts recovered e =
-    absurd (subst IsUnhadStatus (sym (e.status_is (λ f. cc) (λ f. cc)))
+    absurd (subst IsUnhadStatus (sym (e.due.status_is (λ f. cc) (λ f. cc)))
     (unhad_status words old why is))
 unhad_said words old mid new why status.Refused is unsaid starts recovered e =
-    absurd (subst IsUnhadStatus (sym (e.status_is (λ f. cc) (λ f. cc)))
+    absurd (subst IsUnhadStatus (sym (e.due.status_is (λ f. cc) (λ f. cc)))
     (unhad_status words old why is))
 unhad_said words old mid new why status.Full is unsaid starts recovered e =
-    absurd (subst IsUnhadStatus (sym (e.status_is (λ f. cc) (λ f. cc)))
+    absurd (subst IsUnhadStatus (sym (e.due.status_is (λ f. cc) (λ f. cc)))
     (unhad_status words old why is))
 
 -- where the script was to be played, nothing is done
@@ -236,9 +237,9 @@ unhad_undone : (words : List (List ℕ)) (old mid new : Content) (why : Ending) 
 unhad_undone words old mid new why t is task =
     by_unhad words old (λ w. IsEnded w mid new status.Done → ⊥) why is
     (λ blocks pages make pages_are e. made_no_task words old.aside.texts t blocks task make)
-    (λ wrong device early e. no_done (e.status_is (λ f. cc) (λ f. cc)))
-    (λ e. done_memory (e.status_is (λ f. cc) (λ f. cc)))
-    (λ e. done_outside (e.status_is (λ f. cc) (λ f. cc)))
+    (λ wrong device early e. no_done (e.due.status_is (λ f. cc) (λ f. cc)))
+    (λ e. done_memory (e.due.status_is (λ f. cc) (λ f. cc)))
+    (λ e. done_outside (e.due.status_is (λ f. cc) (λ f. cc)))
 
 unhad_unexplained : (words : List (List ℕ)) (old mid new : Content) (why : Ending)
     → IsUnhad words old why
@@ -246,9 +247,9 @@ unhad_unexplained : (words : List (List ℕ)) (old mid new : Content) (why : End
 unhad_unexplained words old mid new why is r =
     by_unhad words old (λ w. IsEnded w mid new status.Done → ⊥) why is
     (λ blocks pages make pages_are e. made_not_explained words old.aside.texts blocks make r)
-    (λ wrong device early e. no_done (e.status_is (λ f. cc) (λ f. cc)))
-    (λ e. done_memory (e.status_is (λ f. cc) (λ f. cc)))
-    (λ e. done_outside (e.status_is (λ f. cc) (λ f. cc)))
+    (λ wrong device early e. no_done (e.due.status_is (λ f. cc) (λ f. cc)))
+    (λ e. done_memory (e.due.status_is (λ f. cc) (λ f. cc)))
+    (λ e. done_outside (e.due.status_is (λ f. cc) (λ f. cc)))
 
 pub unhad_end : (words : List (List ℕ)) (old mid new : Content) (why : Ending) (s : Status)
     → IsUnhad words old why → mid.now.said ≡ old.now.said → mid.script ≡ old.script
@@ -261,8 +262,8 @@ unhad_end words old mid new why s is unsaid unheard starts recovered e = record 
       (unhad_unexplained words old mid new why is r (subst (IsEnded why mid new) done e));
   heard = λ done t task limit start from. absurd
       (unhad_undone words old mid new why t is task (subst (IsEnded why mid new) done e));
-  unheard = λ none other. e.script ∙ unheard;
-  unheard_wrong = λ wrong. e.script ∙ unheard;
+  unheard = λ none other. e.words.script ∙ unheard;
+  unheard_wrong = λ wrong. e.words.script ∙ unheard;
 }
 
 -- of a script that was to be played, where its device wasn't had, there was no memory for its line,
@@ -280,9 +281,9 @@ unhad_memory words old mid new why s t is task =
     (λ blocks pages make pages_are e outside. absurd
     (made_no_task words old.aside.texts t blocks task make))
     (λ wrong device early e outside. inr
-    (device_or_memory s e.status_is outside, (wrong, device, early)))
-    (λ e outside. inl (memory_or s e.status_is outside))
-    (λ e outside. absurd (outside (e.fault refl)))
+    (device_or_memory s e.due.status_is outside, (wrong, device, early)))
+    (λ e outside. inl (memory_or s e.due.status_is outside))
+    (λ e outside. absurd (outside (e.due.fault refl)))
   where
     device_or_memory : (s : Status) → (s ≢ status.Outside → s ≢ status.Memory → s ≡ status.Device)
         → s ≢ status.Outside → (s ≡ status.Device) ⊎ (s ≡ status.Memory)

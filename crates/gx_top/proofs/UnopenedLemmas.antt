@@ -151,7 +151,7 @@ module _ (words : List (List ℕ)) (device : List ℕ) (x : Stored) (old middle 
   unopened_left mid new why tried devices s ended = record {
     wrong = λ outside wrong is_wrong. stays Asked device old middle mid new why same.now tried
         devices
-        (not_failed why (λ f. outside (ended.fault f))) wrong (wrong_here wrong is_wrong);
+        (not_failed why (λ f. outside (ended.due.fault f))) wrong (wrong_here wrong is_wrong);
     missing = gone Asked device old middle mid new why same.now tried devices;
     devices = record {
       refused = λ e. absurd (unopened_unrefused why mid new

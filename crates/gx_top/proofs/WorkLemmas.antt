@@ -37,7 +37,8 @@ use Rattle.gx_top.specs.Tries.{IsSaid, IsOutcome, IsDueStatus, IsAsDue}
 use Rattle.gx_top.proofs.EntryLemmas.{full_by_state}
 use Rattle.gx_top.proofs.StayLemmas.{devices_same, unprepared_devices}
 use Rattle.gx_top.proofs.MakeLemmas.{not_both}
-use Rattle.gx_top.proofs.CompleteLemmas.{same_words, one_acceptance, task_not_worked, checked_not_worked, made_not_worked, explained_not_worked, inspected_not_worked, wrong_not_worked, worked_not_refused}
+use Rattle.gx_top.proofs.AskedLemmas.{same_words}
+use Rattle.gx_top.proofs.CompleteLemmas.{one_acceptance, task_not_worked, checked_not_worked, made_not_worked, explained_not_worked, inspected_not_worked, wrong_not_worked, worked_not_refused}
 
 -- ---- what was said of the workload, or that there was no memory
 
@@ -225,7 +226,8 @@ device_left x device count records middle mid new (Ok line) s is (inr told) e =
     never : {A : Type 0} → status.Device ≡ status.Outside → A
     never f = absurd (let g : ⊥ = cc in g)
 device_left x device count records middle mid new (Err why) s is told e =
-    by_why why is (sym (told.status_is (λ f. not_outside (sym e ∙ f)) (λ f. not_memory (sym e ∙ f)))
+    by_why why is
+    (sym (told.due.status_is (λ f. not_outside (sym e ∙ f)) (λ f. not_memory (sym e ∙ f)))
     ∙ e)
   where
     not_outside : status.Device ≡ status.Outside → ⊥
@@ -264,7 +266,7 @@ told_unrefused x device count records middle mid new (Ok line) is (inr told) = n
     never : status.Refused ≡ status.Outside → ⊥
     never f = cc
 told_unrefused x device count records middle mid new (Err why) is told =
-    by_why why is (told.status_is (λ f. cc) (λ f. cc))
+    by_why why is (told.due.status_is (λ f. cc) (λ f. cc))
   where
     by_why : (why : Ending) → IsWorking x device count records middle mid (Err why)
         → status.Refused ≡ status_of why → ⊥
@@ -412,18 +414,24 @@ module _ (words : List (List ℕ)) (device digits number : List ℕ) (count reco
         → (new.now.said ≡ mid.now.said ++ ending_line why → Row (status_of why))
         → IsEnded why mid new s
         → Row s
-    ended why status.Outside found main e = cut_front (ending_line why) found (e.cut refl)
-    ended why status.Memory found main e = e.memory refl ∙ ap (λ s. s ++ memory_line) said_before
+    ended why status.Outside found main e = cut_front (ending_line why) found (e.words.cut refl)
+    ended why status.Memory found main e = e.words.memory refl
+        ∙ ap (λ s. s ++ memory_line) said_before
     ended why status.Done found main e =
-        subst Row (sym (e.status_is (λ f. cc) (λ f. cc))) (main (e.said (λ f. cc) (λ f. cc)))
+        subst Row (sym (e.due.status_is (λ f. cc) (λ f. cc)))
+        (main (e.words.said (λ f. cc) (λ f. cc)))
     ended why status.Refused found main e =
-        subst Row (sym (e.status_is (λ f. cc) (λ f. cc))) (main (e.said (λ f. cc) (λ f. cc)))
+        subst Row (sym (e.due.status_is (λ f. cc) (λ f. cc)))
+        (main (e.words.said (λ f. cc) (λ f. cc)))
     ended why status.Script found main e =
-        subst Row (sym (e.status_is (λ f. cc) (λ f. cc))) (main (e.said (λ f. cc) (λ f. cc)))
+        subst Row (sym (e.due.status_is (λ f. cc) (λ f. cc)))
+        (main (e.words.said (λ f. cc) (λ f. cc)))
     ended why status.Full found main e =
-        subst Row (sym (e.status_is (λ f. cc) (λ f. cc))) (main (e.said (λ f. cc) (λ f. cc)))
+        subst Row (sym (e.due.status_is (λ f. cc) (λ f. cc)))
+        (main (e.words.said (λ f. cc) (λ f. cc)))
     ended why status.Device found main e =
-        subst Row (sym (e.status_is (λ f. cc) (λ f. cc))) (main (e.said (λ f. cc) (λ f. cc)))
+        subst Row (sym (e.due.status_is (λ f. cc) (λ f. cc)))
+        (main (e.words.said (λ f. cc) (λ f. cc)))
 
     not_played : (why : Ending) (s : Status) → IsWorking x device count records middle mid (Err why)
         → IsEnded why mid new s → Row s
@@ -445,10 +453,10 @@ module _ (words : List (List ℕ)) (device digits number : List ℕ) (count reco
         ended ending.NoMemory s (inr (inr (inr refl))) (λ said. said
         ∙ ap (λ t. t ++ memory_line) said_before) e
     not_played ending.Fault s is e =
-        subst Row (sym (e.fault refl)) (
+        subst Row (sym (e.due.fault refl)) (
           memory_line,
           inr (inr (inr refl)),
-          (0, e.silent refl ∙ said_before ∙ sym (append-nil old.now.said)),
+          (0, e.words.silent refl ∙ said_before ∙ sym (append-nil old.now.said)),
         )
     not_played ending.Words s is e = absurd is
     not_played (ending.Missing name) s is e = absurd is
@@ -549,7 +557,7 @@ module _ (words : List (List ℕ)) (device digits number : List ℕ) (count reco
     memory_left (Ok line) is (inr told) none blocks there =
         absurd (let e : status.Memory ≡ status.Outside = told.0 in cc)
     memory_left (Err why) is told none blocks there =
-        first_by why is (λ f. let e : status.Memory ≡ status.Outside = told.fault f in
+        first_by why is (λ f. let e : status.Memory ≡ status.Outside = told.due.fault f in
         cc) none blocks there
 
     pub work_left : Attaches device middle mid → KeepsDevice device middle mid

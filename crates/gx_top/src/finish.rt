@@ -3,7 +3,7 @@ ghost use Rattle.std.specs.Prelude.{◌≡◌, ◌≢◌, ◌≤◌, ◌⊎◌, 
 ghost use Rattle.gx_device.specs.Content.{Content, SameContent};
 ghost use Rattle.gx_device.specs.Faults.{Rose};
 ghost use Rattle.gx_play.specs.Say.{OnlySays, SameDevices};
-ghost use Rattle.gx_play.specs.Endings.{IsFinished, CountsOutside, is_fault, status_of};
+ghost use Rattle.gx_play.specs.Endings.{IsFinished, IsStatusFor, CountsOutside, is_fault};
 ghost use Rattle.gx_requests.specs.Requests.{IsUnprepared};
 ghost use Rattle.gx_top.specs.Found.{IsTold};
 ghost use Rattle.gx_top.specs.Fulfilled.{IsAnswered};
@@ -20,9 +20,7 @@ pub fn refuse<M: Machine>(alloc: Global, ending: Ending<'_>, machine: M) -> (Sta
         SameContent old (M.content machine) →
         IsUnprepared words old.aside.texts before now ending.entry →
         IsAnswered words old (M.content result.1) result.0 }
-    ensures status { result.0 ≢ Status.Outside → result.0 ≢ Status.Memory →
-        result.0 ≡ status_of ending.entry }
-    ensures fault { ending.entry ≡ Ending.Fault → result.0 ≡ Status.Outside }
+    ensures due { IsStatusFor ending.entry result.0 }
     ensures devices { SameDevices (M.content machine) (M.content result.1) }
     ensures outside { result.0 ≡ Status.Outside →
         (ending.entry ≡ Ending.Fault) ⊎ Rose (M.faults machine) (M.faults result.1) }

@@ -18,4 +18,5 @@ returns-in-Err-clause-said g c = λ told.
     end_said c.args.schema.now (fields_in c.args.schema.now c.args.built.now.files) old mid new
     c.in-Err.why
     c.end.result (c.in-Err.ensures.said told)
-    (subst (λ w. IsEnded w mid new c.end.result) c.from.ensures (c.end.ensures.ended told))
+    (subst (λ w. IsEnded w mid new c.end.result) c.from.ensures
+    (record { due = c.end.ensures.due; words = c.end.ensures.words told }))

@@ -19,7 +19,7 @@ returns-in-Ok-clause-answered g c = λ told.
     ((c.in-Ok.ensures.accepted told).ready words checking (tt, refl))
     c.summarize-summary.ensures in
     let ended : IsEnded (ending.Accepted c.summarize-summary.result) mid new c.end.result =
-    c.end.ensures.ended told in
+    record { due = c.end.ensures.due; words = c.end.ensures.words told } in
     record {
       said = check_end words old mid new c.summarize-summary.result c.end.result is
           (ap (λ n. n.said) same.now)
@@ -36,7 +36,7 @@ returns-in-Err-clause-answered g c = λ told.
     ((c.in-Err.ensures.accepted told).unprepared words checking (tt, refl))
     c.in-Err.ensures.fetches.same
     c.end-in-Err.ensures.devices
-    (c.end-in-Err.ensures.ended told)
+    (record { due = c.end-in-Err.ensures.due; words = c.end-in-Err.ensures.words told })
 
 pub returns-in-Ok-clause-shelf : goal.returns-in-Ok-clause-shelf
 returns-in-Ok-clause-shelf g c = c.end.ensures.devices.shelf

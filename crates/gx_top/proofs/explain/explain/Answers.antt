@@ -31,7 +31,7 @@ returns-in-Err-clause-answered g c = λ told.
     ((c.in-Err.ensures.prepared told).unprepared words explaining (tt, refl))
     c.in-Err.ensures.fetches.same
     c.end.ensures.devices
-    (c.end.ensures.ended told)
+    (record { due = c.end.ensures.due; words = c.end.ensures.words told })
 
 pub returns-in-Ok-clause-shelf : goal.returns-in-Ok-clause-shelf
 returns-in-Ok-clause-shelf g c = c.explain_script.ensures.shelf

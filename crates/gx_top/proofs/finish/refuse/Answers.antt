@@ -6,4 +6,4 @@ returns-clause-answered g c = λ told words old before now same why.
     unprepared_answered words old (g.M.Device.content c.args.machine)
     (g.M.Device.content c.end-status.new.machine)
     before now _ c.end-status.result why same c.end-status.ensures.devices
-    (c.end-status.ensures.ended told)
+    (record { due = c.end-status.ensures.due; words = c.end-status.ensures.words told })

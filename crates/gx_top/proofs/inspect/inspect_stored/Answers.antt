@@ -97,7 +97,7 @@ returns-in-Err-clause-fulfilled g c = λ can words old same stored.
       recovered = c.in-Err.ensures.recovered can;
     } in
     let ended = subst (λ w. IsEnded w mid after c.end-status.result) c.unopened_ending.ensures
-    (c.end-status.ensures.ended can.told) in
+    (record { due = c.end-status.ensures.due; words = c.end-status.ensures.words can.told }) in
     let row : InspectsOr words old after c.end-status.result = (
       Request words c.args.device.now x old middle
           stored same,

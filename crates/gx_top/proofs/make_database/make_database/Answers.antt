@@ -27,7 +27,7 @@ returns-in-Ok-clause-fulfilled g c = λ can digits counted.
     let make = to_make words old.aside.texts c.args.device.now digits c.args.blocks x stored counted
     in
     let ended : IsEnded c.make_stored-machine.result.0 after new c.end-status.result =
-    c.end-status.ensures.ended can.told in
+    record { due = c.end-status.ensures.due; words = c.end-status.ensures.words can.told } in
     record {
       answered = record {
         said = unhad_end words old after new why s
@@ -57,5 +57,5 @@ returns-in-Err-clause-fulfilled g c = λ can digits counted.
       left = unprepared_left words c.args.device.now (content c.args.machine)
           (content c.prepare_stored.new.machine)
           (content c.refuse.result.1) _ _ _ c.refuse.result.0 why same.now c.refuse.ensures.devices
-          c.refuse.ensures.status;
+          c.refuse.ensures.due.status_is;
     }

@@ -110,7 +110,7 @@ returns-in-Err-clause-fulfilled g c = λ can words old same stored.
       recovered = c.in-Err.ensures.recovered can;
     } in
     let ended : IsEnded c.unopened_ending.result mid after c.end-status.result =
-    c.end-status.ensures.ended can.told in
+    record { due = c.end-status.ensures.due; words = c.end-status.ensures.words can.told } in
     record {
       answered = record {
         said = unhad_end words old mid after c.unopened_ending.result c.end-status.result
