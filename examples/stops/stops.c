@@ -1,9 +1,10 @@
-/* Put in front of the C library by LD_PRELOAD, it counts calls of a program, and stops it at the one that the variable AT names, counted
-   from 1. The variable STOP says which calls, and how:
+/* Put in front of the C library by LD_PRELOAD, it counts calls of a program, and stops it at the one
+   that the variable AT names, counted from 1. The variable STOP says which calls, and how:
        memory   allocations; the one is refused
        outside  calls of the system for files; the one fails
-       crash    the same calls; the program ends right before the one, and each block that was written since the last sync is as it was
-                before, as it was written, or anything, as the numbers say that begin with the variable SEED
+       crash    the same calls; the program ends right before the one, and each block that was
+                written since the last sync is as it was before, as it was written, or anything,
+                as the numbers say that begin with the variable SEED
    At the end it writes how many there were into the file that the variable COUNT_TO names. */
 #define _GNU_SOURCE
 #include <dlfcn.h>
@@ -73,7 +74,8 @@ static unsigned next_number(void)
     return (unsigned)(numbers >> 33);
 }
 
-/* What the machine may leave of the blocks that no sync has confirmed, from the last one back to the first. */
+/* What the machine may leave of the blocks that no sync has confirmed, from the last one back to the
+   first. */
 static void crash(void)
 {
     unsigned char junk[BLOCK];
