@@ -206,9 +206,13 @@ class Term:
 
     def text(self):
         """The canonical text."""
-        own = [it if isinstance(it, str) else str(it) if isinstance(it, int) else quoted(it) for it in self.own]
-        inner = ([" ".join(own)] if own else []) + [it.text() for it in self.terms]
+        inner = ([" ".join(own_words(self))] if self.own else []) + [it.text() for it in self.terms]
         return f"{self.head}({', '.join(inner)})" if inner else self.head
+
+
+def own_words(term):
+    """The words of a term's own, as they stand in its text."""
+    return [it if isinstance(it, str) else shown(it) for it in term.own]
 
 
 Equation = collections.namedtuple("Equation", "files links leaves roots")
