@@ -5,8 +5,9 @@ on with the rest, and keeps a fault for each thing that isn't as the formats say
 import collections
 import struct
 
-from formats import (BLOCK, ENTRY_LIMIT, ENTRY_PAGE, INDEX_PAGE, INNER_PAGE, KEY_LIMIT, LARGEST, MEMBERS_LIMIT, NO_PAGE,
-                     TABLE_OWNER, TABLE_PAGES, Wrong, entries_of, equation_text, place, schema_text, shown, spaced, width)
+from formats import (BLOCK, ENTRY_LIMIT, ENTRY_PAGE, INDEX_PAGE, INNER_PAGE, KEY_LIMIT, KINDS, LARGEST, MEMBERS_LIMIT,
+                     NO_PAGE, TABLE_OWNER, TABLE_PAGES, Wrong, entries_of, equation_text, place, schema_text, shown,
+                     spaced)
 
 # Where a fault is: a block, or none where each page is whole; then what it is of, and what is wrong.
 Fault = collections.namedtuple("Fault", "block where why")
@@ -143,7 +144,7 @@ class Layout:
         return struct.unpack(">HI", octets[2:8])
 
     def entry_page(self, page, octets, is_root):
-        """The entries and the next page of an entry page."""
+        """The keys and the next page of an entry page. Of two entries with one key the first is kept."""
         head = self.head(page, octets, ENTRY_PAGE, "entry")
         if head is None:
             if not any(octets[2:8]):
@@ -155,29 +156,28 @@ class Layout:
             if len(key) > KEY_LIMIT or len(key) + len(body) > ENTRY_LIMIT:
                 self.fault(page, "an entry is too long")
                 break
+            found.append(key)
             if key in self.keys:
                 self.fault(page, f"the key {spaced(key)} is there twice")
                 continue
             self.keys.add(key)
-            found.append((key, body))
+            self.entries.append((key, body))
         else:
-            if sum(4 + len(key) + len(body) for key, body in entries_of(octets)) > BLOCK - 8 or \
-                    len(list(entries_of(octets))) != head[0]:
+            if len(found) != head[0]:
                 self.fault(page, f"it has no room for {head[0]} entries")
         if not head[0] and not is_root:
             self.fault(page, "it has no entry")
-        self.entries += found
         return found, head[1]
 
     def chain(self, page, origin, roots=()):
-        """The entries of the chain that begins with a page, each with its page."""
+        """The keys of the chain that begins with a page, each with its page."""
         found = []
         while page != NO_PAGE:
             octets = self.take(page, origin)
             if octets is None:
                 break
-            entries, following = self.entry_page(page, octets, page in roots)
-            found += [(page, key) for key, _ in entries]
+            keys, following = self.entry_page(page, octets, page in roots)
+            found += [(page, key) for key in keys]
             page, origin = following, page
         return found
 
@@ -189,7 +189,7 @@ class Layout:
         for number, root in enumerate(roots):
             for page, key in self.chain(root, root, (root,)):
                 if fnv(front(key, is_int)) % self.leaf.roots != number:
-                    self.fault(root, f"page {page} of its chain has the key {spaced(key)}, whose hash names another chain")
+                    self.fault(root, f"page {page} of its chain has the key {spaced(key)} of another chain")
 
     def separators(self, page, octets, at, count, behind, limit):
         """So many separators on a page from a place on, each with the number behind it, which has so many bytes."""
@@ -225,7 +225,7 @@ class Layout:
             end = separators[number] if number < len(separators) else None
             for page, key in self.chain(first, root):
                 if key < least or end is not None and key >= end:
-                    self.fault(first, f"page {page} of its chain has the key {spaced(key)}, which belongs to another bucket")
+                    self.fault(first, f"page {page} of its chain has the key {spaced(key)} of another bucket")
 
     def bplus(self):
         todo = [(self.leaf.root, self.leaf.root, b"", None)]
@@ -235,8 +235,7 @@ class Layout:
             if octets is None:
                 continue
             if octets[0] != INNER_PAGE:
-                entries, following = self.entry_page(page, octets, page == self.leaf.root)
-                keys = [key for key, _ in entries]
+                keys, following = self.entry_page(page, octets, page == self.leaf.root)
                 if following != NO_PAGE:
                     self.fault(page, "an entry page of a tree has a next page")
                 if any(one >= two for one, two in zip(keys, keys[1:])):
@@ -263,7 +262,8 @@ class Database:
         self.check_device()
         owners = device.owners()
         self.check_owners(owners)
-        names = [it.name for it, side in zip(schema.files + schema.links, equation.files + equation.links) for _ in side.leaves()]
+        sides = zip(schema.files + schema.links, equation.files + equation.links)
+        names = [it.name for it, side in sides for _ in side.leaves()]
         for leaf, name in zip(equation.leaves, names):
             layout = Layout(device, owners, leaf, name)
             self.faults += layout.faults
@@ -303,13 +303,14 @@ class Database:
     def check_owners(self, owners):
         for page, owner in enumerate(owners):
             block = self.device.block_of(page)
-            if (owner == TABLE_OWNER) != (page < TABLE_PAGES) or owner != TABLE_OWNER and owner > len(self.equation.leaves):
+            is_known = owner == TABLE_OWNER or owner <= len(self.equation.leaves)
+            if not is_known or (owner == TABLE_OWNER) != (page < TABLE_PAGES):
                 self.faults.append(Fault(block, "the table of owners", f"the owner of page {page} can't be {owner}"))
 
     # The layers, from the leaves up: each term gives the data of its records, by their keys
 
     def undo(self, term):
-        return getattr(self, "undo_" + ("leaf" if term.head in ("heap", "hash", "isam", "bplus") else term.head))(term)
+        return getattr(self, "undo_" + ("leaf" if term.head in KINDS else term.head))(term)
 
     def is_lossy(self, term):
         return any(it.leaf in self.lossy for it in term.leaves())
@@ -430,7 +431,7 @@ class Database:
         for number, (have, want) in enumerate(zip(found, made_of(side.head, pairs))):
             for key in sorted(have.keys() | want.keys()):
                 if have.get(key) != want.get(key):
-                    self.fault(f"{named(key)}: its record in term {number} of the {side.head} is another one than the pairs make")
+                    self.fault(f"{named(key)}: the pairs make another record of term {number} of the {side.head}")
         return pairs
 
     def pair(self, pairs, owner, member):
@@ -468,7 +469,8 @@ def made_of(head, pairs):
     if head == "array":
         return [{(owner,): (key_bytes(members),) for owner, members in owners.items()}]
     if head == "inverted":
-        return [{(owner, member): () for member, owner in pairs.items()}, {(member,): (owner,) for member, owner in pairs.items()}]
+        lists = {(owner, member): () for member, owner in pairs.items()}
+        return [lists, {(member,): (owner,) for member, owner in pairs.items()}]
     ring = {}
     for owner, members in owners.items():
         for member, following in zip(members, members[1:]):

@@ -56,7 +56,8 @@ def text_of(name):
 
 Token = collections.namedtuple("Token", "kind text line")
 BLANKS = re.compile(r"(?:[ \t\r\n]|#[^\n]*)*")
-TOKEN = re.compile(r'(?P<word>[a-z_][a-z0-9_]*)|(?P<number>-?[0-9]+)|(?P<quoted>"(?:[ !#-~]|"")*"(?!"))|(?P<sign>[(),=])')
+TOKEN = re.compile(r'(?P<word>[a-z_][a-z0-9_]*)|(?P<number>-?[0-9]+)'
+                   r'|(?P<quoted>"(?:[ !#-~]|"")*"(?!"))|(?P<sign>[(),=])')
 
 
 def tokens(text, what):
@@ -321,7 +322,8 @@ def give_form(term, keys, data):
     elif head == "partition":
         is_data, number = place(term, own[0])
         field, bounds = (data if is_data else keys)[number], own[1:]
-        suits = [isinstance(it, int) if field.kind == "int" else isinstance(it, bytes) and len(it) <= field.size for it in bounds]
+        kind, most = (int, 0) if field.kind == "int" else (bytes, field.size)
+        suits = [isinstance(it, kind) and (kind is int or len(it) <= most) for it in bounds]
         need(all(suits), "of a bound of another kind")
         need(all(one < two for one, two in zip(bounds, bounds[1:])), "of bounds that don't ascend")
         need(len(terms) == len(bounds) + 1, "of another number of terms than bounds and one")
