@@ -24,18 +24,21 @@ class Wrong(Exception):
 def run(name, main):
     """Ends with the status of a tool's main: 1 where an input is wrong, and 3 where a file can't be had or
     the output is closed, each with a line on standard error."""
+    if sys.stdout is None:
+        print(f"{name}: the output is closed", file=sys.stderr)
+        sys.exit(3)
     try:
         status = main()
         sys.stdout.flush()
     except Wrong as it:
         status = 1
         print(f"{name}: {it}", file=sys.stderr)
-    except BrokenPipeError:
-        status = 3
-        os.dup2(os.open(os.devnull, os.O_WRONLY), sys.stdout.fileno())
     except OSError as it:
         status = 3
-        print(f"{name}: {it.filename or 'the output'}: {it.strerror}", file=sys.stderr)
+        if not isinstance(it, BrokenPipeError):
+            print(f"{name}: {it.filename or 'the output'}: {it.strerror}", file=sys.stderr)
+        # What is still to be written can't be.
+        os.dup2(os.open(os.devnull, os.O_WRONLY), sys.stdout.fileno())
     except KeyboardInterrupt:
         status = 130
     sys.exit(status)
@@ -74,14 +77,21 @@ def tokens(text, what):
         kind = match.lastgroup if match else None
         is_long = kind == "word" and len(match[0]) > 16
         if not match or is_long or kind in ("word", "number") and re.match(r"[A-Za-z0-9_-]", text[match.end():]):
-            raise Wrong(f"{what}: line {line}: no word, number, quoted text or sign: {text[at:at + 20].split()[0]}")
+            raise Wrong(f"{what}: line {line}: no word, number, quoted text or sign: {text[at:at + 16]!a}")
         found.append(Token(kind, match[0], line))
         at = match.end()
 
 
+def number_of(text):
+    """The value of a number; of one with more digits than any place takes a value that none takes either."""
+    digits = text.lstrip("-").lstrip("0") or "0"
+    value = int(digits) if len(digits) <= 20 else 10 ** 20
+    return -value if text.startswith("-") else value
+
+
 def value_of(token):
     """The value of a number, or the bytes of a quoted text."""
-    return int(token.text) if token.kind == "number" else token.text[1:-1].replace('""', '"').encode("latin-1")
+    return number_of(token.text) if token.kind == "number" else token.text[1:-1].replace('""', '"').encode("latin-1")
 
 
 class Words:
@@ -119,9 +129,9 @@ class Words:
 
     def number(self, least, most):
         """A number of this range."""
-        if self.peek().kind == "number" and not least <= int(self.peek().text) <= most:
+        if self.peek().kind == "number" and not least <= number_of(self.peek().text) <= most:
             self.fail(f"a number from {least} to {most} is due")
-        return int(self.take("number").text)
+        return number_of(self.take("number").text)
 
 
 # Schemas
@@ -248,7 +258,8 @@ def read_term(words, depth):
         own.append(words.take("word").text)
         while head != "index" and not words.is_sign(","):
             if head == "partition":
-                own.append(value_of(words.take("number", "quoted")))
+                is_number = words.peek().kind == "number"
+                own.append(words.number(-1 << 63, (1 << 63) - 1) if is_number else value_of(words.take("quoted")))
             else:
                 own.append(words.take("word").text)
         words.sign(",")
