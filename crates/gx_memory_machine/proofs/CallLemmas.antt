@@ -5,7 +5,7 @@ use Rattle.std.specs.Option.{option_map_or}
 use Rattle.std.specs.FinMap.{get}
 use Rattle.std.proofs.lemmas.List.{set-get_or}
 use Rattle.gx_laws.proofs.ListLemmas.{no_flag}
-use Rattle.gx_device.specs.Content.{Moment, Content, Devices, Ticks, OnlyTime, Writes, IsAttached, IsOpened, IsMade, block_of, is_pending, with_named, zero_blocks}
+use Rattle.gx_device.specs.Content.{Moment, Content, Ticks, OnlyTime, Writes, IsAttached, IsOpened, IsMade, block_of, is_pending, devices_of, zero_blocks}
 use Rattle.gx_memory_machine.specs.Log.{with_device, blocks_in}
 use Rattle.gx_memory_machine.specs.Trace.{blocks_given, is_there}
 
@@ -48,32 +48,25 @@ no_blocks : (o : Option (List (List ℕ))) → is_some o ≡ false → o ≡ Non
 no_blocks None is = refl
 no_blocks (Some b) is = absurd (let e : ◌≡◌ {A = Bool} true false = is in cc)
 
--- a device is attached, where none was
+-- a device is attached
 module _ (old new : Content) (given name : List ℕ) (make : Option ℕ) (before : Moment)
     (named : given ≡ name) (was : before ≡ old.now)
     (script : new.script ≡ old.script) (aside : new.aside ≡ old.aside)
-    (none : old.now.shelf.name ≡ None)
-    (now : new.now ≡ with_device before given (blocks_given before.shelf.devices given make))
-    (there : is_there before.shelf.devices given ≡ is_none make) where
-  after : new.now ≡ with_device old.now name (blocks_given old.now.shelf.devices name make)
+    (now : new.now ≡ with_device before given (blocks_given (devices_of before) given make))
+    (there : is_there (devices_of before) given ≡ is_none make) where
+  after : new.now ≡ with_device old.now name (blocks_given (devices_of old.now) name make)
   after = now ∙ (λ i. with_device (was i) (named i)
-      (blocks_given (was i).shelf.devices (named i) make))
+      (blocks_given (devices_of (was i)) (named i) make))
 
-  was_there : is_there old.now.shelf.devices name ≡ is_none make
-  was_there = sym (λ i. is_there (was i).shelf.devices (named i)) ∙ there
+  was_there : is_there (devices_of old.now) name ≡ is_none make
+  was_there = sym (λ i. is_there (devices_of (was i)) (named i)) ∙ there
 
-  all_devices : with_named old.now.shelf.name old.now.blocks old.now.shelf.devices
-      ≡ old.now.shelf.devices
-  all_devices = ap (λ (n : Option (List ℕ)). with_named n old.now.blocks old.now.shelf.devices) none
-
-  is_attached : (blocks : List (List ℕ)) → blocks_given old.now.shelf.devices name make ≡ blocks
+  is_attached : (blocks : List (List ℕ)) → blocks_given (devices_of old.now) name make ≡ blocks
       → IsAttached name blocks old new
   is_attached blocks is =
       let end = after ∙ ap (with_device old.now name) is in
       record {
         blocks_are = ap (λ (m : Moment). m.blocks) end;
-        none_pending = λ n. ap (λ (m : Moment). get_or m.pending n false) end
-            ∙ no_flag (length blocks) n;
         named = ap (λ (m : Moment). m.shelf.name) end;
         others = ap (λ (m : Moment). m.shelf.devices) end;
         said = ap (λ (m : Moment). m.said) end;
@@ -83,17 +76,20 @@ module _ (old new : Content) (given name : List ℕ) (make : Option ℕ) (before
 
   pub is_opened : make ≡ None → IsOpened name old new
   is_opened opens = record {
-    blocks = blocks_in old.now.shelf.devices name;
-    was = ap (λ (d : Devices). get d name) all_devices
-        ∙ some_blocks (get old.now.shelf.devices name)
+    blocks = blocks_in (devices_of old.now) name;
+    was = some_blocks (get (devices_of old.now) name)
         (was_there ∙ ap (λ (o : Option ℕ). is_none o) opens);
-    attached = is_attached (blocks_in old.now.shelf.devices name)
-        (ap (blocks_given old.now.shelf.devices name) opens);
+    attached = is_attached (blocks_in (devices_of old.now) name)
+        (ap (blocks_given (devices_of old.now) name) opens);
   }
 
   pub is_made : (n : ℕ) → make ≡ Some n → IsMade n name old new
   is_made n makes = record {
-    free = ap (λ (d : Devices). get d name) all_devices ∙ no_blocks (get old.now.shelf.devices name)
+    free = no_blocks (get (devices_of old.now) name)
         (was_there ∙ ap (λ (o : Option ℕ). is_none o) makes);
-    attached = is_attached (zero_blocks n) (ap (blocks_given old.now.shelf.devices name) makes);
+    attached = is_attached (zero_blocks n) (ap (blocks_given (devices_of old.now) name) makes);
+    none_pending = λ k.
+        let end = after ∙ ap (λ (o : Option ℕ). with_device old.now name
+        (blocks_given (devices_of old.now) name o)) makes in
+        ap (λ (m : Moment). get_or m.pending k false) end ∙ no_flag (length (zero_blocks n)) k;
   }

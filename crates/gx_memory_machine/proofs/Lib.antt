@@ -1,4 +1,6 @@
 mod NameLemmas
+mod ShelfLemmas
 mod ScriptLemmas
 mod LogLemmas
+mod ReplayLemmas
 mod CallLemmas

@@ -1,10 +1,10 @@
 -- One call more in a log.
-use Rattle.std.proofs.Common.{◌≡◌, ℕ, zero, suc, ◌+◌, ◌<◌, ◌≤◌, ◌^◌, Option, None, Some, Bool, false, List, [], ◌∷◌, ◌++◌, length, drop, set, replicate, refl, sym, ◌∙◌, ap, arith, length-append, length-drop}
-use Rattle.std.proofs.lemmas.List.{take-append-le, drop-append-le, take_all, length-replicate}
+use Rattle.std.proofs.Common.{◌≡◌, ℕ, zero, suc, ◌+◌, ◌<◌, ◌≤◌, ◌^◌, Option, None, Some, Bool, false, List, [], ◌∷◌, ◌++◌, length, take, drop, set, replicate, refl, sym, ◌∙◌, ap, arith, length-append, length-take, length-drop}
+use Rattle.std.proofs.lemmas.List.{take-append-drop, take-append-le, drop-append-le, take_all, length-replicate}
 use Rattle.gx_memory_machine.specs.declared.trace.Step.{Step}
 use Rattle.gx_memory_machine.specs.declared.trace.Step.TheVariants.{Still, Write, Sync, Say, Open, Make}
-use Rattle.gx_device.specs.Content.{Moment, Devices, zero_blocks}
-use Rattle.gx_memory_machine.specs.Trace.{IsTrace, attaching, blocks_given, shelf_of}
+use Rattle.gx_device.specs.Content.{Moment, devices_of, zero_blocks}
+use Rattle.gx_memory_machine.specs.Trace.{IsTrace, AreFew, attaching, blocks_given}
 use Rattle.gx_memory_machine.specs.Names.{by_name}
 use Rattle.gx_memory_machine.proofs.NameLemmas.{get_named}
 use Rattle.std.specs.Global.{Vec}
@@ -19,10 +19,17 @@ advance_front m (Write n) bytes more le = ap (with_block m n) (take-append-le 40
 advance_front m Sync bytes more le = refl
 advance_front m (Say k) bytes more le = ap (with_said m) (take-append-le k bytes more le)
 advance_front m (Open k) bytes more le =
-    ap (λ (b : List ℕ). with_device m b (blocks_in m.shelf.devices b))
+    ap (λ (b : List ℕ). with_device m b (blocks_in (devices_of m) b))
     (take-append-le k bytes more le)
 advance_front m (Make k n) bytes more le =
     ap (λ (b : List ℕ). with_device m b (zero_blocks n)) (take-append-le k bytes more le)
+
+pub advance_own : (m : Moment) (s : Step) (bytes : List ℕ) → uses s ≤ length bytes
+    → advance m s (take (uses s) bytes) ≡ advance m s bytes
+advance_own m s bytes le =
+    sym (advance_front m s (take (uses s) bytes) (drop (uses s) bytes)
+    (omega (arith, length-take (uses s) bytes)))
+    ∙ ap (advance m s) (take-append-drop (uses s) bytes)
 
 -- with one call more, the moment before it is the last earlier one
 pub earlier_push : (m : Moment) (steps : List Step) (s : Step) (bytes more : List ℕ)
@@ -106,16 +113,17 @@ module _ (m now : Moment) (steps new_steps : List Step) (written new_written : L
     (more : List ℕ) (grown : new_steps ≡ steps ++ s ∷ []) (longer : new_written ≡ written ++ more)
     (own : length more ≡ uses s) where
   pub noted : (next : Moment) → advance now s more ≡ next → length next.pending ≡ length next.blocks
-      → length next.blocks < 2 ^ 32
+      → length next.blocks < 2 ^ 32 → AreFew next.shelf.devices
       → IsTrace m new_steps new_written next
-  noted next is flags few =
+  noted next is flags few each_few =
       let p = pushed m s more steps new_steps written new_written whole.total grown longer own in
       record {
         is = sym (p.now ∙ ap (λ (x : Moment). advance x s more) (sym whole.is) ∙ is);
         total = p.counts;
         flags = flags;
         few = few;
-        each_few = whole.each_few;
+        each_few = each_few;
+        start_few = whole.start_few;
       }
 
   pub noted_past : earlier m new_steps new_written ≡ earlier m steps written ++ now ∷ []
@@ -140,16 +148,9 @@ attaching_uses k (Some n) = refl
 
 pub attaching_is : (m : Moment) (name : List ℕ) (make : Option ℕ)
     → advance m (attaching (length name) make) name ≡ with_device m name
-    (blocks_given m.shelf.devices name make)
+    (blocks_given (devices_of m) name make)
 attaching_is m name None =
-    ap (λ (b : List ℕ). with_device m b (blocks_in m.shelf.devices b))
+    ap (λ (b : List ℕ). with_device m b (blocks_in (devices_of m) b))
     (take_all (length name) name (omega arith))
 attaching_is m name (Some n) =
     ap (λ (b : List ℕ). with_device m b (zero_blocks n)) (take_all (length name) name (omega arith))
-
--- where none was attached, all devices stand on the shelf
-pub all_on_shelf : (name : Option (Vec ℕ)) (devices : Devices) → (shelf_of name devices).name ≡ None
-    → (shelf_of name devices).devices ≡ devices
-all_on_shelf None devices none = refl
-all_on_shelf (Some name) devices none =
-    absurd (let e : ◌≡◌ {A = Option (List ℕ)} (Some name.items) None = none in cc)

@@ -1,5 +1,6 @@
 -- What stands under names in an ordered map, seen as a finite map.
-use Rattle.std.proofs.Common.{◌≡◌, ℕ, true, false, List, [], ◌∷◌, map, cond, Some, refl, sym, ap, ◌∙◌}
+use Rattle.std.proofs.Common.{◌≡◌, ℕ, true, false, List, [], ◌∷◌, ◌++◌, map, cond, Some, refl, sym, ap, ◌∙◌, append_assoc}
+use Rattle.std.proofs.lemmas.List.{append-nil}
 use Rattle.std.specs.Option.{option_map}
 use Rattle.std.specs.Ordering.{nat_cmp, eq_by_cmp, match_ordering}
 use Rattle.std.specs.declared.cmp.Ordering.{Ordering}
@@ -62,3 +63,28 @@ module _ {A : Type 0} where
       ∙ sym (fin.get-insert nat_list_cmp_total (by_name es) k.items v.items q
       ∙ ap (cond (eq_by_cmp name_cmp q k.items) (Some v.items))
       (fin.get-from_entries nat_list_cmp_total (map named_entry es) q)))
+
+  -- the entries behind those that are left have been copied
+  pub record Copies (all left copy : List (Vec ℕ × Vec A)) : Type 0 where
+    pub done : List (Vec ℕ × Vec A)
+    pub split : all ≡ left ++ done
+    pub same : by_name copy ≡ by_name done
+
+  pub none_copied : (all copy : List (Vec ℕ × Vec A)) → copy ≡ [] → Copies all all copy
+  none_copied all copy is = record {
+    done = [];
+    split = sym (append-nil all);
+    same = ap by_name is;
+  }
+
+  pub one_copied : (all left rest copy next : List (Vec ℕ × Vec A)) (e : Vec ℕ × Vec A)
+      (k : Vec ℕ) (v : Vec A) → Copies all left copy → left ≡ rest ++ e ∷ []
+      → next ≡ insert_entry (λ x y. name_cmp x.items y.items) copy k v
+      → k.items ≡ e.0.items → v.items ≡ e.1.items → Copies all rest next
+  one_copied all left rest copy next e k v c last is name items = record {
+    done = e ∷ c.done;
+    split = c.split ∙ ap (λ (l : List (Vec ℕ × Vec A)). l ++ c.done) last
+        ∙ append_assoc rest (e ∷ []) c.done;
+    same = ap by_name is ∙ set_named copy k v
+        ∙ (λ i. fin.insert (c.same i) (name i) (items i));
+  }

@@ -16,7 +16,7 @@ pub record Traced : Type 0 where
   pub calls : ℕ
   pub bytes : ℕ
 
--- the device of that name is attached, if one is named
+-- the device of that name is attached, if one is named; what the others have of it is an old copy
 abbrev pub shelf_of : Option (Vec ℕ) → Devices → Shelf
 shelf_of None devices = record { name = None; devices = devices }
 shelf_of (Some name) devices =
@@ -33,7 +33,8 @@ pub record IsTrace (start : Moment) (steps : List Step) (written : List ℕ)
   pub total : length written ≡ total steps
   pub flags : length now.pending ≡ length now.blocks
   pub few : length now.blocks < 2 ^ 32
-  pub each_few : AreFew start.shelf.devices
+  pub each_few : AreFew now.shelf.devices
+  pub start_few : AreFew start.shelf.devices
 
 -- one call more, with so many bytes, after which this stands
 pub record Adds (used : ℕ) (next : Moment) (old new : Traced) : Type 0 where

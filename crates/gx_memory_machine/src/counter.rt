@@ -57,6 +57,12 @@ impl Counter {
         Ok(())
     }
 
+    pub fn calls(&self) -> u32
+        ensures { result ≡ self.now.calls }
+    {
+        self.calls
+    }
+
     pub fn spare_calls(&self) -> u32
         ensures { result ≡ self.now.spare_calls }
     {

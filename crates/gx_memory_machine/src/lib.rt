@@ -3,8 +3,10 @@
 #![tactic(auto)]
 
 mod counter;
+mod crash;
 mod memory;
 mod names;
 mod trace;
 
+pub use crash::Choice;
 pub use memory::MemoryMachine;

@@ -2,14 +2,17 @@
 // fail.
 ghost use Rattle.std.specs.Prelude.{◌≡◌, ◌⊎◌, ◌≤◌, ◌<◌, ◌+◌, ◌^◌, ◌||◌, [], ◌∷◌, ◌++◌, ℕ, not, length, min, max, true, false, IsTrue, Some, None, Ok, IfOk, OnOk, OnErr, IsErrOf, IsSomeAnd, IsSome, is_err, if◌then◌else◌};
 ghost use Rattle.std.specs.FinMap.{insert, get};
+ghost use Rattle.std.specs.List.{list_any};
 ghost use Rattle.gx_device.specs.Content.{Ticks, OnlyTime, Writes, Written, Syncs, NonePending, SameContent, Hears, Listens, Says, Speaks, IsOpened, IsMade, block_of, device_at};
 ghost use Rattle.gx_device.specs.Faults.{Rose, HasCause, Counted, is_fault, is_attach_fault};
 ghost use Rattle.gx_memory_machine.specs.Counts.{fails, called, is_short, is_used_up, fails_itself, is_given, numbered};
+ghost use Rattle.gx_memory_machine.specs.Crash.{moment_at, IsLeft};
 ghost use Rattle.gx_memory_machine.specs.Memory.{empty_machine, content_of, past_after, passed_itself};
 ghost use Rattle.gx_device.specs.declared.device.TheConstants.{BLOCK_LEN};
 
 use crate::counter::Counter;
-use crate::names::find;
+use crate::crash::Choice;
+use crate::names::{copied_map, find};
 use crate::trace::Trace;
 use gx_device::{AttachStop, BLOCK_LEN, Device, Failed, FetchStop, Machine, NoMemory};
 use std::alloc::Global;
@@ -33,7 +36,7 @@ pub struct MemoryMachine {
 }
 
 impl Model for MemoryMachine {
-    ghost use Rattle.std.specs.Prelude.{◌≤◌, drop, vec_len};
+    ghost use Rattle.std.specs.Prelude.{◌≡◌, ◌≤◌, drop, length, vec_len};
     ghost use Rattle.std.specs.Coded.{codes};
     ghost use Rattle.gx_device.specs.Content.{coded_texts, coded_devices};
     ghost use Rattle.gx_memory_machine.specs.Memory.{Memory, texts_of};
@@ -50,9 +53,10 @@ impl Model for MemoryMachine {
       counts = m.counter;
     } };
 
-    // There is room for the spare calls and their bytes.
+    // There is room for the spare calls and their bytes, and each call with a number took a moment.
     ghost invariant = { λ m. (m.heard ≤ vec_len m.script)
-        × (m.counter.spare_calls ≤ m.trace.calls) × (m.counter.spare_bytes ≤ m.trace.bytes) };
+        × (m.counter.spare_calls ≤ m.trace.calls) × (m.counter.spare_bytes ≤ m.trace.bytes)
+        × (length m.trace.past ≡ m.counter.calls) };
 }
 
 impl MemoryMachine {
@@ -128,6 +132,39 @@ impl MemoryMachine {
     {
         self.trace.said()
     }
+
+    /// The clock: how many moments went by. Each call with a number took one.
+    pub fn moments(&self) -> u32
+        ensures { result ≡ length self.now.past }
+    {
+        self.counter.calls()
+    }
+
+    /// What a crash at a moment leaves: a machine with the same texts and all devices of that
+    /// moment. The device that was attached holds each block that wasn't pending as it read, and
+    /// each other one as chosen. No device is attached, and there is no script, said byte, fault,
+    /// call or room. The moment is at most `moments()`: 0 is before the first call, and the last is
+    /// now. `NoMemory` is its one error.
+    pub fn crash(
+        &self,
+        alloc: Global,
+        moment: u32,
+        choice: Choice,
+    ) -> Result<MemoryMachine, NoMemory>
+        requires { moment ≤ length self.now.past }
+        ensures left { IfOk result
+            (λ m. IsLeft (moment_at self.now.past self.now.now) moment choice m.now) }
+        ensures rest { IfOk result
+            (λ m. m ≡ record empty_machine { texts = self.now.texts; now = m.now }) }
+    {
+        Ok(MemoryMachine {
+            texts: copied_map(alloc, &self.texts)?,
+            script: Vec::new(alloc),
+            heard: 0,
+            trace: self.trace.crashed(alloc, moment as usize, choice)?,
+            counter: Counter::new(alloc),
+        })
+    }
 }
 
 // Counts a call of a device with so many bytes, and answers whether it goes on. A call that has a
@@ -135,6 +172,7 @@ impl MemoryMachine {
 fn begins(counter: &mut Counter, trace: &mut Trace, bytes: usize) -> bool
     requires places { counter.old.spare_calls ≤ trace.old.calls }
     requires room { counter.old.spare_bytes ≤ trace.old.bytes }
+    requires clock { length trace.old.past ≡ counter.old.calls }
     ensures goes_on { result ≡ not (fails counter.old bytes) }
     ensures counts { counter.new ≡ called counter.old bytes }
     ensures cause { Counted result counter.old.faults counter.new.faults }
@@ -147,6 +185,8 @@ fn begins(counter: &mut Counter, trace: &mut Trace, bytes: usize) -> bool
     ensures bytes { result ≡ true → counter.new.spare_bytes + bytes ≤ trace.new.bytes }
     ensures places { counter.new.spare_calls ≤ trace.new.calls }
     ensures room { counter.new.spare_bytes ≤ trace.new.bytes }
+    ensures clock { result ≡ true → length trace.new.past + 1 ≡ counter.new.calls }
+    ensures still { result ≡ false → length trace.new.past ≡ counter.new.calls }
 {
     if counter.is_short(bytes) {
         return counter.call(bytes);
@@ -163,6 +203,7 @@ fn begins(counter: &mut Counter, trace: &mut Trace, bytes: usize) -> bool
 fn begins_itself(counter: &mut Counter, trace: &mut Trace, bytes: usize) -> Result<bool, NoMemory>
     requires places { counter.old.spare_calls ≤ trace.old.calls }
     requires room { counter.old.spare_bytes ≤ trace.old.bytes }
+    requires clock { length trace.old.past ≡ counter.old.calls }
     requires bytes { bytes < 2 ^ 63 }
     ensures goes_on { IfOk result (λ goes_on. goes_on ≡ not (is_given counter.old)) }
     ensures used_up { OnOk result (is_used_up counter.old ≡ false) }
@@ -175,6 +216,8 @@ fn begins_itself(counter: &mut Counter, trace: &mut Trace, bytes: usize) -> Resu
     ensures bytes { OnOk result (counter.new.spare_bytes + bytes ≤ trace.new.bytes) }
     ensures places { counter.new.spare_calls ≤ trace.new.calls }
     ensures room { counter.new.spare_bytes ≤ trace.new.bytes }
+    ensures clock { OnOk result (length trace.new.past + 1 ≡ counter.new.calls) }
+    ensures still { OnErr result (length trace.new.past ≡ counter.new.calls) }
 {
     if counter.is_used_up() {
         return Err(NoMemory);
@@ -375,11 +418,10 @@ impl Machine for MemoryMachine {
         text.to_vec(alloc).map_err(|_| FetchStop::NoMemory)
     }
 
-    // One device is attached at most: a second `attach` answers `NoMemory` and does nothing.
     fn attach(&mut self, alloc: Global, name: &str, make: Option<u32>) -> Result<(), AttachStop>
-        ensures opened { (content_of self.old).now.shelf.name ≡ None → make ≡ None →
+        ensures opened { make ≡ None →
             OnOk result (IsOpened name.now (content_of self.old) (content_of self.new)) }
-        ensures made { (content_of self.old).now.shelf.name ≡ None → (n : ℕ) → make ≡ Some n →
+        ensures made { (n : ℕ) → make ≡ Some n →
             OnOk result (IsMade n name.now (content_of self.old) (content_of self.new)) }
         ensures missing { IsErrOf result AttachStop.Missing → make ≡ None }
         ensures absent { IsErrOf result AttachStop.Missing →
@@ -403,8 +445,12 @@ impl Machine for MemoryMachine {
             IsErrOf result AttachStop.Fault ⊎ IsErrOf result AttachStop.NoMemory }
         ensures counts { (self.new.counts ≡ numbered self.old.counts)
             ⊎ (IsErrOf result AttachStop.NoMemory × (self.new ≡ self.old)) }
+
+        // Where a block is pending it does nothing.
+        ensures waits { IsTrue (list_any (λ pending. pending) self.old.now.pending) →
+            IsErrOf result AttachStop.NoMemory × (self.new ≡ self.old) }
     {
-        if self.trace.is_attached() {
+        if self.trace.is_pending() {
             return Err(AttachStop::NoMemory);
         }
         let name = name.as_bytes();

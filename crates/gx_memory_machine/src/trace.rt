@@ -1,12 +1,16 @@
 // What stood on a device at each moment, kept as the devices at its start and a log of calls.
-ghost use Rattle.std.specs.Prelude.{◌≡◌, ◌≤◌, ◌<◌, ◌+◌, ◌^◌, ◌++◌, ◌∷◌, [], ℕ, length, replicate, slice_index_or, vec_len, vec_capacity, None, IfOk, OnOk, OnErr, is_some, false};
-ghost use Rattle.gx_device.specs.Content.{nothing_told, zero_blocks, block_of, HasWholeBlocks};
-ghost use Rattle.gx_memory_machine.specs.Log.{with_block, all_synced, with_said, with_device};
+ghost use Rattle.std.specs.Prelude.{◌≡◌, ◌≤◌, ◌<◌, ◌+◌, ◌^◌, ◌++◌, ◌∷◌, [], ℕ, length, take, drop, replicate, slice_index_or, vec_len, vec_capacity, None, Some, MatchOption, IfOk, IfSome, OnOk, OnErr, option_map, false};
+ghost use Rattle.std.specs.FinMap.{get};
+ghost use Rattle.std.specs.List.{list_any};
+ghost use Rattle.gx_device.specs.Content.{nothing_told, zero_blocks, block_of, is_pending, HasWholeBlocks, devices_of, with_named};
+ghost use Rattle.gx_memory_machine.specs.Crash.{moment_at, IsLeft, IsSpoiled, AreSpoiled, StaysSynced};
+ghost use Rattle.gx_memory_machine.specs.Log.{uses, advance, first, with_block, all_synced, with_said, with_device};
 ghost use Rattle.gx_memory_machine.specs.Names.{by_name};
 ghost use Rattle.gx_memory_machine.specs.Trace.{Adds, AreFew, HasAttachCause, blocks_given, attaching};
 ghost use Rattle.gx_device.specs.declared.device.TheConstants.{BLOCK_LEN};
 
-use crate::names::find;
+use crate::crash::{Choice, spoil};
+use crate::names::{copied_map, find};
 use gx_device::{AttachStop, BLOCK_LEN, NoMemory};
 use std::alloc::{AllocError, Global};
 use std::collections::BTreeMap;
@@ -27,6 +31,7 @@ pub enum Step {
 #[derive(Drop)]
 pub struct Trace {
     start: BTreeMap<Vec<u8>, Vec<[u8; BLOCK_LEN]>>,
+    others: BTreeMap<Vec<u8>, Vec<[u8; BLOCK_LEN]>>,
     name: Option<Vec<u8>>,
     blocks: Vec<[u8; BLOCK_LEN]>,
     pending: Vec<bool>,
@@ -52,7 +57,7 @@ impl Model for Trace {
         blocks = t.blocks.items;
         pending = t.pending.items;
         said = t.said.items;
-        shelf = shelf_of t.name (by_name t.start.entries);
+        shelf = shelf_of t.name (by_name t.others.entries);
       };
       past = earlier (first (by_name t.start.entries)) t.steps.items t.written.items;
       calls = vec_capacity t.steps - vec_len t.steps;
@@ -65,7 +70,7 @@ impl Model for Trace {
           blocks = t.blocks.items;
           pending = t.pending.items;
           said = t.said.items;
-          shelf = shelf_of t.name (by_name t.start.entries);
+          shelf = shelf_of t.name (by_name t.others.entries);
         }) };
 }
 
@@ -116,6 +121,30 @@ impl Trace {
     {
         Trace {
             start: BTreeMap::new(alloc),
+            others: BTreeMap::new(alloc),
+            name: None,
+            blocks: Vec::new(alloc),
+            pending: Vec::new(alloc),
+            said: Vec::new(alloc),
+            steps: Vec::new(alloc),
+            written: Vec::new(alloc),
+        }
+    }
+
+    // Nothing but these devices, of which the second map is a copy.
+    fn of_devices(
+        alloc: Global,
+        start: BTreeMap<Vec<u8>, Vec<[u8; BLOCK_LEN]>>,
+        others: BTreeMap<Vec<u8>, Vec<[u8; BLOCK_LEN]>>,
+    ) -> Trace
+        requires same { by_name start.entries ≡ by_name others.entries }
+        requires few { AreFew (by_name others.entries) }
+        ensures now { result.now ≡ first (by_name others.entries) }
+        ensures past { result.past ≡ [] }
+    {
+        Trace {
+            start,
+            others,
             name: None,
             blocks: Vec::new(alloc),
             pending: Vec::new(alloc),
@@ -172,11 +201,11 @@ impl Trace {
         are_whole(&self.blocks);
     }
 
-    /// Whether a device is attached.
-    pub fn is_attached(&self) -> bool
-        ensures { result ≡ is_some self.now.now.shelf.name }
+    /// Whether a crash may spoil a block.
+    pub fn is_pending(&self) -> bool
+        ensures { result ≡ list_any (λ pending. pending) self.now.now.pending }
     {
-        self.name.is_some()
+        self.pending.iter().any(|pending| *pending)
     }
 
     /// A call that changes nothing.
@@ -255,25 +284,25 @@ fn zeros(alloc: Global, count: u32) -> Result<Vec<[u8; BLOCK_LEN]>, AllocError>
     Ok(blocks)
 }
 
-// The blocks of a device of that name: those that it has, or so many new ones.
-fn blocks_of(
+// Puts a copy of the attached device's blocks among the others, where one is attached.
+fn keep(
     alloc: Global,
-    start: &BTreeMap<Vec<u8>, Vec<[u8; BLOCK_LEN]>>,
-    name: &[u8],
-    make: Option<u32>,
-) -> Result<Vec<[u8; BLOCK_LEN]>, AttachStop>
-    ensures blocks { IfOk result
-        (λ blocks. blocks.items ≡ blocks_given (by_name start.now.entries) name.now make) }
-    ensures few { AreFew (by_name start.now.entries) →
-        IfOk result (λ blocks. length blocks.items < 2 ^ 32) }
-    ensures cause { HasAttachCause (by_name start.now.entries) name.now make result }
+    others: &mut BTreeMap<Vec<u8>, Vec<[u8; BLOCK_LEN]>>,
+    name: &Option<Vec<u8>>,
+    blocks: &[[u8; BLOCK_LEN]],
+) -> Result<(), NoMemory>
+    ensures kept { OnOk result (by_name others.new.entries
+        ≡ with_named (option_map (λ name. name.items) name.now) blocks.now
+        (by_name others.old.entries)) }
+    ensures err { OnErr result (others.new.entries ≡ others.old.entries) }
 {
-    match (find(start, name), make) {
-        (Some(blocks), None) => Ok(copied(alloc, blocks)?),
-        (None, Some(count)) => Ok(zeros(alloc, count)?),
-        (None, None) => Err(AttachStop::Missing),
-        (Some(_), Some(_)) => Err(AttachStop::Exists),
-    }
+    let Some(name) = name else {
+        return Ok(());
+    };
+    let name = name.as_slice().to_vec(alloc)?;
+    let blocks = copied(alloc, blocks)?;
+    others.insert(name, blocks)?;
+    Ok(())
 }
 
 fn prepare(alloc: Global, name: &[u8], blocks: Vec<[u8; BLOCK_LEN]>) -> Result<Drive, NoMemory>
@@ -290,7 +319,44 @@ fn prepare(alloc: Global, name: &[u8], blocks: Vec<[u8; BLOCK_LEN]>) -> Result<D
 }
 
 impl Trace {
-    /// Attaches a device, where none is attached yet. It takes its moment, whatever it answers.
+    // The blocks of the device of that name, attached or not.
+    fn device(&self, name: &[u8]) -> Option<&[[u8; BLOCK_LEN]]>
+        ensures found { MatchOption result (get (devices_of self.now.now) name.now ≡ None)
+            (λ blocks. get (devices_of self.now.now) name.now ≡ Some blocks.now) }
+        ensures few { IfSome result (λ blocks. length blocks.now < 2 ^ 32) }
+    {
+        let Some(own) = &self.name else {
+            return find(&self.others, name);
+        };
+        if name.cmp(own.as_slice()).is_eq() {
+            Some(&self.blocks)
+        } else {
+            find(&self.others, name)
+        }
+    }
+
+    // The blocks of a device of that name: those that it has, or so many new ones.
+    fn blocks_of(
+        &self,
+        alloc: Global,
+        name: &[u8],
+        make: Option<u32>,
+    ) -> Result<Vec<[u8; BLOCK_LEN]>, AttachStop>
+        ensures blocks { IfOk result
+            (λ blocks. blocks.items ≡ blocks_given (devices_of self.now.now) name.now make) }
+        ensures few { IfOk result (λ blocks. length blocks.items < 2 ^ 32) }
+        ensures cause { HasAttachCause (devices_of self.now.now) name.now make result }
+    {
+        match (self.device(name), make) {
+            (Some(blocks), None) => Ok(copied(alloc, blocks)?),
+            (None, Some(count)) => Ok(zeros(alloc, count)?),
+            (None, None) => Err(AttachStop::Missing),
+            (Some(_), Some(_)) => Err(AttachStop::Exists),
+        }
+    }
+
+    /// Attaches a device. One that was attached before stands among the others with its blocks as
+    /// they read. It takes its moment, whatever it answers.
     pub fn attach(
         &mut self,
         alloc: Global,
@@ -299,15 +365,14 @@ impl Trace {
     ) -> Result<(), AttachStop>
         requires place { 0 < self.old.calls }
         requires room { length name.now ≤ self.old.bytes }
-        requires first { self.old.now.shelf.name ≡ None }
         ensures ok { OnOk result
             (Adds (length name.now)
             (with_device self.old.now name.now
-            (blocks_given self.old.now.shelf.devices name.now make)) self.old self.new) }
+            (blocks_given (devices_of self.old.now) name.now make)) self.old self.new) }
         ensures err { OnErr result (Adds 0 self.old.now self.old self.new) }
-        ensures cause { HasAttachCause self.old.now.shelf.devices name.now make result }
+        ensures cause { HasAttachCause (devices_of self.old.now) name.now make result }
     {
-        let blocks = match blocks_of(alloc, &self.start, name, make) {
+        let blocks = match self.blocks_of(alloc, name, make) {
             Ok(blocks) => blocks,
             Err(stop) => {
                 self.pass();
@@ -318,6 +383,10 @@ impl Trace {
             self.pass();
             return Err(AttachStop::NoMemory);
         };
+        if keep(alloc, &mut self.others, &self.name, &self.blocks).is_err() {
+            self.pass();
+            return Err(AttachStop::NoMemory);
+        }
         note(
             &mut self.steps,
             &mut self.written,
@@ -338,5 +407,164 @@ fn step_of(name: &[u8], make: Option<u32>) -> Step
     match make {
         None => Step::Open { name },
         Some(blocks) => Step::Make { name, blocks },
+    }
+}
+
+impl Step {
+    // How many of the bytes beside the log a call has.
+    fn uses(self) -> usize
+        ensures { result ≡ uses self }
+    {
+        match self {
+            Step::Still | Step::Sync => 0,
+            Step::Write { .. } => BLOCK_LEN,
+            Step::Say { count } => count,
+            Step::Open { name } | Step::Make { name, .. } => name,
+        }
+    }
+}
+
+impl Trace {
+    /// How many moments went by.
+    pub fn moments(&self) -> usize
+        ensures { result ≡ length self.now.past }
+    {
+        self.steps.len()
+    }
+
+    // Keeps the bytes of a block that isn't pending, and writes it.
+    fn write_over(&mut self, synced: &mut [[u8; BLOCK_LEN]], n: u32, from: &[u8])
+        requires below { n < length self.old.now.blocks }
+        requires count { length synced.old ≡ length self.old.now.blocks }
+        requires block { length from.now ≡ BLOCK_LEN }
+        requires place { 0 < self.old.calls }
+        requires room { BLOCK_LEN ≤ self.old.bytes }
+        ensures adds { Adds BLOCK_LEN (with_block self.old.now n from.now) self.old self.new }
+        ensures count { length synced.new ≡ length self.new.now.blocks }
+        ensures kept { StaysSynced self.old.now self.new.now synced.old synced.new }
+    {
+        let place = n as usize;
+        if !self.pending[place] {
+            synced[place] = self.blocks[place];
+        }
+        self.write(n, from);
+    }
+
+    // Attaches a device, and makes room for the bytes of its blocks.
+    fn attach_over(
+        &mut self,
+        alloc: Global,
+        synced: &mut Vec<[u8; BLOCK_LEN]>,
+        name: &[u8],
+        make: Option<u32>,
+    ) -> Result<(), NoMemory>
+        requires place { 0 < self.old.calls }
+        requires room { length name.now ≤ self.old.bytes }
+        ensures adds { OnOk result
+            (Adds (length name.now)
+            (with_device self.old.now name.now
+            (blocks_given (devices_of self.old.now) name.now make)) self.old self.new) }
+        ensures count { OnOk result (length synced.new.items ≡ length self.new.now.blocks) }
+        ensures none { OnOk result ((n : ℕ) → is_pending self.new.now n ≡ false) }
+    {
+        self.attach(alloc, name, make).map_err(|_| NoMemory)?;
+        synced.resize(self.blocks.len(), [0; BLOCK_LEN])?;
+        Ok(())
+    }
+
+    // Carries out a call of a log again. The bytes that stood in a block before it was pending are
+    // kept.
+    fn repeat(
+        &mut self,
+        alloc: Global,
+        synced: &mut Vec<[u8; BLOCK_LEN]>,
+        step: Step,
+        bytes: &[u8],
+    ) -> Result<(), NoMemory>
+        requires own { length bytes.now ≡ uses step }
+        requires count { length synced.old.items ≡ length self.old.now.blocks }
+        requires place { 0 < self.old.calls }
+        requires room { length bytes.now ≤ self.old.bytes }
+        ensures adds { OnOk result
+            (Adds (length bytes.now) (advance self.old.now step bytes.now) self.old self.new) }
+        ensures count { OnOk result (length synced.new.items ≡ length self.new.now.blocks) }
+        ensures kept { OnOk result
+            (StaysSynced self.old.now self.new.now synced.old.items synced.new.items) }
+    {
+        match step {
+            Step::Still => self.pass(),
+            Step::Write { block } if block < self.blocks() => self.write_over(synced, block, bytes),
+            Step::Write { .. } => return Err(NoMemory),
+            Step::Sync => self.sync(),
+            Step::Say { .. } => self.say(bytes),
+            Step::Open { .. } => self.attach_over(alloc, synced, bytes, None)?,
+            Step::Make { blocks, .. } => self.attach_over(alloc, synced, bytes, Some(blocks))?,
+        }
+        Ok(())
+    }
+
+    // What a crash now leaves, by the bytes that stood in each block before it was pending.
+    fn left(
+        mut self,
+        alloc: Global,
+        synced: &[[u8; BLOCK_LEN]],
+        choice: Choice,
+    ) -> Result<Trace, NoMemory>
+        requires { length synced.now ≡ length self.now.blocks }
+        ensures devices { IfOk result (λ t. IsSpoiled choice synced.now self.now t.now) }
+        ensures past { IfOk result (λ t. t.past ≡ []) }
+    {
+        spoil_all(&mut self.blocks, &self.pending, synced, choice);
+        keep(alloc, &mut self.others, &self.name, &self.blocks)?;
+        let start = copied_map(alloc, &self.others)?;
+        Ok(Trace::of_devices(alloc, start, self.others))
+    }
+
+    /// What a crash at a moment leaves.
+    pub fn crashed(&self, alloc: Global, moment: usize, choice: Choice) -> Result<Trace, NoMemory>
+        requires { moment ≤ length self.now.past }
+        ensures left { IfOk result
+            (λ t. IsLeft (moment_at self.now.past self.now.now) moment choice t.now) }
+        ensures past { IfOk result (λ t. t.past ≡ []) }
+    {
+        let start = copied_map(alloc, &self.start)?;
+        let others = copied_map(alloc, &self.start)?;
+        let mut trace = Trace::of_devices(alloc, start, others);
+        trace.reserve(moment, self.written.len())?;
+        let mut synced = Vec::new(alloc);
+        let mut used = 0;
+        for i in 0..moment {
+            let step = self.steps[i];
+            let bytes = part(&self.written, used, step.uses());
+            trace.repeat(alloc, &mut synced, step, bytes)?;
+            used += bytes.len();
+        }
+        trace.left(alloc, &synced, choice)
+    }
+}
+
+fn part(bytes: &[u8], at: usize, count: usize) -> &[u8]
+    requires { at + count ≤ length bytes.now }
+    ensures value { result.now ≡ take count (drop at bytes.now) }
+    ensures long { length result.now ≡ count }
+{
+    &bytes[at..at + count]
+}
+
+// Makes of each block that is pending what a crash leaves.
+fn spoil_all(
+    blocks: &mut [[u8; BLOCK_LEN]],
+    pending: &[bool],
+    synced: &[[u8; BLOCK_LEN]],
+    choice: Choice,
+)
+    requires flags { length pending.now ≡ length blocks.old }
+    requires count { length synced.now ≡ length blocks.old }
+    ensures { AreSpoiled choice synced.now pending.now blocks.old blocks.new }
+{
+    for n in 0..blocks.len() {
+        if pending[n] {
+            spoil(&mut blocks[n], &synced[n], choice);
+        }
     }
 }
