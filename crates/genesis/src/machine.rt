@@ -4,7 +4,7 @@ ghost use Rattle.std.specs.Prelude.{◌≡◌, ◌≤◌, true, false, Ok, IfOk,
 ghost use Rattle.gx_device.specs.Content.{nothing_told};
 ghost use Rattle.gx_device.specs.Faults.{Rose};
 
-use crate::drive::Drive;
+use crate::drives::Drives;
 use crate::files::read_file;
 use gx_device::{AttachStop, Device, Failed, FetchStop, Machine};
 use std::alloc::Global;
@@ -16,19 +16,19 @@ use std::rt::Files;
 #[derive(Drop)]
 pub struct HostMachine<R: Files<File = File> + Input + Print + Drop> {
     rt: R,
-    drive: Option<Drive>,
+    drives: Drives,
     // how many calls have failed; it stands at its last value
     faults: u64,
 }
 
 impl<R: Files<File = File> + Input + Print + Drop> HostMachine<R> {
     /// A machine with no device, whose calls haven't failed.
-    pub fn new(rt: R) -> Self
+    pub fn new(alloc: Global, rt: R) -> Self
         ensures { result.faults ≡ 0 }
     {
         HostMachine {
             rt,
-            drive: None,
+            drives: Drives::new(alloc),
             faults: 0,
         }
     }
@@ -36,7 +36,7 @@ impl<R: Files<File = File> + Input + Print + Drop> HostMachine<R> {
     fn count_fault(&mut self)
         ensures later { self.old.faults ≤ self.new.faults }
         ensures rose { Rose self.old.faults self.new.faults }
-        ensures drive { self.new.drive ≡ self.old.drive }
+        ensures drives { self.new.drives ≡ self.old.drives }
     {
         self.faults = self.faults.saturating_add(1);
     }
@@ -48,7 +48,7 @@ impl<R: Files<File = File> + Input + Print + Drop> HostMachine<R> {
         ensures counted { OnOk given (self.new.faults ≡ self.old.faults) }
         ensures rose { OnErr given (Rose self.old.faults self.new.faults) }
         ensures later { self.old.faults ≤ self.new.faults }
-        ensures drive { self.new.drive ≡ self.old.drive }
+        ensures drives { self.new.drives ≡ self.old.drives }
     {
         match given {
             Ok(value) => Ok(value),
@@ -69,19 +69,16 @@ impl<R: Files<File = File> + Input + Print + Drop> Device for HostMachine<R> {
 
     ghost faults = { λ m. m.faults };
 
-    ghost size = { λ m. size_of m.drive };
+    ghost size = { λ m. size_of m.drives.current };
 
     ghost sized = { λ _ told. Prim.cc };
 
     fn blocks(&self) -> u32 {
-        match &self.drive {
-            Some(drive) => drive.blocks(),
-            None => 0,
-        }
+        self.drives.blocks()
     }
 
     fn read_block(&mut self, n: u32, into: &mut [u8]) -> Result<(), Failed> {
-        let read = match &self.drive {
+        let read = match self.drives.current() {
             Some(drive) => drive.read(n, into),
             None => Err(io::Error::from(ErrorKind::NotFound)),
         };
@@ -89,7 +86,7 @@ impl<R: Files<File = File> + Input + Print + Drop> Device for HostMachine<R> {
     }
 
     fn write_block(&mut self, n: u32, from: &[u8]) -> Result<(), Failed> {
-        let written = match &self.drive {
+        let written = match self.drives.current() {
             Some(drive) => drive.write(n, from),
             None => Err(io::Error::from(ErrorKind::NotFound)),
         };
@@ -98,7 +95,7 @@ impl<R: Files<File = File> + Input + Print + Drop> Device for HostMachine<R> {
 
     // The file was synced whole when it was made, and its length never changes.
     fn sync(&mut self) -> Result<(), Failed> {
-        let synced = match &self.drive {
+        let synced = match self.drives.current() {
             Some(drive) => drive.sync(),
             None => Ok(()),
         };
@@ -138,22 +135,15 @@ impl<R: Files<File = File> + Input + Print + Drop> Machine for HostMachine<R> {
 
     /// A device is the file of that path, which no other program has attached meanwhile. A folder
     /// is no device. A file that is there and can't be opened for reading and writing is a fault,
-    /// and so is one that another program has attached.
-    fn attach(&mut self, _alloc: Global, name: &str, make: Option<u32>) -> Result<(), AttachStop> {
-        let attached = match make {
-            None => Drive::open(&self.rt, name),
-            Some(blocks) => Drive::make(&self.rt, name, blocks),
-        };
-        match attached {
-            Ok(drive) => {
-                self.drive = Some(drive);
-                Ok(())
-            }
+    /// and so is one that another program has attached. A device that was attached before under
+    /// that path is taken as it was kept; under another path of the same file it is a fault.
+    fn attach(&mut self, alloc: Global, name: &str, make: Option<u32>) -> Result<(), AttachStop> {
+        match self.drives.attach(alloc, &self.rt, name, make) {
             Err(AttachStop::Fault) => {
                 self.count_fault();
                 Err(AttachStop::Fault)
             }
-            Err(stop) => Err(stop),
+            attached => attached,
         }
     }
 }

@@ -5,6 +5,7 @@ ghost use Rattle.std.specs.Prelude.{◌≡◌};
 ghost use Rattle.genesis.specs.Codes.{code};
 
 mod drive;
+mod drives;
 mod files;
 mod machine;
 
@@ -23,7 +24,7 @@ fn main(rt: HostRuntime) -> ExitCode {
     let alloc = rt.alloc();
     match words(&rt, alloc) {
         Ok(words) => {
-            let (status, _machine) = top(alloc, &words, HostMachine::new(rt));
+            let (status, _machine) = top(alloc, &words, HostMachine::new(alloc, rt));
             ExitCode::from(code_of(status))
         }
         Err(AllocError) => ExitCode::from(code_of(Status::Memory)),

@@ -11,7 +11,7 @@ fn the_machine_is_the_host(rt: HostRuntime) -> Result<(), Fail> {
     let path = env::temp_dir(&rt)?.join(alloc, &file)?;
     let name = path.to_str().unwrap_or("");
     fs::write(&rt, name, b"12345")?;
-    let mut machine = HostMachine::new(&rt);
+    let mut machine = HostMachine::new(alloc, &rt);
     assert_eq!(rt;
         machine.fetch(alloc, name, 5),
         Ok(vec![in alloc; 49, 50, 51, 52, 53]?)
@@ -40,7 +40,7 @@ fn a_device_is_a_file(rt: HostRuntime) -> Result<(), Fail> {
     let name = path.to_str().unwrap_or("");
     let mut block = [7u8; 4096];
     {
-        let mut machine = HostMachine::new(&rt);
+        let mut machine = HostMachine::new(alloc, &rt);
         assert_eq!(rt; machine.attach(alloc, name, None), Err(AttachStop::Missing));
         assert_eq!(rt; machine.blocks(), 0);
         assert_eq!(rt; machine.attach(alloc, name, Some(3)), Ok(()));
@@ -49,11 +49,11 @@ fn a_device_is_a_file(rt: HostRuntime) -> Result<(), Fail> {
             assert!(rt; machine.write_block(2, &block).is_ok());
         }
         assert!(rt; machine.sync().is_ok());
-        let mut other = HostMachine::new(&rt);
+        let mut other = HostMachine::new(alloc, &rt);
         assert_eq!(rt; other.attach(alloc, name, Some(3)), Err(AttachStop::Exists));
         assert_eq!(rt; other.attach(alloc, name, None), Err(AttachStop::Fault));
     }
-    let mut machine = HostMachine::new(&rt);
+    let mut machine = HostMachine::new(alloc, &rt);
     assert_eq!(rt; machine.attach(alloc, name, None), Ok(()));
     if machine.blocks() > 2 {
         assert!(rt; machine.read_block(0, &mut block).is_ok());
@@ -63,5 +63,46 @@ fn a_device_is_a_file(rt: HostRuntime) -> Result<(), Fail> {
     }
     fs::remove_file(&rt, name)?;
     assert_eq!(rt; machine.attach(alloc, "/", None), Err(AttachStop::Missing));
+    Ok(())
+}
+
+// A device that was attached before is kept with its lock, and is attached again.
+#[test]
+fn devices_are_attached_in_turn(rt: HostRuntime) -> Result<(), Fail> {
+    let alloc = rt.alloc();
+    let folder = env::temp_dir(&rt)?;
+    let file = format!(in alloc; "genesis-first-{}", process::id(rt.process()))?;
+    let first = folder.join(alloc, &file)?;
+    let first = first.to_str().unwrap_or("");
+    let file = format!(in alloc; "genesis-second-{}", process::id(rt.process()))?;
+    let second = folder.join(alloc, &file)?;
+    let second = second.to_str().unwrap_or("");
+    let mut machine = HostMachine::new(alloc, &rt);
+    let mut other = HostMachine::new(alloc, &rt);
+    assert_eq!(rt; machine.attach(alloc, first, Some(3)), Ok(()));
+    let mut block = [7u8; 4096];
+    if machine.blocks() > 2 {
+        assert!(rt; machine.write_block(2, &block).is_ok());
+    }
+    assert!(rt; machine.sync().is_ok());
+    assert_eq!(rt; machine.attach(alloc, second, Some(5)), Ok(()));
+    assert_eq!(rt; machine.blocks(), 5);
+    assert_eq!(rt; other.attach(alloc, first, None), Err(AttachStop::Fault));
+    assert_eq!(rt;
+        machine.attach(alloc, first, Some(3)),
+        Err(AttachStop::Exists)
+    );
+    assert_eq!(rt; machine.blocks(), 5);
+    assert_eq!(rt; machine.attach(alloc, first, None), Ok(()));
+    assert_eq!(rt; machine.attach(alloc, first, None), Ok(()));
+    assert_eq!(rt; machine.blocks(), 3);
+    block[4095] = 0;
+    if machine.blocks() > 2 {
+        assert!(rt; machine.read_block(2, &mut block).is_ok());
+    }
+    assert_eq!(rt; block[4095], 7);
+    assert_eq!(rt; other.attach(alloc, second, None), Err(AttachStop::Fault));
+    fs::remove_file(&rt, first)?;
+    fs::remove_file(&rt, second)?;
     Ok(())
 }
