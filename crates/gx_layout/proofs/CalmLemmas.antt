@@ -4,7 +4,7 @@ use Rattle.std.proofs.lemmas.List.Elements.{All-append, All-nil, All-cons}
 use Rattle.gx_device.specs.Content.{Moment, Content, Ticks, OnlyTime, Writes, Listens, Speaks, block_of, is_pending}
 use Rattle.gx_device.specs.Crash.{EachImage}
 use Rattle.gx_device.specs.Quiet.{IsPrefix, IsQuiet}
-use Rattle.gx_layout.specs.Layout.{View, Shows, AtRest, SameButChanged, with_pages, with_said, head_of, home, is_open, pages_of}
+use Rattle.gx_layout.specs.Layout.{View, Shows, AtRest, SameButChanged, with_pages, with_said, first_text, head_blocks, head_in, home, is_open}
 use Rattle.gx_layout.specs.Calm.{Calm}
 use Rattle.gx_layout.specs.CalmLaws.{quiet_rest}
 use Rattle.gx_layout.specs.PhaseLaws.{rest_slot}
@@ -14,8 +14,8 @@ use Rattle.gx_device.proofs.PrefixLemmas.{prefix_same, prefix_twice}
 -- what was said may grow
 quiet_longer : (v : View) (start : Moment) (last longer : List ℕ) → IsPrefix last longer
     → (m : Moment)
-    → EachImage (IsQuiet (Shows v.head v.pages) start last) m
-    → EachImage (IsQuiet (Shows v.head v.pages) start longer) m
+    → EachImage (IsQuiet (Shows v.size v.head v.pages) start last) m
+    → EachImage (IsQuiet (Shows v.size v.head v.pages) start longer) m
 quiet_longer v start last longer p m leaves image is =
     let q = leaves image is in
     record {
@@ -31,7 +31,8 @@ pub calm_tick : (start : Content) (v : View) (old new : Content) → Ticks old n
     → IsPrefix old.now.said new.now.said → Calm start v old → Calm start v new
 calm_tick start v old new (inl on) rest longer calm =
     let first = start.now.said in
-    let Q : Moment → Type 0 = EachImage (IsQuiet (Shows v.head v.pages) start.now new.now.said) in
+    let Q : Moment → Type 0 =
+    EachImage (IsQuiet (Shows v.size v.head v.pages) start.now new.now.said) in
     record {
       since = calm.since ++ old.now ∷ [];
       past = on ∙ ap (λ (l : List Moment). l ++ old.now ∷ []) calm.past
@@ -66,18 +67,20 @@ rest_said v a b blocks pending shelf rest =
     λ n. ap (λ (l : List (List ℕ)). get_or l n []) blocks in
     record {
       fits = record {
-        count = rest.fits.count ∙ ap (λ (l : List (List ℕ)). pages_of (length l)) (sym blocks);
-        room = omega (arith, rest.fits.room, ap (λ (l : List (List ℕ)). length l) blocks);
+        size = ap (λ (l : List (List ℕ)). length l) blocks ∙ rest.fits.size;
+        count = rest.fits.count;
+        few = rest.fits.few;
+        room = rest.fits.room;
         head_kept = λ n is. kept n (rest.fits.head_kept n is);
-        head = ap head_of blocks ∙ rest.fits.head;
+        head = ap (head_in (first_text v.size)) blocks ∙ rest.fits.head;
         said = refl;
         shelf = shelf ∙ rest.fits.shelf;
       };
       gate_kept = kept 1 rest.gate_kept;
       gate = ap is_open (same 1) ∙ rest.gate;
       homes = λ p below. record {
-        kept = kept (home (length v.pages) p) (rest.homes p below).kept;
-        reads = same (home (length v.pages) p) ∙ (rest.homes p below).reads;
+        kept = kept (home v.size (length v.pages) p) (rest.homes p below).kept;
+        reads = same (home v.size (length v.pages) p) ∙ (rest.homes p below).reads;
       };
     }
 
@@ -92,7 +95,9 @@ calm_speaks start v old new time s calm =
 pub rest_own : (v : View) (m : Moment) → AtRest m v → AtRest m (with_said v m.said)
 rest_own v m rest = record {
   fits = record {
+    size = rest.fits.size;
     count = rest.fits.count;
+    few = rest.fits.few;
     room = rest.fits.room;
     head_kept = rest.fits.head_kept;
     head = rest.fits.head;
@@ -112,7 +117,9 @@ pub rest_new : (m : Moment) (v : View) (pages : List (List ℕ)) (changed : List
     → AtRest m (with_said (with_pages v pages) m.said)
 rest_new m v pages changed counts same none rest = record {
   fits = record {
+    size = rest.fits.size;
     count = sym counts ∙ rest.fits.count;
+    few = omega (arith, rest.fits.few, counts);
     room = rest.fits.room;
     head_kept = rest.fits.head_kept;
     head = rest.fits.head;
@@ -124,15 +131,15 @@ rest_new m v pages changed counts same none rest = record {
   homes = λ p below.
       let at = rest.homes p (omega (arith, counts, below)) in
       record {
-        kept = ap (λ (P : ℕ). is_pending m (home P p)) (sym counts) ∙ at.kept;
-        reads = ap (λ (P : ℕ). block_of m (home P p)) (sym counts) ∙ at.reads
+        kept = ap (λ (P : ℕ). is_pending m (home v.size P p)) (sym counts) ∙ at.kept;
+        reads = ap (λ (P : ℕ). block_of m (home v.size P p)) (sym counts) ∙ at.reads
             ∙ same p below (none p);
       };
 }
 
 -- a page that is spilled to its slot
-pub calm_spill : (start : Content) (v : View) (n : ℕ) (old new : Content) → 7 ≤ n
-    → n < 7 + length v.pages → Writes n old new
+pub calm_spill : (start : Content) (v : View) (n : ℕ) (old new : Content)
+    → head_blocks v.size ≤ n → n < head_blocks v.size + length v.pages → Writes n old new
     → Calm start v old → Calm start v new
 calm_spill start v n old new low high w calm =
     let run = outside_write (λ k. k ≡ n) n old new refl w in

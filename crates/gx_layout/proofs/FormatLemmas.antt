@@ -1,13 +1,16 @@
 -- A device that is laid out.
-use Rattle.std.proofs.Common.{◌≡◌, inl, inr, ℕ, ◌+◌, ◌-◌, ◌<◌, ◌≤◌, List, [], ◌∷◌, ◌++◌, length, get_or, replicate, refl, sym, ◌∙◌, ap, arith, length-append, append_assoc}
+use Rattle.std.proofs.Common.{◌≡◌, inl, inr, ℕ, ◌+◌, ◌-◌, ◌/◌, ◌%◌, ◌<◌, ◌≤◌, List, [], ◌∷◌, ◌++◌, length, get_or, replicate, refl, sym, ◌∙◌, ap, arith, length-append, append_assoc}
 use Rattle.std.proofs.lemmas.List.{replicate-append-replicate, length-replicate, get_or-set_same, get_or-set_other}
 use Rattle.std.proofs.lemmas.Bool.{cases_eq}
 use Rattle.gx_bytes.specs.Parts.{overwritten}
 use Rattle.gx_bytes.proofs.PartLemmas.{overwritten-same}
 use Rattle.gx_device.specs.Content.{Content, Written, Syncs, block_of}
 use Rattle.gx_device.specs.Crash.{EachImage, Through, LeavesOnly, Outside}
+use Rattle.gx_layout.proofs.BlockLemmas.{blocks_twice, blocks_more}
 use Rattle.gx_device.proofs.RunLemmas.{joined, weakened, synced, outside_joined, outside_more}
-use Rattle.gx_layout.specs.Layout.{OnlyBlocks, head_of}
+use Rattle.gx_layout.specs.declared.bitmap.TheConstants.{BITS}
+use Rattle.gx_layout.specs.PlaceLaws.{bit_block}
+use Rattle.gx_layout.specs.Layout.{OnlyBlocks, first_text, most_pages, IsBitmap, has_bit, has_bit_on, head_of}
 use Rattle.gx_layout.specs.Head.{IsText, IsFormatted, block_in}
 use Rattle.gx_layout.specs.Besides.{IsImageBesides}
 
@@ -81,48 +84,83 @@ besides_synced free a b c run s =
     (synced (IsImageBesides free a.now) b c s first.now)
 
 -- one more text block is written
-pub more_texts : (area : List ℕ) (i : ℕ) (bytes : List ℕ) (mid new : Content)
-    → 3 + i < length mid.now.blocks → bytes ≡ block_in area i
-    → Written (3 + i) bytes mid new
-    → ((k : ℕ) → k < i → block_of mid.now (3 + k) ≡ block_in area k) → (k : ℕ) → k < i + 1
-    → block_of new.now (3 + k) ≡ block_in area k
-more_texts area i bytes mid new room is w so_far k below = elim (cases_eq k i) [
+pub more_texts : (first : ℕ) (area : List ℕ) (i : ℕ) (bytes : List ℕ) (mid new : Content)
+    → first + i < length mid.now.blocks → bytes ≡ block_in area i
+    → Written (first + i) bytes mid new
+    → ((k : ℕ) → k < i → block_of mid.now (first + k) ≡ block_in area k) → (k : ℕ) → k < i + 1
+    → block_of new.now (first + k) ≡ block_in area k
+more_texts first area i bytes mid new room is w so_far k below = elim (cases_eq k i) [
   | inl same ↦
-      ap (λ (n : ℕ). block_of new.now (3 + n)) same
-      ∙ ap (λ (l : List (List ℕ)). get_or l (3 + i) []) w.blocks
-      ∙ get_or-set_same mid.now.blocks (3 + i) bytes [] room
+      ap (λ (n : ℕ). block_of new.now (first + n)) same
+      ∙ ap (λ (l : List (List ℕ)). get_or l (first + i) []) w.blocks
+      ∙ get_or-set_same mid.now.blocks (first + i) bytes [] room
       ∙ is ∙ ap (λ (n : ℕ). block_in area n) (sym same)
   | inr other ↦
-      ap (λ (l : List (List ℕ)). get_or l (3 + k) []) w.blocks
-      ∙ get_or-set_other mid.now.blocks (3 + i) (3 + k) bytes []
-      (λ (e : 3 + k ≡ 3 + i). other (omega arith))
+      ap (λ (l : List (List ℕ)). get_or l (first + k) []) w.blocks
+      ∙ get_or-set_other mid.now.blocks (first + i) (first + k) bytes []
+      (λ (e : first + k ≡ first + i). other (omega arith))
       ∙ so_far k (omega (arith, below, other))
 ]
 
 -- the head after all are written
-pub laid_head : (area all : List ℕ) (a d : Content) → area ≡ all → OnlyBlocks IsFormatted a d
-    → ((i : ℕ) → i < 4 → block_of d.now (3 + i) ≡ block_in area i)
+pub laid_head : (size : ℕ) (area all : List ℕ) (a d : Content) → length d.now.blocks ≡ size
+    → area ≡ all → OnlyBlocks (IsFormatted size) a d
+    → ((i : ℕ) → i < 4 → block_of d.now (first_text size + i) ≡ block_in area i)
     → head_of d.now.blocks ≡ block_of a.now 0 ∷ block_in all 0 ∷ block_in all 1 ∷ block_in all 2
     ∷ block_in all 3 ∷ []
-laid_head area all a d is o texts =
-    let a0 = o.blocks 0 (λ (f : IsFormatted 0). (let low = f.0 in absurd (omega (arith, low)))) in
-    let a3 = texts 0 (omega arith) ∙ ap (λ (l : List ℕ). block_in l 0) is in
-    let a4 = texts 1 (omega arith) ∙ ap (λ (l : List ℕ). block_in l 1) is in
-    let a5 = texts 2 (omega arith) ∙ ap (λ (l : List ℕ). block_in l 2) is in
-    let a6 = texts 3 (omega arith) ∙ ap (λ (l : List ℕ). block_in l 3) is in
-    λ i. a0 i ∷ a3 i ∷ a4 i ∷ a5 i ∷ a6 i ∷ []
+laid_head size area all a d long is o texts =
+    let a0 = o.blocks 0 (λ (f : IsFormatted size 0). (
+    let low = f.0 in
+    absurd (omega (arith, low))
+    )) in
+    let text : (k : ℕ) → k < 4
+    → block_of d.now (first_text (length d.now.blocks) + k) ≡ block_in all k =
+    λ k below. ap (λ (n : ℕ). block_of d.now (first_text n + k)) long ∙ texts k below
+    ∙ ap (λ (l : List ℕ). block_in l k) is in
+    let first : block_of d.now (first_text (length d.now.blocks)) ≡ block_in all 0 =
+    ap (block_of d.now) (omega arith) ∙ text 0 (omega arith) in
+    let a1 = text 1 (omega arith) in
+    let a2 = text 2 (omega arith) in
+    let a3 = text 3 (omega arith) in
+    λ i. a0 i ∷ first i ∷ a1 i ∷ a2 i ∷ a3 i ∷ []
 
 -- the gate, the bitmap and the text blocks are written
-module _ (a b c : Content) (gate : Through (Outside (λ n. n ≡ 1) a.now) a b)
-    (bitmap : Through (Outside (λ n. n ≡ 2) b.now) b c) where
-  pub laid_bitmap : Through (Outside IsFormatted a.now) a c
-  laid_bitmap = outside_joined IsFormatted a b c
-      (run_more (λ n. n ≡ 1) IsFormatted (λ n is. (omega (arith, is), omega (arith, is))) a b gate)
-      (run_more (λ n. n ≡ 2) IsFormatted (λ n is. (omega (arith, is), omega (arith, is))) b c
-      bitmap)
+pub of_gate : (size n : ℕ) → n ≡ 1 → IsFormatted size n
+of_gate size n is = (omega (arith, is), omega (arith, is))
 
-  pub laid_texts : (d : Content) → Through (Outside IsText c.now) c d
-      → Through (Outside IsFormatted a.now) a d
-  laid_texts d texts = outside_joined IsFormatted a c d laid_bitmap
-      (run_more IsText IsFormatted (λ n is. (let low = is.0 in (omega (arith, low), is.1))) c d
-      texts)
+pub of_bitmap : (size n : ℕ) → IsBitmap size n → IsFormatted size n
+of_bitmap size n is = (omega (arith, is.0), omega (arith, is.1))
+
+pub of_texts : (size n : ℕ) → IsText size n → IsFormatted size n
+of_texts size n is = (omega (arith, is.0), is.1)
+
+module _ (size : ℕ) (a b c : Content) (gate : Through (Outside (λ n. n ≡ 1) a.now) a b)
+    (bitmap : Through (Outside (IsBitmap size) b.now) b c) where
+  pub laid_bitmap : Through (Outside (IsFormatted size) a.now) a c
+  laid_bitmap = outside_joined (IsFormatted size) a b c
+      (run_more (λ n. n ≡ 1) (IsFormatted size) (of_gate size) a b gate)
+      (run_more (IsBitmap size) (IsFormatted size) (of_bitmap size) b c bitmap)
+
+  pub laid_texts : (d : Content) → Through (Outside (IsText size) c.now) c d
+      → Through (Outside (IsFormatted size) a.now) a d
+  laid_texts d texts = outside_joined (IsFormatted size) a c d laid_bitmap
+      (run_more (IsText size) (IsFormatted size) (of_texts size) c d texts)
+
+module _ (size : ℕ) (a b c : Content) (gate : OnlyBlocks (λ n. n ≡ 1) a b)
+    (bitmap : OnlyBlocks (IsBitmap size) b c) where
+  pub laid_two : OnlyBlocks (IsFormatted size) a c
+  laid_two = blocks_twice (IsFormatted size) a b c
+      (blocks_more (λ n. n ≡ 1) (IsFormatted size) (of_gate size) a b gate)
+      (blocks_more (IsBitmap size) (IsFormatted size) (of_bitmap size) b c bitmap)
+
+  pub laid_three : (d : Content) → OnlyBlocks (IsText size) c d → OnlyBlocks (IsFormatted size) a d
+  laid_three d texts = blocks_twice (IsFormatted size) a c d laid_two
+      (blocks_more (IsText size) (IsFormatted size) (of_texts size) c d texts)
+
+-- the text blocks have no bits
+pub laid_bits : (size : ℕ) (d e : Content) → OnlyBlocks (IsText size) d e → (p : ℕ)
+    → p < most_pages size → has_bit_on e.now.blocks p ≡ has_bit_on d.now.blocks p
+laid_bits size d e o p below =
+    let at = bit_block size p (most_pages size) below (omega arith) in
+    ap (λ (b : List ℕ). has_bit b (p % BITS)) (o.blocks (2 + p / BITS)
+    (λ (text : IsText size (2 + p / BITS)). absurd (omega (arith, at.1, text.0))))

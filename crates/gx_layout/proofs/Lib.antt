@@ -1,3 +1,4 @@
+pub mod CallLemmas
 pub mod BlockLemmas
 pub mod BitLemmas
 pub mod CalmLemmas

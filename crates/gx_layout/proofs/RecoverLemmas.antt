@@ -4,16 +4,17 @@ use Rattle.std.proofs.lemmas.Bool.{cases_eq}
 use Rattle.gx_device.specs.Content.{Shelf, Moment, Content, block_of, is_pending, OnlyTime, Syncs, NonePending}
 use Rattle.gx_device.specs.Crash.{Image, IsImage, EachImage, Through, LeavesOnly, Outside}
 use Rattle.gx_device.proofs.RunLemmas.{ticked, joined, weakened, synced, outside_same, outside_joined, outside_more}
-use Rattle.gx_layout.specs.Layout.{is_open, has_bit, View, StandsFor, ReadsAs, flags, CopiedBelow, IsIn, Holds, Fits, AtRest, IsReady, IsOpened, OnlyBlocks, home}
-use Rattle.gx_layout.specs.Recovered.{Recovers, IsOfRecovery}
+use Rattle.gx_layout.specs.Layout.{is_open, has_bit, has_bit_on, bitmap_blocks, first_text, head_blocks, pages_of, most_pages, slot, head_in, View, StandsFor, ReadsAs, flags, CopiedBelow, IsIn, Holds, Fits, AtRest, IsReady, IsOpened, OnlyBlocks, home}
+use Rattle.gx_layout.specs.Recovered.{IsUnwritten, Recovers, IsOfRecovery}
 use Rattle.gx_layout.proofs.BlockLemmas.{blocks_twice, blocks_more, blocks_read, blocks_sync}
 use Rattle.gx_layout.specs.PhaseLaws.{bool_cases, shut, set_bit, no_bit, opened_leaves, opened_homes, rest_leaves}
+use Rattle.gx_layout.proofs.BitLemmas.{first_bits, one_block}
 use Rattle.gx_layout.proofs.CommitLemmas.{home_images, homes_ready}
 
-pub length-flags : (bitmap : List ℕ) (n : ℕ) → length (flags bitmap n) ≡ n
-length-flags bitmap zero = refl
-length-flags bitmap (suc n) =
-    omega (arith, length-append (flags bitmap n) (has_bit bitmap n ∷ []), length-flags bitmap n)
+pub length-flags : (bit : ℕ → Bool) (n : ℕ) → length (flags bit n) ≡ n
+length-flags bit zero = refl
+length-flags bit (suc n) =
+    omega (arith, length-append (flags bit n) (bit n ∷ []), length-flags bit n)
 
 at_front : (xs ys : List Bool) (p : ℕ) → p < length xs
     → get_or (xs ++ ys) p false ≡ get_or xs p false
@@ -25,17 +26,32 @@ at_end : (xs : List Bool) (y : Bool) → get_or (xs ++ y ∷ []) (length xs) fal
 at_end [] y = refl
 at_end (x ∷ xs) y = at_end xs y
 
-pub get_or-flags : (bitmap : List ℕ) (n p : ℕ) → p < n
-    → get_or (flags bitmap n) p false ≡ has_bit bitmap p
-get_or-flags bitmap zero p below = absurd (omega arith)
-get_or-flags bitmap (suc n) p below = elim (cases_eq p n) [
-  | inl same ↦ ap (λ (k : ℕ). get_or (flags bitmap (suc n)) k false)
-      (same ∙ sym (length-flags bitmap n))
-      ∙ at_end (flags bitmap n) (has_bit bitmap n) ∙ ap (λ (k : ℕ). has_bit bitmap k) (sym same)
-  | inr other ↦ at_front (flags bitmap n) (has_bit bitmap n ∷ []) p
-      (omega (arith, length-flags bitmap n))
-      ∙ get_or-flags bitmap n p (omega arith)
+pub get_or-flags : (bit : ℕ → Bool) (n p : ℕ) → p < n → get_or (flags bit n) p false ≡ bit p
+get_or-flags bit zero p below = absurd (omega arith)
+get_or-flags bit (suc n) p below = elim (cases_eq p n) [
+  | inl same ↦ ap (λ (k : ℕ). get_or (flags bit (suc n)) k false)
+      (same ∙ sym (length-flags bit n))
+      ∙ at_end (flags bit n) (bit n) ∙ ap bit (sym same)
+  | inr other ↦ at_front (flags bit n) (bit n ∷ []) p
+      (omega (arith, length-flags bit n))
+      ∙ get_or-flags bit n p (omega arith)
 ]
+
+-- pages with the same bits have the same flags
+pub same_flags : (x y : ℕ → Bool) (n : ℕ) → ((p : ℕ) → p < n → x p ≡ y p) → flags x n ≡ flags y n
+same_flags x y zero same = refl
+same_flags x y (suc n) same =
+    let front = same_flags x y n (λ p below. same p (omega (arith, below))) in
+    let last = same n (omega arith) in
+    λ i. front i ++ last i ∷ []
+
+-- the block of bits that was read is that of the bitmap
+pub read_bits : (size P : ℕ) (bitmap : List ℕ) (blocks : List (List ℕ))
+    → bitmap ≡ get_or blocks 2 [] → P ≤ most_pages size
+    → (p : ℕ) → p < P → has_bit bitmap p ≡ has_bit_on blocks p
+read_bits size P bitmap blocks is few p below =
+    ap (λ (b : List ℕ). has_bit b p) is
+    ∙ first_bits blocks p (omega (arith, below, one_block size P few))
 
 -- a read leaves everything
 pub read_run : (free : ℕ → Type 0) (old new : Content) → OnlyTime old new
@@ -49,74 +65,82 @@ read_images P old new r leaves =
     ticked (EachImage P) old new r.time leaves
     (subst (λ (m : Moment). EachImage P m) (sym r.now) leaves)
 
-module _ (P : ℕ) (bitmap : List ℕ) where
-  free : ℕ → Type 0
-  free = IsIn (7 + P) (flags bitmap P)
+-- of a device of so many blocks and pages, whose pages begin at a block
+module _ (size P : ℕ) (bit : ℕ → Bool) (first : ℕ) (first_is : first ≡ head_blocks size) where
+  abbrev copies : ℕ → Type 0
+  copies = IsIn (home size P 0) (flags bit P)
+
+  is_copied : (i : ℕ) → i < P → bit i ≡ true → (n : ℕ) → n ≡ first + P + i
+      → IsIn (home size P 0) (flags bit P) n
+  is_copied i below bit_on n is = record {
+    page = i;
+    below = omega (arith, length-flags bit P, below);
+    is = omega (arith, is, first_is);
+    changes = get_or-flags bit P i below ∙ bit_on;
+  }
 
   -- one more page is copied
-  pub more_copied_run : (i : ℕ) (old mid new : Content) → i < P → has_bit bitmap i ≡ true
-      → Through (Outside (IsIn (7 + P) (flags bitmap P)) old.now) old mid
-      → Through (Outside (λ n. n ≡ 7 + P + i) mid.now) mid new
-      → Through (Outside (IsIn (7 + P) (flags bitmap P)) old.now) old new
+  pub more_copied_run : (i : ℕ) (old mid new : Content) → i < P → bit i ≡ true
+      → Through (Outside (IsIn (home size P 0) (flags bit P)) old.now) old mid
+      → Through (Outside (λ n. n ≡ first + P + i) mid.now) mid new
+      → Through (Outside (IsIn (home size P 0) (flags bit P)) old.now) old new
   more_copied_run i old mid new below bit_on run w =
-      outside_joined (IsIn (7 + P) (flags bitmap P)) old mid new run
-      (weakened (Outside (λ n. n ≡ 7 + P + i) mid.now)
-      (Outside (IsIn (7 + P) (flags bitmap P)) mid.now)
-      (λ m o. outside_more (λ n. n ≡ 7 + P + i) (IsIn (7 + P) (flags bitmap P))
-      (λ n is. record {
-        page = i;
-        below = omega (arith, length-flags bitmap P);
-        is = is;
-        changes = get_or-flags bitmap P i below ∙ bit_on;
-      }) mid.now m o) mid new w)
+      outside_joined copies old mid new run
+      (weakened (Outside (λ n. n ≡ first + P + i) mid.now) (Outside copies mid.now)
+      (λ m o. outside_more (λ n. n ≡ first + P + i) copies (is_copied i below bit_on) mid.now m o)
+      mid new w)
 
-  pub more_touched : (i : ℕ) (old mid new : Content) → i < P → has_bit bitmap i ≡ true
-      → OnlyBlocks (IsIn (7 + P) (flags bitmap P)) old mid
-      → OnlyBlocks (λ n. n ≡ 7 + P + i) mid new → OnlyBlocks (IsIn (7 + P) (flags bitmap P)) old new
+  pub more_touched : (i : ℕ) (old mid new : Content) → i < P → bit i ≡ true
+      → OnlyBlocks (IsIn (home size P 0) (flags bit P)) old mid
+      → OnlyBlocks (λ n. n ≡ first + P + i) mid new
+      → OnlyBlocks (IsIn (home size P 0) (flags bit P)) old new
   more_touched i old mid new below bit_on so_far w =
-      blocks_twice (IsIn (7 + P) (flags bitmap P)) old mid new so_far
-      (blocks_more (λ n. n ≡ 7 + P + i) (IsIn (7 + P) (flags bitmap P))
-      (λ n is. record {
-        page = i;
-        below = omega (arith, length-flags bitmap P);
-        is = is;
-        changes = get_or-flags bitmap P i below ∙ bit_on;
-      }) mid new w)
+      blocks_twice copies old mid new so_far
+      (blocks_more (λ n. n ≡ first + P + i) copies (is_copied i below bit_on) mid new w)
 
-  pub more_copied : (i : ℕ) (old mid new : Content) → i < P → CopiedBelow i P bitmap old.now mid.now
-      → Through (Outside (IsIn (7 + P) (flags bitmap P)) old.now) old mid
-      → Through (Outside (λ n. n ≡ 7 + P + i) mid.now) mid new
-      → block_of new.now (7 + P + i) ≡ block_of mid.now (7 + i)
-      → CopiedBelow (i + 1) P bitmap old.now new.now
+  pub more_copied : (i : ℕ) (old mid new : Content) → i < P
+      → CopiedBelow i size P bit old.now mid.now
+      → Through (Outside (IsIn (home size P 0) (flags bit P)) old.now) old mid
+      → Through (Outside (λ n. n ≡ first + P + i) mid.now) mid new
+      → block_of new.now (first + P + i) ≡ block_of mid.now (first + i)
+      → CopiedBelow (i + 1) size P bit old.now new.now
   more_copied i old mid new below so_far run w copied p under bit_on = elim (cases_eq p i) [
     | inl same ↦
-        ap (λ (k : ℕ). block_of new.now (7 + P + k)) same ∙ copied
-        ∙ run.now.blocks (7 + i)
-        (λ (x : IsIn (7 + P) (flags bitmap P) (7 + i)). absurd (omega (arith, x.is, below)))
-        ∙ ap (λ (k : ℕ). block_of old.now (7 + k)) (sym same)
-    | inr other ↦ w.now.blocks (7 + P + p) (λ (e : 7 + P + p ≡ 7 + P + i). other (omega arith))
+        ap (block_of new.now) (omega (arith, same, first_is)) ∙ copied
+        ∙ run.now.blocks (first + i)
+        (λ (x : copies (first + i)). absurd (omega (arith, x.is, below, first_is)))
+        ∙ ap (block_of old.now) (omega (arith, same, first_is))
+    | inr other ↦ w.now.blocks (home size P p)
+        (λ (e : home size P p ≡ first + P + i). other (omega (arith, e, first_is)))
         ∙ so_far p (omega arith) bit_on
   ]
 
-  pub more_passed : (i : ℕ) (old m : Moment) → CopiedBelow i P bitmap old m
-      → has_bit bitmap i ≡ false → CopiedBelow (i + 1) P bitmap old m
+  pub more_passed : (i : ℕ) (old m : Moment) → CopiedBelow i size P bit old m → bit i ≡ false
+      → CopiedBelow (i + 1) size P bit old m
   more_passed i old m so_far bit_off p under bit_on = elim (cases_eq p i) [
-    | inl same ↦ absurd (cc (ap (λ (k : ℕ). has_bit bitmap k) same, bit_off, bit_on))
+    | inl same ↦ absurd (cc (ap bit same, bit_off, bit_on))
     | inr other ↦ so_far p (omega arith) bit_on
   ]
 
 -- nothing is pending, and the blocks read as the view
-module _ (c : Content) (v : View) (room : 7 ≤ length c.now.blocks) (none : NonePending c)
+module _ (c : Content) (v : View) (room : head_blocks (length c.now.blocks) ≤ length c.now.blocks)
+    (few : length v.pages ≤ most_pages (length c.now.blocks)) (none : NonePending c)
     (reads : ReadsAs c.now v) where
   found_fits : Fits c.now v
   found_fits = record {
-    count = reads.pages.count;
-    room = room;
+    size = reads.size;
+    count = reads.pages.count ∙ ap pages_of reads.size;
+    few = omega (arith, few, ap bitmap_blocks reads.size);
+    room = omega (arith, room, reads.size, ap bitmap_blocks reads.size);
     head_kept = λ n is. none n;
-    head = reads.head;
+    head = ap (λ (n : ℕ). head_in (first_text n) c.now.blocks) (sym reads.size) ∙ reads.head;
     said = reads.said;
     shelf = reads.shelf;
   }
+
+  at_home : (p : ℕ) → block_of c.now (home v.size (length v.pages) p)
+      ≡ block_of c.now (home (length c.now.blocks) (length v.pages) p)
+  at_home p = ap (λ (n : ℕ). block_of c.now (home n (length v.pages) p)) (sym reads.size)
 
   pub found_rest : is_open (block_of c.now 1) ≡ false → AtRest c.now v
   found_rest is = record {
@@ -124,92 +148,105 @@ module _ (c : Content) (v : View) (room : 7 ≤ length c.now.blocks) (none : Non
     gate_kept = none 1;
     gate = is;
     homes = λ p below. record {
-      kept = none (home (length v.pages) p);
-      reads = sym (shut (length v.pages) c.now.blocks p is) ∙ reads.pages.each p below;
-    };
-  }
-
-  pub found_open : is_open (block_of c.now 1) ≡ true
-      → IsOpened c.now v (flags (block_of c.now 2) (length v.pages))
-  found_open is = record {
-    fits = found_fits;
-    gate_kept = none 1;
-    gate = is;
-    logged = record {
-      bitmap_kept = none 2;
-      bits = λ p below. sym (get_or-flags (block_of c.now 2) (length v.pages) p below);
-      slots = λ p below on. record {
-        kept = none (7 + p);
-        reads = sym (set_bit (length v.pages) c.now.blocks p is
-            (sym (get_or-flags (block_of c.now 2) (length v.pages) p below) ∙ on))
-            ∙ reads.pages.each p below;
-      };
-    };
-    homes = λ p below off. record {
-      kept = none (home (length v.pages) p);
-      reads = sym (no_bit (length v.pages) c.now.blocks p is
-          (sym (get_or-flags (block_of c.now 2) (length v.pages) p below) ∙ off))
+      kept = none (home v.size (length v.pages) p);
+      reads = at_home p ∙ sym (shut (length v.pages) c.now.blocks p is)
           ∙ reads.pages.each p below;
     };
   }
 
-  -- what was copied is what the view has
-  pub copied_holds : (m : Moment) → is_open (block_of c.now 1) ≡ true
-      → CopiedBelow (length v.pages) (length v.pages) (block_of c.now 2) c.now m
-      → Holds (7 + length v.pages) v.pages (flags (block_of c.now 2) (length v.pages)) m
-  copied_holds m is copied p below on =
-      copied p below (sym (get_or-flags (block_of c.now 2) (length v.pages) p below) ∙ on)
-      ∙ ((found_open is).logged.slots p below on).reads
+  pub found_open : is_open (block_of c.now 1) ≡ true
+      → IsOpened c.now v (flags (has_bit_on c.now.blocks) (length v.pages))
+  found_open is =
+      let bit = has_bit_on c.now.blocks in
+      record {
+        fits = found_fits;
+        gate_kept = none 1;
+        gate = is;
+        logged = record {
+          bitmap_kept = λ n at. none n;
+          bits = λ p below. sym (get_or-flags bit (length v.pages) p below);
+          slots = λ p below on. record {
+            kept = none (slot v.size p);
+            reads = ap (λ (n : ℕ). block_of c.now (slot n p)) (sym reads.size)
+                ∙ sym (set_bit (length v.pages) c.now.blocks p is
+                (sym (get_or-flags bit (length v.pages) p below) ∙ on))
+                ∙ reads.pages.each p below;
+          };
+        };
+        homes = λ p below off. record {
+          kept = none (home v.size (length v.pages) p);
+          reads = at_home p ∙ sym (no_bit (length v.pages) c.now.blocks p is
+              (sym (get_or-flags bit (length v.pages) p below) ∙ off))
+              ∙ reads.pages.each p below;
+        };
+      }
 
 -- the bitmap was read, and then the pages were copied and synced
-module _ (v : View) (a b : Content) (bitmap : List ℕ) (r : OnlyTime a b)
-    (room : 7 ≤ length a.now.blocks) (none : NonePending a)
+module _ (v : View) (a b : Content) (r : OnlyTime a b)
+    (room : head_blocks (length a.now.blocks) ≤ length a.now.blocks)
+    (few : length v.pages ≤ most_pages (length a.now.blocks)) (none : NonePending a)
     (reads : ReadsAs a.now v) (opened : is_open (block_of a.now 1) ≡ true) where
+  abbrev all : List Bool
+  all = flags (has_bit_on a.now.blocks) (length v.pages)
+
   pub back_read : LeavesOnly (StandsFor v) a b
   back_read = read_images (StandsFor v) a b r
-      (opened_leaves a.now v (flags (block_of a.now 2) (length v.pages))
-      (found_open a v room none reads opened))
+      (opened_leaves a.now v all (found_open a v room few none reads opened))
 
-  module _ (bitmap_is : bitmap ≡ block_of a.now 2) (P : ℕ) (counts : length v.pages ≡ P)
-      (d : Content)
-      (run : Through (Outside (IsIn (7 + P) (flags bitmap P)) b.now) b d) where
-    still_open : IsOpened b.now v (flags bitmap (length v.pages))
-    still_open = subst (λ (m : Moment). IsOpened m v (flags bitmap (length v.pages))) (sym r.now)
-        (subst (λ (x : List ℕ). IsOpened a.now v (flags x (length v.pages))) (sym bitmap_is)
-        (found_open a v room none reads opened))
+  module _ (bit : ℕ → Bool) (size : ℕ) (size_is : length a.now.blocks ≡ size) (P : ℕ)
+      (counts : length v.pages ≡ P)
+      (bits : (p : ℕ) → p < P → bit p ≡ has_bit_on a.now.blocks p) (d : Content)
+      (run : Through (Outside (IsIn (home size P 0) (flags bit P)) b.now) b d) where
+    still_open : IsOpened b.now v all
+    still_open = subst (λ (m : Moment). IsOpened m v all) (sym r.now)
+        (found_open a v room few none reads opened)
 
-    here : Through (Outside (IsIn (7 + length v.pages) (flags bitmap (length v.pages))) b.now) b d
-    here = subst (λ (n : ℕ). Through (Outside (IsIn (7 + n) (flags bitmap n)) b.now) b d)
-        (sym counts) run
+    all_is : flags bit P ≡ all
+    all_is = same_flags bit (has_bit_on a.now.blocks) P bits
+        ∙ ap (flags (has_bit_on a.now.blocks)) (sym counts)
+
+    base : home size P 0 ≡ home v.size (length v.pages) 0
+    base = omega (arith, counts, ap bitmap_blocks size_is, ap bitmap_blocks reads.size)
+
+    here : Through (Outside (IsIn (home v.size (length v.pages) 0) all) b.now) b d
+    here = subst (λ (n : ℕ). Through (Outside (IsIn n all) b.now) b d) base
+        (subst (λ (f : List Bool). Through (Outside (IsIn (home size P 0) f) b.now) b d) all_is run)
 
     pub back_copied : LeavesOnly (StandsFor v) a d
     back_copied = joined (EachImage (StandsFor v)) a b d back_read
-        (home_images v (flags bitmap (length v.pages)) b d still_open here)
+        (home_images v all b d still_open here)
 
     pub back_synced : (e : Content) → Syncs d e → LeavesOnly (StandsFor v) a e
     back_synced e s = joined (EachImage (StandsFor v)) a d e back_copied
         (synced (StandsFor v) d e s back_copied.now)
 
-    pub back_ready : (e : Content) → Syncs d e → NonePending e → CopiedBelow P P bitmap b.now d.now
-        → IsReady e.now v v (flags (block_of a.now 2) P)
+    pub back_ready : (e : Content) → Syncs d e → NonePending e
+        → CopiedBelow P size P bit b.now d.now
+        → IsReady e.now v v (flags (has_bit_on a.now.blocks) P)
     back_ready e s settled copied =
-        let held : Holds (7 + length v.pages) v.pages (flags bitmap (length v.pages)) d.now =
+        let held : Holds (home v.size (length v.pages) 0) v.pages all d.now =
         λ p below on.
-        (subst (λ (n : ℕ). CopiedBelow n n bitmap b.now d.now) (sym counts) copied) p below
-        (sym (get_or-flags bitmap (length v.pages) p below) ∙ on)
+        let under : p < P = omega (arith, below, counts) in
+        let on_bit : bit p ≡ true =
+        sym (get_or-flags bit P p under) ∙ ap (λ (f : List Bool). get_or f p false) all_is ∙ on in
+        ap (block_of d.now)
+        (omega (arith, counts, ap bitmap_blocks size_is, ap bitmap_blocks reads.size))
+        ∙ copied p under on_bit
+        ∙ ap (block_of b.now) (omega (arith, ap bitmap_blocks size_is, ap bitmap_blocks reads.size))
         ∙ (still_open.logged.slots p below on).reads in
-        let q = homes_ready d e s settled v (flags bitmap (length v.pages))
-        (opened_homes b.now d.now v (flags bitmap (length v.pages)) here.now still_open) held in
-        subst (λ (n : ℕ). IsReady e.now v v (flags (block_of a.now 2) n)) counts
-        (subst (λ (x : List ℕ). IsReady e.now v v (flags x (length v.pages))) bitmap_is q)
+        let q = homes_ready d e s settled v all
+        (opened_homes b.now d.now v all here.now still_open) held in
+        subst (λ (n : ℕ). IsReady e.now v v (flags (has_bit_on a.now.blocks) n)) counts q
 
 -- where nothing is pending, a crash leaves what is read
-pub found_leaves : (a : Content) (v : View) → 7 ≤ length a.now.blocks → NonePending a
+pub found_leaves : (a : Content) (v : View)
+    → head_blocks (length a.now.blocks) ≤ length a.now.blocks
+    → length v.pages ≤ most_pages (length a.now.blocks) → NonePending a
     → ReadsAs a.now v → EachImage (StandsFor v) a.now
-found_leaves a v room none reads = elim (bool_cases (is_open (block_of a.now 1))) [
-  | inl opened ↦ opened_leaves a.now v (flags (block_of a.now 2) (length v.pages))
-      (found_open a v room none reads opened)
-  | inr closed ↦ rest_leaves a.now v (found_rest a v room none reads closed)
+found_leaves a v room few none reads = elim (bool_cases (is_open (block_of a.now 1))) [
+  | inl opened ↦ opened_leaves a.now v (flags (has_bit_on a.now.blocks) (length v.pages))
+      (found_open a v room few none reads opened)
+  | inr closed ↦ rest_leaves a.now v (found_rest a v room few none reads closed)
 ]
 
 -- a read finds what was there
@@ -223,15 +260,22 @@ pub still_gate : (a b : Content) (g : Bool) → OnlyTime a b → is_open (block_
     → is_open (block_of b.now 1) ≡ g
 still_gate a b g r is = ap (λ (m : Moment). is_open (block_of m 1)) r.now ∙ is
 
-pub still_rest : (a b : Content) (v : View) → OnlyTime a b → 7 ≤ length a.now.blocks → NonePending a
+pub still_rest : (a b : Content) (v : View) → OnlyTime a b
+    → head_blocks (length a.now.blocks) ≤ length a.now.blocks
+    → length v.pages ≤ most_pages (length a.now.blocks) → NonePending a
     → ReadsAs a.now v
     → is_open (block_of a.now 1) ≡ false → AtRest b.now v
-still_rest a b v r room none reads closed =
-    subst (λ (m : Moment). AtRest m v) (sym r.now) (found_rest a v room none reads closed)
+still_rest a b v r room few none reads closed =
+    subst (λ (m : Moment). AtRest m v) (sym r.now) (found_rest a v room few none reads closed)
 
-pub room_of : (a : Content) (pages : ℕ) → 7 + 2 * pages ≤ length a.now.blocks
-    → 7 ≤ length a.now.blocks
-room_of a pages le = omega arith
+-- what is asked of the device holds of its blocks
+pub room_of : (size P : ℕ) (blocks : List (List ℕ)) → size ≡ length blocks
+    → head_blocks size + 2 * P ≤ size → head_blocks (length blocks) ≤ length blocks
+room_of size P blocks same room = omega (arith, room, same, ap bitmap_blocks same)
+
+pub few_of : (size P : ℕ) (blocks pages : List (List ℕ)) → size ≡ length blocks
+    → length pages ≡ P → P ≤ most_pages size → length pages ≤ most_pages (length blocks)
+few_of size P blocks pages same counts few = omega (arith, few, counts, ap bitmap_blocks same)
 
 -- a sync changes no block
 pub reads_same : (v : View) (old mid : Content) → Syncs old mid → ReadsAs old.now v
@@ -245,35 +289,50 @@ reads_same v old mid s reads =
     (record { blocks = old.now.blocks; said = t; shelf = old.now.shelf })) (sym s.said) reads))
 
 -- the bitmap was read, and pages that it names were copied
-pub back_touched : (P : ℕ) (a b d : Content) (bitmap : List ℕ) → OnlyTime a b
-    → bitmap ≡ block_of a.now 2
-    → OnlyBlocks (IsIn (7 + P) (flags bitmap P)) b d
-    → OnlyBlocks (IsIn (7 + P) (flags (block_of a.now 2) P)) a d
-back_touched P a b d bitmap r is touched =
-    blocks_twice (IsIn (7 + P) (flags (block_of a.now 2) P)) a b d
-    (blocks_read (IsIn (7 + P) (flags (block_of a.now 2) P)) a b r)
-    (subst (λ (x : List ℕ). OnlyBlocks (IsIn (7 + P) (flags x P)) b d) is touched)
+pub back_touched : (base P : ℕ) (a b d : Content) (bit : ℕ → Bool) → OnlyTime a b
+    → ((p : ℕ) → p < P → bit p ≡ has_bit_on a.now.blocks p)
+    → OnlyBlocks (IsIn base (flags bit P)) b d
+    → OnlyBlocks (IsIn base (flags (has_bit_on a.now.blocks) P)) a d
+back_touched base P a b d bit r same touched =
+    let free = IsIn base (flags (has_bit_on a.now.blocks) P) in
+    blocks_twice free a b d (blocks_read free a b r)
+    (subst (λ (f : List Bool). OnlyBlocks (IsIn base f) b d)
+    (same_flags bit (has_bit_on a.now.blocks) P same) touched)
 
 -- behind an open gate pages were copied, and the gate was written
-module _ (P : ℕ) (a b d : Content) (r : OnlyTime a b) (opened : is_open (block_of b.now 1) ≡ true)
-  where
-    pub settled_home : OnlyBlocks (IsIn (7 + P) (flags (block_of b.now 2) P)) b d
-        → OnlyBlocks (IsOfRecovery P a.now.blocks) a d
-    settled_home touched =
-        blocks_twice (IsOfRecovery P a.now.blocks) a b d
-        (blocks_read (IsOfRecovery P a.now.blocks) a b r)
-        (subst (λ (m : Moment). OnlyBlocks (IsOfRecovery P m.blocks) b d) r.now
-        (blocks_more (IsIn (7 + P) (flags (block_of b.now 2) P)) (IsOfRecovery P b.now.blocks)
-        (λ n is. (opened, inr is)) b d touched))
+module _ (size P : ℕ) (a b d : Content) (r : OnlyTime a b) (size_is : size ≡ length b.now.blocks)
+    (opened : is_open (block_of b.now 1) ≡ true) where
+  abbrev named : ℕ → Type 0
+  named = IsIn (home size P 0) (flags (has_bit_on b.now.blocks) P)
 
-    pub settled_gate : (e : Content) → OnlyBlocks (IsIn (7 + P) (flags (block_of b.now 2) P)) b d
-        → OnlyBlocks (λ n. n ≡ 1) d e
-        → OnlyBlocks (IsOfRecovery P a.now.blocks) a e
-    settled_gate e touched gate =
-        blocks_twice (IsOfRecovery P a.now.blocks) a d e (settled_home touched)
-        (blocks_more (λ n. n ≡ 1) (IsOfRecovery P a.now.blocks)
-        (λ n is. (ap (λ (m : Moment). is_open (block_of m 1)) (sym r.now) ∙ opened, inl is)) d e
-        gate)
+  of_recovery : (n : ℕ) → named n → IsOfRecovery P b.now.blocks n
+  of_recovery n is = (
+    opened,
+    inr (record {
+      page = is.page;
+      below = is.below;
+      is = omega (arith, is.is, ap bitmap_blocks size_is);
+      changes = is.changes;
+    }),
+  )
+
+  pub settled_home : OnlyBlocks (IsIn (home size P 0) (flags (has_bit_on b.now.blocks) P)) b d
+      → OnlyBlocks (IsOfRecovery P a.now.blocks) a d
+  settled_home touched =
+      blocks_twice (IsOfRecovery P a.now.blocks) a b d
+      (blocks_read (IsOfRecovery P a.now.blocks) a b r)
+      (subst (λ (m : Moment). OnlyBlocks (IsOfRecovery P m.blocks) b d) r.now
+      (blocks_more named (IsOfRecovery P b.now.blocks) of_recovery b d touched))
+
+  pub settled_gate : (e : Content)
+      → OnlyBlocks (IsIn (home size P 0) (flags (has_bit_on b.now.blocks) P)) b d
+      → OnlyBlocks (λ n. n ≡ 1) d e
+      → OnlyBlocks (IsOfRecovery P a.now.blocks) a e
+  settled_gate e touched gate =
+      blocks_twice (IsOfRecovery P a.now.blocks) a d e (settled_home touched)
+      (blocks_more (λ n. n ≡ 1) (IsOfRecovery P a.now.blocks)
+      (λ n is. (ap (λ (m : Moment). is_open (block_of m 1)) (sym r.now) ∙ opened, inl is)) d e
+      gate)
 
 -- a sync and a read come before
 pub settled_after : (P : ℕ) (a b c d : Content) → Syncs a b → OnlyTime b c
@@ -286,14 +345,37 @@ settled_after P a b c d s r touched =
     (subst (λ (bs : List (List ℕ)). OnlyBlocks (IsOfRecovery P bs) c d)
     (ap (λ (m : Moment). m.blocks) r.now ∙ s.blocks) touched))
 
+-- only a sync came
+pub unwritten_sync : (a b : Content) → Syncs a b → IsUnwritten a b
+unwritten_sync a b s = record {
+  blocks = s.blocks;
+  images = synced (IsImage a.now) a b s (λ image is. is);
+}
+
+-- a sync came, and a read
+pub unwritten_read : (a b c : Content) → Syncs a b → OnlyTime b c → IsUnwritten a c
+unwritten_read a b c s r =
+    let first = synced (IsImage a.now) a b s (λ image is. is) in
+    record {
+      blocks = ap (λ (m : Moment). m.blocks) r.now ∙ s.blocks;
+      images = joined (EachImage (IsImage a.now)) a b c first
+          (read_images (IsImage a.now) b c r first.now);
+    }
+
+pub recovers_none : (v : View) (a b : Content) → Syncs a b → Recovers v a b
+recovers_none v a b s = inl (unwritten_sync a b s)
+
 -- the magic was read after a sync
 module _ (v : View) (a b c : Content) (s : Syncs a b) (r : OnlyTime b c)
-    (room : 7 ≤ length a.now.blocks) (none : NonePending b)
+    (room : head_blocks (length a.now.blocks) ≤ length a.now.blocks)
+    (few : length v.pages ≤ most_pages (length a.now.blocks)) (none : NonePending b)
     (reads : ReadsAs a.now v) where
   magic_images : LeavesOnly (StandsFor v) b c
   magic_images = read_images (StandsFor v) b c r
-      (found_leaves b v (omega (arith, room, ap (λ (l : List (List ℕ)). length l) s.blocks)) none
-      (reads_same v a b s reads))
+      (found_leaves b v
+      (subst (λ (bs : List (List ℕ)). head_blocks (length bs) ≤ length bs) (sym s.blocks) room)
+      (subst (λ (bs : List (List ℕ)). length v.pages ≤ most_pages (length bs)) (sym s.blocks) few)
+      none (reads_same v a b s reads))
 
   pub recovers_read : Recovers v a c
   recovers_read = inr (record {

@@ -1,9 +1,9 @@
 -- The text blocks, byte by byte.
-use Rattle.std.proofs.Common.{◌≡◌, ◌≢◌, inl, inr, ℕ, ◌+◌, ◌-◌, ◌*◌, ◌/◌, ◌%◌, ◌<◌, ◌≤◌, List, [], get_or, drop, Some, refl, sym, ◌∙◌, ap, subst, arith}
+use Rattle.std.proofs.Common.{◌≡◌, ◌≢◌, inl, inr, ℕ, ◌+◌, ◌-◌, ◌*◌, ◌/◌, ◌%◌, ◌<◌, ◌≤◌, List, [], length, get_or, drop, Some, refl, sym, ◌∙◌, ap, subst, arith}
 use Rattle.std.proofs.lemmas.Bool.{cases_eq, cases_lt}
 use Rattle.std.proofs.lemmas.List.{get_or-take, get_or-drop}
 use Rattle.gx_device.specs.Content.{Moment, Content, OnlyTime, block_of}
-use Rattle.gx_layout.specs.Layout.{head_of}
+use Rattle.gx_layout.specs.Layout.{first_text, head_of}
 use Rattle.gx_layout.specs.Head.{DifferFirst, text_at, block_in}
 use Rattle.gx_layout.specs.Calm.{OnlyReads}
 use Rattle.gx_layout.proofs.CalmLemmas.{calm_read}
@@ -28,9 +28,9 @@ reads_twice a b c first then = record {
 }
 
 head_text : (blocks : List (List ℕ)) (k : ℕ) → k < 4
-    → get_or (head_of blocks) (1 + k) [] ≡ get_or blocks (3 + k) []
+    → get_or (head_of blocks) (1 + k) [] ≡ get_or blocks (first_text (length blocks) + k) []
 head_text blocks k below = elim (cases_eq k 0) [
-  | inl e ↦ at 0 refl e
+  | inl e ↦ at 0 (ap (λ (n : ℕ). get_or blocks n []) (omega arith)) e
   | inr n0 ↦ elim (cases_eq k 1) [
     | inl e ↦ at 1 refl e
     | inr n1 ↦ elim (cases_eq k 2) [
@@ -40,14 +40,16 @@ head_text blocks k below = elim (cases_eq k 0) [
   ]
 ]
   where
-    at : (j : ℕ) → get_or (head_of blocks) (1 + j) [] ≡ get_or blocks (3 + j) [] → k ≡ j
-        → get_or (head_of blocks) (1 + k) [] ≡ get_or blocks (3 + k) []
+    at : (j : ℕ)
+        → get_or (head_of blocks) (1 + j) [] ≡ get_or blocks (first_text (length blocks) + j) []
+        → k ≡ j
+        → get_or (head_of blocks) (1 + k) [] ≡ get_or blocks (first_text (length blocks) + k) []
     at j is e = ap (λ (n : ℕ). get_or (head_of blocks) (1 + n) []) e ∙ is
-        ∙ ap (λ (n : ℕ). get_or blocks (3 + n) []) (sym e)
+        ∙ ap (λ (n : ℕ). get_or blocks (first_text (length blocks) + n) []) (sym e)
 
 -- text block i was read, and stands beside block i of an area
 module _ (m : Moment) (area : List ℕ) (i : ℕ) (below : i < 4) (block part : List ℕ)
-    (block_is : block ≡ block_of m (3 + i))
+    (block_is : block ≡ block_of m (first_text (length m.blocks) + i))
     (part_is : part ≡ block_in area i) where
   byte : (k : ℕ) → k < 4096 → text_at (head_of m.blocks) (4096 * i + k) ≡ get_or block k 0
   byte k lt =

@@ -1,3 +1,5 @@
+pub mod Places
+pub mod PlaceLaws
 pub mod Layout
 pub mod Calm
 pub mod PhaseLaws
@@ -5,3 +7,4 @@ pub mod CalmLaws
 pub mod Recovered
 pub mod Head
 pub mod Besides
+pub mod Calls

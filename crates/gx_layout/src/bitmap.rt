@@ -1,55 +1,54 @@
 // The bitmap: which pages count in their slots.
-ghost use Rattle.std.specs.Prelude.{◌≡◌, ◌≢◌, ◌<◌, ◌≤◌, ℕ, IsTrue, true, false, length, OnOk};
-ghost use Rattle.gx_device.specs.Content.{block_of};
+ghost use Rattle.std.specs.Prelude.{◌≡◌, ◌≢◌, ◌<◌, ◌≤◌, ℕ, IsTrue, true, length, slice_index_or, OnOk};
 ghost use Rattle.gx_device.specs.Crash.{Through, Outside};
 ghost use Rattle.gx_device.specs.Faults.{IsCounted};
-ghost use Rattle.gx_layout.specs.Layout.{OnlyBlocks, Names, has_bit};
+ghost use Rattle.gx_layout.specs.Layout.{OnlyBlocks, NamesListed, has_bit, has_bit_on};
+ghost use Rattle.gx_layout.specs.Places.{IsBitmap, first_text, most_pages};
 ghost use Rattle.gx_device.specs.declared.device.TheConstants.{BLOCK_LEN};
-ghost use Rattle.gx_layout.specs.declared.bitmap.TheConstants.{MAX_PAGES};
+ghost use Rattle.gx_layout.specs.declared.bitmap.TheConstants.{BITS};
 
 use gx_device::{BLOCK_LEN, Device, Failed};
 
-/// The most pages of a device: as many as the bitmap has bits.
-pub const MAX_PAGES: usize = 8 * BLOCK_LEN;
+/// How many bits a block of the bitmap has: one for each of so many pages.
+pub const BITS: usize = 8 * BLOCK_LEN;
 
 fn set_bit(bits: &mut [u8], p: usize)
     requires room { length bits.old ≡ BLOCK_LEN }
-    requires below { p < MAX_PAGES }
+    requires below { p < BITS }
     ensures set { has_bit bits.new p ≡ true }
     ensures others { (q : ℕ) → q ≢ p → has_bit bits.new q ≡ has_bit bits.old q }
 {
     bits[p / 8] |= 1 << (7 - p % 8);
 }
 
-fn bitmap_of(changed: &[bool]) -> [u8; BLOCK_LEN]
-    requires { length changed.now ≤ MAX_PAGES }
-    ensures named { Names changed.now result (length changed.now) }
-    ensures others { (p : ℕ) → length changed.now ≤ p → has_bit result p ≡ false }
+// A block of bits in which those of the listed pages are set.
+fn bitmap_of(listed: &[u32]) -> [u8; BLOCK_LEN]
+    requires { (i : ℕ) → i < length listed.now → slice_index_or listed.now i 0 < BITS }
+    ensures { NamesListed listed.now (has_bit result) BITS }
 {
     let mut bits = [0; BLOCK_LEN];
-    for p in 0..changed.len() {
-        if changed[p] {
-            set_bit(&mut bits, p);
-        }
+    for i in 0..listed.len() {
+        set_bit(&mut bits, listed[i] as usize);
     }
     bits
 }
 
-/// Writes the bitmap of the changed pages, which names no other.
-pub fn write_bitmap<D: Device>(device: &mut D, changed: &[bool]) -> Result<(), Failed>
-    requires room { 2 < D.size device.old }
-    requires limit { length changed.now ≤ MAX_PAGES }
-    ensures written { IsTrue D.tells →
-        OnOk result
-        (Names changed.now (block_of (D.content device.new).now 2) (length changed.now)) }
-    ensures others { IsTrue D.tells → OnOk result ((p : ℕ) → length changed.now ≤ p →
-        has_bit (block_of (D.content device.new).now 2) p ≡ false) }
-    ensures run { Through (Outside (λ n. n ≡ 2) (D.content device.old).now) (D.content device.old)
+/// Writes the bitmap of these pages: their bits are set, in any order and however often a page is
+/// listed, and no other bit is. After `Failed` the bitmap may read as anything, and may be pending.
+#[tactic(auto, unfolding(crate::specs::Places::bitmap_blocks))]
+pub fn write_bitmap<D: Device>(device: &mut D, listed: &[u32]) -> Result<(), Failed>
+    requires room { first_text (D.size device.old) ≤ D.size device.old }
+    requires listed { (i : ℕ) → i < length listed.now →
+        slice_index_or listed.now i 0 < most_pages (D.size device.old) }
+    ensures written { IsTrue D.tells → OnOk result
+        (NamesListed listed.now (has_bit_on (D.content device.new).now.blocks)
+        (most_pages (D.size device.old))) }
+    ensures run { Through (Outside (IsBitmap (D.size device.old)) (D.content device.old).now)
+        (D.content device.old) (D.content device.new) }
+    ensures rest { OnlyBlocks (IsBitmap (D.size device.old)) (D.content device.old)
         (D.content device.new) }
-    ensures rest { OnlyBlocks (λ n. n ≡ 2) (D.content device.old) (D.content device.new) }
     ensures size { D.size device.new ≡ D.size device.old }
     ensures faults { IsCounted (D.faults device.old) (D.faults device.new) result }
 {
-    let bits = bitmap_of(changed);
-    device.write_block(2, &bits)
+    device.write_block(2, &bitmap_of(listed))
 }

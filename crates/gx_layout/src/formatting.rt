@@ -4,37 +4,19 @@ ghost use Rattle.std.specs.Int.{w16, to_be_bytes};
 ghost use Rattle.gx_device.specs.Content.{NonePending, block_of};
 ghost use Rattle.gx_device.specs.Crash.{Through, Outside, LeavesOnly};
 ghost use Rattle.gx_device.specs.Faults.{IsCounted};
-ghost use Rattle.gx_layout.specs.Layout.{OnlyBlocks, head_of, is_open, has_bit};
+ghost use Rattle.gx_layout.specs.Layout.{OnlyBlocks, head_of, is_open, has_bit_on};
+ghost use Rattle.gx_layout.specs.Places.{first_text, head_blocks, most_pages};
 ghost use Rattle.gx_layout.specs.Head.{text_area, text_blocks, block_in, IsText, IsFormatted};
 ghost use Rattle.gx_layout.specs.Besides.{IsImageBesides};
+ghost use Rattle.gx_layout.specs.Calls.{TouchesOnly};
 ghost use Rattle.gx_device.specs.declared.device.TheConstants.{BLOCK_LEN};
-ghost use Rattle.gx_layout.specs.declared.formatting.TheConstants.{FIRST_TEXT_BLOCK, TEXT_BLOCKS, HEAD_BLOCKS, TEXT_AREA_LEN, MAX_TEXTS_LEN};
+ghost use Rattle.gx_layout.specs.declared.places.TheConstants.{TEXT_BLOCKS, TEXT_AREA_LEN, MAX_TEXTS_LEN};
 
-use crate::bitmap::{MAX_PAGES, write_bitmap};
+use crate::bitmap::write_bitmap;
 use crate::gate::set_gate;
+use crate::places::{LENGTH_LEN, MAX_TEXTS_LEN, TEXT_AREA_LEN, TEXT_BLOCKS, first_text};
 use gx_bytes::overwrite;
 use gx_device::{BLOCK_LEN, Device, Failed};
-
-/// The first of the blocks that hold the texts. Before it stand those of the magic, the gate and
-/// the bitmap.
-pub(crate) const FIRST_TEXT_BLOCK: u32 = 3;
-
-/// How many blocks hold the texts.
-pub(crate) const TEXT_BLOCKS: u32 = 4;
-
-/// How many blocks a device has before its pages.
-pub const HEAD_BLOCKS: u32 = FIRST_TEXT_BLOCK + TEXT_BLOCKS;
-
-/// The bytes of the blocks that hold the texts.
-pub const TEXT_AREA_LEN: usize = TEXT_BLOCKS as usize * BLOCK_LEN;
-
-const LENGTH_LEN: usize = 2;
-
-/// The most blocks of a device: those before its pages, and two for each page.
-pub const MAX_BLOCKS: u32 = HEAD_BLOCKS + 2 * MAX_PAGES as u32;
-
-/// The most bytes of the two texts: with their lengths they fill the text blocks.
-pub const MAX_TEXTS_LEN: usize = TEXT_AREA_LEN - 2 * LENGTH_LEN;
 
 // The length of a text, as it is written.
 fn length_bytes(text: &[u8]) -> [u8; LENGTH_LEN]
@@ -69,38 +51,40 @@ pub(crate) fn text_block(area: &[u8], i: u32) -> &[u8]
 }
 
 fn write_texts<D: Device>(device: &mut D, area: &[u8]) -> Result<(), Failed>
-    requires room { HEAD_BLOCKS ≤ D.size device.old }
+    requires room { head_blocks (D.size device.old) ≤ D.size device.old }
     requires bytes { length area.now ≡ TEXT_AREA_LEN }
     ensures texts { IsTrue D.tells → OnOk result
         ((i : ℕ) → i < TEXT_BLOCKS →
-        block_of (D.content device.new).now (FIRST_TEXT_BLOCK + i) ≡ block_in area.now i) }
-    ensures run { Through (Outside IsText (D.content device.old).now) (D.content device.old)
+        block_of (D.content device.new).now (first_text (D.size device.old) + i)
+        ≡ block_in area.now i) }
+    ensures run { Through (Outside (IsText (D.size device.old)) (D.content device.old).now)
+        (D.content device.old) (D.content device.new) }
+    ensures rest { OnlyBlocks (IsText (D.size device.old)) (D.content device.old)
         (D.content device.new) }
-    ensures rest { OnlyBlocks IsText (D.content device.old) (D.content device.new) }
     ensures size { D.size device.new ≡ D.size device.old }
     ensures faults { IsCounted (D.faults device.old) (D.faults device.new) result }
 {
+    let first = first_text(device.blocks());
     for i in 0..TEXT_BLOCKS {
-        device.write_block(FIRST_TEXT_BLOCK + i, text_block(area, i))?;
+        device.write_block(first + i, text_block(area, i))?;
     }
     Ok(())
 }
 
 // Writes all blocks of an empty layout.
 fn lay_out<D: Device>(device: &mut D, schema: &[u8], equation: &[u8]) -> Result<(), Failed>
-    requires room { HEAD_BLOCKS ≤ D.size device.old }
+    requires room { head_blocks (D.size device.old) ≤ D.size device.old }
     requires texts { length schema.now + length equation.now ≤ MAX_TEXTS_LEN }
     ensures head { IsTrue D.tells → OnOk result (head_of (D.content device.new).now.blocks
         ≡ block_of (D.content device.old).now 0 ∷ text_blocks schema.now equation.now) }
     ensures closed { IsTrue D.tells →
         OnOk result (is_open (block_of (D.content device.new).now 1) ≡ false) }
-    ensures bitmap { IsTrue D.tells → OnOk result ((p : ℕ) →
-        has_bit (block_of (D.content device.new).now 2) p ≡ false) }
-    ensures run { Through (Outside IsFormatted (D.content device.old).now) (D.content device.old)
-        (D.content device.new) }
-    ensures rest { OnlyBlocks IsFormatted (D.content device.old) (D.content device.new) }
-    ensures size { D.size device.new ≡ D.size device.old }
-    ensures faults { IsCounted (D.faults device.old) (D.faults device.new) result }
+    ensures bitmap { IsTrue D.tells → OnOk result ((p : ℕ) → p < most_pages (D.size device.old) →
+        has_bit_on (D.content device.new).now.blocks p ≡ false) }
+    ensures run { Through (Outside (IsFormatted (D.size device.old)) (D.content device.old).now)
+        (D.content device.old) (D.content device.new) }
+    ensures touches { TouchesOnly D.Device (IsFormatted (D.size device.old)) device.old device.new
+        result }
 {
     set_gate(device, false)?;
     write_bitmap(device, &[])?;
@@ -110,20 +94,20 @@ fn lay_out<D: Device>(device: &mut D, schema: &[u8], equation: &[u8]) -> Result<
 /// Lays out a device: the gate is closed, the bitmap is empty, and the text blocks hold the texts.
 /// The block of the magic and the pages stay as they are.
 pub fn format<D: Device>(device: &mut D, schema: &[u8], equation: &[u8]) -> Result<(), Failed>
-    requires room { HEAD_BLOCKS ≤ D.size device.old }
+    requires room { head_blocks (D.size device.old) ≤ D.size device.old }
     requires texts { length schema.now + length equation.now ≤ MAX_TEXTS_LEN }
     ensures head { IsTrue D.tells → OnOk result (head_of (D.content device.new).now.blocks
         ≡ block_of (D.content device.old).now 0 ∷ text_blocks schema.now equation.now) }
     ensures closed { IsTrue D.tells →
         OnOk result (is_open (block_of (D.content device.new).now 1) ≡ false) }
-    ensures bitmap { IsTrue D.tells → OnOk result ((p : ℕ) →
-        has_bit (block_of (D.content device.new).now 2) p ≡ false) }
+    ensures bitmap { IsTrue D.tells → OnOk result ((p : ℕ) → p < most_pages (D.size device.old) →
+        has_bit_on (D.content device.new).now.blocks p ≡ false) }
     ensures none_pending { IsTrue D.tells → OnOk result (NonePending (D.content device.new)) }
-    ensures images { LeavesOnly (IsImageBesides IsFormatted (D.content device.old).now)
+    ensures images { LeavesOnly
+        (IsImageBesides (IsFormatted (D.size device.old)) (D.content device.old).now)
         (D.content device.old) (D.content device.new) }
-    ensures rest { OnlyBlocks IsFormatted (D.content device.old) (D.content device.new) }
-    ensures size { D.size device.new ≡ D.size device.old }
-    ensures faults { IsCounted (D.faults device.old) (D.faults device.new) result }
+    ensures touches { TouchesOnly D.Device (IsFormatted (D.size device.old)) device.old device.new
+        result }
 {
     lay_out(device, schema, equation)?;
     device.sync()

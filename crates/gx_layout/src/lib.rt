@@ -6,12 +6,16 @@ mod bitmap;
 mod formatting;
 mod gate;
 mod head;
+mod places;
 mod recovery;
 mod texts;
 
-pub use bitmap::{MAX_PAGES, write_bitmap};
-pub use formatting::{HEAD_BLOCKS, MAX_BLOCKS, MAX_TEXTS_LEN, TEXT_AREA_LEN, format};
+pub use bitmap::{BITS, write_bitmap};
+pub use formatting::format;
 pub use gate::{close_gate, open_gate, set_gate};
 pub use head::seal;
+pub use places::{
+    MAX_BLOCKS, MAX_TEXTS_LEN, TEXT_AREA_LEN, head_blocks, home, page_count, slot, table_pages,
+};
 pub use recovery::recover;
 pub use texts::texts_differ;

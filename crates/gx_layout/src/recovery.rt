@@ -1,23 +1,24 @@
 // What a crash left is settled.
-ghost use Rattle.std.specs.Prelude.{◌≡◌, ◌↔◌, ◌<◌, ◌≤◌, ◌+◌, ◌*◌, true, false, length, IsTrue, IfOk, OnOk, OnErr};
+ghost use Rattle.std.specs.Prelude.{◌≡◌, ◌↔◌, ◌<◌, ◌≤◌, ◌+◌, ◌*◌, true, false, length, IsTrue, IfOk, OnOk};
 ghost use Rattle.gx_device.specs.Content.{OnlyTime, NonePending, Silent, block_of};
 ghost use Rattle.gx_device.specs.Faults.{IsCounted};
 ghost use Rattle.gx_device.specs.Crash.{Through, Outside, LeavesOnly};
-ghost use Rattle.gx_layout.specs.Layout.{View, is_open, has_bit, IsIn, flags, StandsFor, ReadsAs, AtRest, IsReady, CopiedBelow, OnlyBlocks};
+ghost use Rattle.gx_layout.specs.Layout.{View, is_open, has_bit, has_bit_on, IsIn, flags, StandsFor, ReadsAs, AtRest, IsReady, CopiedBelow, OnlyBlocks};
+ghost use Rattle.gx_layout.specs.Places.{head_blocks, home, most_pages};
+ghost use Rattle.gx_layout.specs.Calls.{RecoversOnly};
 ghost use Rattle.gx_layout.specs.Head.{HasMagic};
 ghost use Rattle.gx_layout.specs.Recovered.{Recovers, IsOfRecovery};
 ghost use Rattle.gx_device.specs.declared.device.TheConstants.{BLOCK_LEN};
-ghost use Rattle.gx_layout.specs.declared.bitmap.TheConstants.{MAX_PAGES};
-ghost use Rattle.gx_layout.specs.declared.formatting.TheConstants.{HEAD_BLOCKS};
+ghost use Rattle.gx_layout.specs.declared.bitmap.TheConstants.{BITS};
 
-use crate::formatting::HEAD_BLOCKS;
 use crate::gate::close_gate;
 use crate::head::has_magic;
+use crate::places::head_blocks;
 use gx_device::{BLOCK_LEN, Device, Failed};
 
 fn bit_of(bitmap: &[u8], p: usize) -> bool
     requires room { length bitmap.now ≡ BLOCK_LEN }
-    requires below { p < MAX_PAGES }
+    requires below { p < BITS }
     ensures { result ≡ has_bit bitmap.now p }
 {
     bitmap[p / 8] >> (7 - p % 8) & 1 == 1
@@ -53,32 +54,38 @@ fn copy_page<D: Device>(device: &mut D, slot: u32, home: u32) -> Result<(), Fail
     device.write_block(home, &page)
 }
 
+// The pages whose bits are set go from their slots to their homes.
 fn copy_home<D: Device>(device: &mut D, bitmap: &[u8], pages: u32) -> Result<(), Failed>
-    requires room { HEAD_BLOCKS + 2 * pages ≤ D.size device.old }
-    requires limit { pages ≤ MAX_PAGES }
+    requires room { head_blocks (D.size device.old) + 2 * pages ≤ D.size device.old }
+    requires limit { pages ≤ BITS }
     requires bits { length bitmap.now ≡ BLOCK_LEN }
     ensures copied { IsTrue D.tells →
         OnOk result
-        (CopiedBelow pages pages bitmap.now (D.content device.old).now (D.content device.new).now) }
-    ensures rest { Through (Outside (IsIn (HEAD_BLOCKS + pages) (flags bitmap.now pages))
+        (CopiedBelow pages (D.size device.old) pages (has_bit bitmap.now)
+        (D.content device.old).now (D.content device.new).now) }
+    ensures rest { Through (Outside
+        (IsIn (home (D.size device.old) pages 0) (flags (has_bit bitmap.now) pages))
         (D.content device.old).now) (D.content device.old) (D.content device.new) }
-    ensures touched { OnlyBlocks (IsIn (HEAD_BLOCKS + pages) (flags bitmap.now pages))
+    ensures touched { OnlyBlocks
+        (IsIn (home (D.size device.old) pages 0) (flags (has_bit bitmap.now) pages))
         (D.content device.old) (D.content device.new) }
     ensures size { D.size device.new ≡ D.size device.old }
     ensures faults { IsCounted (D.faults device.old) (D.faults device.new) result }
 {
+    let first = head_blocks(device.blocks());
     for p in 0..pages {
         if bit_of(bitmap, p as usize) {
-            copy_page(device, HEAD_BLOCKS + p, HEAD_BLOCKS + pages + p)?;
+            copy_page(device, first + p, first + pages + p)?;
         }
     }
     Ok(())
 }
 
 // Where the gate is open, the pages that the bitmap names go home.
+#[tactic(auto, unfolding(crate::specs::Places::bitmap_blocks))]
 fn bring_back<D: Device>(device: &mut D, pages: u32) -> Result<(), Failed>
-    requires room { HEAD_BLOCKS + 2 * pages ≤ D.size device.old }
-    requires limit { pages ≤ MAX_PAGES }
+    requires room { head_blocks (D.size device.old) + 2 * pages ≤ D.size device.old }
+    requires limit { pages ≤ most_pages (D.size device.old) }
     ensures images { IsTrue D.tells → (v : View) → length v.pages ≡ pages →
         NonePending (D.content device.old) → ReadsAs (D.content device.old).now v
         → is_open (block_of (D.content device.old).now 1) ≡ true →
@@ -88,10 +95,11 @@ fn bring_back<D: Device>(device: &mut D, pages: u32) -> Result<(), Failed>
         → is_open (block_of (D.content device.old).now 1) ≡ true
         → OnOk result
         (IsReady (D.content device.new).now v v
-        (flags (block_of (D.content device.old).now 2) pages)) }
+        (flags (has_bit_on (D.content device.old).now.blocks) pages)) }
     ensures touched { IsTrue D.tells →
         OnlyBlocks
-        (IsIn (HEAD_BLOCKS + pages) (flags (block_of (D.content device.old).now 2) pages))
+        (IsIn (home (D.size device.old) pages 0)
+        (flags (has_bit_on (D.content device.old).now.blocks) pages))
         (D.content device.old) (D.content device.new) }
     ensures silent { Silent (D.content device.old) (D.content device.new) }
     ensures size { D.size device.new ≡ D.size device.old }
@@ -107,14 +115,16 @@ fn bring_back<D: Device>(device: &mut D, pages: u32) -> Result<(), Failed>
 // for.
 /// A crash at any moment leaves the same pages.
 fn settle<D: Device>(device: &mut D, pages: u32) -> Result<(), Failed>
-    requires room { HEAD_BLOCKS + 2 * pages ≤ D.size device.old }
-    requires limit { pages ≤ MAX_PAGES }
+    requires room { head_blocks (D.size device.old) + 2 * pages ≤ D.size device.old }
+    requires limit { pages ≤ most_pages (D.size device.old) }
     ensures images { IsTrue D.tells → (v : View) → length v.pages ≡ pages →
         NonePending (D.content device.old) → ReadsAs (D.content device.old).now v
         → LeavesOnly (StandsFor v) (D.content device.old) (D.content device.new) }
     ensures at_rest { IsTrue D.tells → (v : View) → length v.pages ≡ pages →
         NonePending (D.content device.old) → ReadsAs (D.content device.old).now v
         → OnOk result (AtRest (D.content device.new).now v) }
+    ensures none_pending { IsTrue D.tells → NonePending (D.content device.old) →
+        OnOk result (NonePending (D.content device.new)) }
     ensures touched { IsTrue D.tells →
         OnlyBlocks (IsOfRecovery pages (D.content device.old).now.blocks) (D.content device.old)
         (D.content device.new) }
@@ -129,31 +139,25 @@ fn settle<D: Device>(device: &mut D, pages: u32) -> Result<(), Failed>
     Ok(())
 }
 
-/// Recovers what a crash left, where the device has the magic, and tells whether it has. Until the
-/// first sync a crash leaves what one right before the call could have left; from then on it leaves
-/// the same pages. Without the magic no block is written, whatever is answered.
+/// Recovers what a crash left, where the device has the magic, and tells whether it has. It begins
+/// with a sync. Until that sync a crash leaves what one right before the call could have left; from
+/// then on it leaves the same pages. Without the magic no block is written, whatever is answered.
+/// After an Ok no block is pending. After `Failed` a later call recovers the same pages.
+#[tactic(auto, using(crate::proofs::RecoverLemmas::unwritten_read))]
 pub fn recover<D: Device>(device: &mut D, pages: u32) -> Result<bool, Failed>
-    requires room { HEAD_BLOCKS + 2 * pages ≤ D.size device.old }
-    requires limit { pages ≤ MAX_PAGES }
+    requires room { head_blocks (D.size device.old) + 2 * pages ≤ D.size device.old }
+    requires limit { pages ≤ most_pages (D.size device.old) }
     ensures magic { IsTrue D.tells → IfOk result
-        (λ found. IsTrue found ↔ HasMagic (block_of (D.content device.old).now 0)) }
+        (λ found. IsTrue found
+        ↔ HasMagic (D.size device.old) (block_of (D.content device.old).now 0)) }
     ensures images { IsTrue D.tells → (v : View) → length v.pages ≡ pages →
         ReadsAs (D.content device.old).now v →
         Recovers v (D.content device.old) (D.content device.new) }
     ensures at_rest { IsTrue D.tells → (v : View) → length v.pages ≡ pages →
         ReadsAs (D.content device.old).now v
         → IfOk result (λ found. found ≡ true → AtRest (D.content device.new).now v) }
-    ensures unwritten { IfOk result (λ found. found ≡ false →
-        (D.content device.new).now.blocks ≡ (D.content device.old).now.blocks) }
-    ensures failed { IsTrue D.tells → OnErr result
-        (¬ HasMagic (block_of (D.content device.old).now 0) →
-        (D.content device.new).now.blocks ≡ (D.content device.old).now.blocks) }
-    ensures touched { IsTrue D.tells →
-        OnlyBlocks (IsOfRecovery pages (D.content device.old).now.blocks) (D.content device.old)
-        (D.content device.new) }
-    ensures silent { Silent (D.content device.old) (D.content device.new) }
-    ensures size { D.size device.new ≡ D.size device.old }
-    ensures faults { IsCounted (D.faults device.old) (D.faults device.new) result }
+    ensures none_pending { IsTrue D.tells → OnOk result (NonePending (D.content device.new)) }
+    ensures recovers { RecoversOnly D.Device pages device.old device.new result }
 {
     device.sync()?;
     let found = has_magic(device)?;

@@ -4,9 +4,11 @@ ghost use Rattle.gx_device.specs.Faults.{IsCounted};
 ghost use Rattle.gx_layout.specs.Layout.{head_of};
 ghost use Rattle.gx_layout.specs.Head.{DifferFirst, text_at, text_area};
 ghost use Rattle.gx_layout.specs.Calm.{OnlyReads};
-ghost use Rattle.gx_layout.specs.declared.formatting.TheConstants.{HEAD_BLOCKS, MAX_TEXTS_LEN};
+ghost use Rattle.gx_layout.specs.Places.{head_blocks};
+ghost use Rattle.gx_layout.specs.declared.places.TheConstants.{MAX_TEXTS_LEN};
 
-use crate::formatting::{FIRST_TEXT_BLOCK, TEXT_BLOCKS, text_area, text_block};
+use crate::formatting::{text_area, text_block};
+use crate::places::{TEXT_BLOCKS, first_text};
 use gx_device::{BLOCK_LEN, Device, Failed};
 
 // The first place in which two blocks differ.
@@ -32,7 +34,7 @@ pub fn texts_differ<D: Device>(
     schema: &[u8],
     equation: &[u8],
 ) -> Result<Option<u16>, Failed>
-    requires room { HEAD_BLOCKS ≤ D.size device.old }
+    requires room { head_blocks (D.size device.old) ≤ D.size device.old }
     requires texts { length schema.now + length equation.now ≤ MAX_TEXTS_LEN }
     ensures place { IsTrue D.tells →
         IfOk result (DifferFirst (text_at (head_of (D.content device.old).now.blocks))
@@ -42,9 +44,10 @@ pub fn texts_differ<D: Device>(
     ensures faults { IsCounted (D.faults device.old) (D.faults device.new) result }
 {
     let area = text_area(schema, equation);
+    let first = first_text(device.blocks());
     for i in 0..TEXT_BLOCKS {
         let mut block = [0; BLOCK_LEN];
-        device.read_block(FIRST_TEXT_BLOCK + i, &mut block)?;
+        device.read_block(first + i, &mut block)?;
         if let Some(at) = first_difference(&block, text_block(&area, i)) {
             return Ok(Some((BLOCK_LEN * i as usize + at) as u16));
         }

@@ -1,9 +1,9 @@
-use Rattle.std.proofs.Common.{◌≡◌, ◌≤◌, ℕ, false}
-use Rattle.gx_layout.specs.Layout.{Names, has_bit}
+use Rattle.std.proofs.Common.{take}
+use Rattle.gx_layout.specs.Layout.{NamesListed, has_bit}
+use Rattle.gx_layout.specs.declared.bitmap.TheConstants.{BITS}
 use Rattle.gx_layout.proofs.bitmap.bitmap_of.Given as goal
 
-abbrev pub invariant-loop-p : goal.invariant-loop-p
-invariant-loop-p l = record {
-  named : Names l.changed l.bits l.p;
-  above : (q : ℕ) → l.p ≤ q → has_bit l.bits q ≡ false;
+abbrev pub invariant-loop-i : goal.invariant-loop-i
+invariant-loop-i l = record {
+  listed : NamesListed (take l.i l.listed) (has_bit l.bits) BITS;
 }

@@ -1,4 +1,5 @@
-use Rattle.std.proofs.Common.{◌≡◌, refl, arith}
+use Rattle.std.proofs.Common.{◌≡◌, ℕ, refl, subst, arith}
+use Rattle.gx_layout.specs.Head.{HasMagic}
 use Rattle.gx_laws.proofs.ResultLemmas.{on_ok_always}
 use Rattle.gx_layout.proofs.BlockLemmas.{blocks_twice, blocks_write, blocks_sync}
 use Rattle.gx_layout.proofs.SealLemmas.{magic_stands, unsealed_images, unsealed_synced}
@@ -26,6 +27,9 @@ returns-clause-rest g c =
 pub returns-clause-magic : goal.returns-clause-magic
 returns-clause-magic g c told =
     on_ok_always c.sync.result
-    (magic_stands c.magic_block.result _ (g.D.Device.content c.write_block.new.self) _
+    (magic_stands (g.D.Device.size c.args.device.now) c.magic_block-block.result _
+    (g.D.Device.content c.write_block.new.self) _
     (omega (arith, c.requires, g.met.D.Device.sized c.args.device.now told))
-    (c.in_ok-write_block.ensures.block told) c.sync.ensures.rest c.magic_block.ensures)
+    (c.in_ok-write_block.ensures.block told) c.sync.ensures.rest
+    (subst (λ (n : ℕ). HasMagic n c.magic_block-block.result) c.blocks-2.ensures.count
+    c.magic_block-block.ensures))

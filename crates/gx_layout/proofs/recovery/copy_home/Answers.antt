@@ -1,4 +1,5 @@
-use Rattle.std.proofs.Common.{sym, ◌∙◌}
+use Rattle.std.proofs.Common.{◌≡◌, ap, sym, ◌∙◌}
+use Rattle.gx_layout.specs.Layout.{has_bit, head_blocks}
 use Rattle.gx_layout.proofs.RecoverLemmas.{more_copied_run, more_touched, more_copied, more_passed}
 use Rattle.gx_layout.proofs.recovery.copy_home.Goals as goal
 use Rattle.gx_layout.proofs.recovery.copy_home.Goals.{then-bit_of+in_ok-copy_page, else-bit_of}
@@ -6,7 +7,11 @@ use Rattle.gx_layout.proofs.recovery.copy_home.Goals.{then-bit_of+in_ok-copy_pag
 pub returns-in_err-copy_page-clause-rest : goal.returns-in_err-copy_page-clause-rest
 returns-in_err-copy_page-clause-rest g c =
     let content = g.D.Device.content in
-    more_copied_run c.args.pages c.args.bitmap.now c.loop-p.p (content c.args.device.now)
+    let size = g.D.Device.size c.args.device.now in
+    let at : c.head_blocks-first.result ≡ head_blocks size =
+    c.head_blocks-first.ensures.count ∙ ap head_blocks c.blocks-2.ensures.count in
+    more_copied_run size c.args.pages (has_bit c.args.bitmap.now)
+    c.head_blocks-first.result at c.loop-p.p (content c.args.device.now)
     (content c.loop-p.device)
     (content c.copy_page.new.device) c.loop-p-test.true
     (sym c.bit_of.ensures ∙ c.if-bit_of.true) (c.loop-p.invariant.run) (c.copy_page.ensures.rest)
@@ -14,7 +19,11 @@ returns-in_err-copy_page-clause-rest g c =
 pub returns-in_err-copy_page-clause-touched : goal.returns-in_err-copy_page-clause-touched
 returns-in_err-copy_page-clause-touched g c =
     let content = g.D.Device.content in
-    more_touched c.args.pages c.args.bitmap.now c.loop-p.p (content c.args.device.now)
+    let size = g.D.Device.size c.args.device.now in
+    let at : c.head_blocks-first.result ≡ head_blocks size =
+    c.head_blocks-first.ensures.count ∙ ap head_blocks c.blocks-2.ensures.count in
+    more_touched size c.args.pages (has_bit c.args.bitmap.now)
+    c.head_blocks-first.result at c.loop-p.p (content c.args.device.now)
     (content c.loop-p.device)
     (content c.copy_page.new.device) c.loop-p-test.true
     (sym c.bit_of.ensures ∙ c.if-bit_of.true) (c.loop-p.invariant.touched)
@@ -23,21 +32,27 @@ returns-in_err-copy_page-clause-touched g c =
 pub loop-p-preserved : goal.loop-p-preserved
 loop-p-preserved g c =
     let content = g.D.Device.content in
+    let size = g.D.Device.size c.args.device.now in
+    let at : c.head_blocks-first.result ≡ head_blocks size =
+    c.head_blocks-first.ensures.count ∙ ap head_blocks c.blocks-2.ensures.count in
     let so_far = c.loop-p.invariant in
     elim c.if-bit_of.branch [
       | then-bit_of+in_ok-copy_page w ↦ rw w.device-is (record {
         size = w.copy_page.ensures.size ∙ so_far.size;
         faults = w.in_ok-copy_page.ensures.faults.same ∙ so_far.faults;
-        run = more_copied_run c.args.pages c.args.bitmap.now c.loop-p.p (content c.args.device.now)
+        run = more_copied_run size c.args.pages (has_bit c.args.bitmap.now)
+            c.head_blocks-first.result at c.loop-p.p (content c.args.device.now)
             (content c.loop-p.device)
             (content w.copy_page.new.device) c.loop-p-test.true
             (sym c.bit_of.ensures ∙ w.if-bit_of.true) (so_far.run) (w.copy_page.ensures.rest);
-        touched = more_touched c.args.pages c.args.bitmap.now c.loop-p.p (content c.args.device.now)
+        touched = more_touched size c.args.pages (has_bit c.args.bitmap.now)
+            c.head_blocks-first.result at c.loop-p.p (content c.args.device.now)
             (content c.loop-p.device)
             (content w.copy_page.new.device) c.loop-p-test.true
             (sym c.bit_of.ensures ∙ w.if-bit_of.true) (so_far.touched)
             (w.copy_page.ensures.touched);
-        copied = λ told. more_copied c.args.pages c.args.bitmap.now c.loop-p.p
+        copied = λ told. more_copied size c.args.pages (has_bit c.args.bitmap.now)
+            c.head_blocks-first.result at c.loop-p.p
             (content c.args.device.now) (content c.loop-p.device)
             (content w.copy_page.new.device) c.loop-p-test.true
             (so_far.copied told) (so_far.run) (w.copy_page.ensures.rest)
@@ -48,7 +63,8 @@ loop-p-preserved g c =
         faults = so_far.faults;
         run = so_far.run;
         touched = so_far.touched;
-        copied = λ told. more_passed c.args.pages c.args.bitmap.now c.loop-p.p
+        copied = λ told. more_passed size c.args.pages (has_bit c.args.bitmap.now)
+            c.head_blocks-first.result at c.loop-p.p
             (content c.args.device.now).now (content c.loop-p.device).now
             (so_far.copied told) (sym c.bit_of.ensures ∙ w.if-bit_of.false);
       })

@@ -1,19 +1,22 @@
-use Rattle.std.proofs.Common.{◌≡◌, ◌+◌, IsTrue}
+use Rattle.std.proofs.Common.{◌≡◌, IsTrue}
 use Rattle.gx_device.specs.Crash.{Through, Outside}
-use Rattle.gx_layout.specs.Layout.{IsIn, flags, CopiedBelow, OnlyBlocks}
+use Rattle.gx_layout.specs.Layout.{IsIn, home, has_bit, flags, CopiedBelow, OnlyBlocks}
 use Rattle.gx_layout.proofs.recovery.copy_home.Given as goal
 
 abbrev pub invariant-loop-p : goal.invariant-loop-p
 invariant-loop-p g l =
     let content = g.D.Device.content in
+    let named = IsIn (home (g.D.Device.size l.fn.device) l.pages 0)
+    (flags (has_bit l.bitmap) l.pages) in
     record {
       size : g.D.Device.size l.device ≡ g.D.Device.size l.fn.device;
       faults : g.D.Device.faults l.device ≡ g.D.Device.faults l.fn.device;
-      run : Through (Outside (IsIn (7 + l.pages) (flags l.bitmap l.pages))
+      run : Through (Outside named
           (content l.fn.device).now) (content l.fn.device)
           (content l.device);
-      touched : OnlyBlocks (IsIn (7 + l.pages) (flags l.bitmap l.pages)) (content l.fn.device)
+      touched : OnlyBlocks named (content l.fn.device)
           (content l.device);
       copied : IsTrue g.D.Device.tells
-          → CopiedBelow l.p l.pages l.bitmap (content l.fn.device).now (content l.device).now;
+          → CopiedBelow l.p (g.D.Device.size l.fn.device) l.pages (has_bit l.bitmap)
+          (content l.fn.device).now (content l.device).now;
     }

@@ -1,25 +1,28 @@
-use Rattle.std.proofs.Common.{true, ◌∙◌, arith}
-use Rattle.gx_device.specs.Content.{block_of}
+use Rattle.std.proofs.Common.{true, ◌∙◌}
 use Rattle.gx_device.specs.Crash.{EachImage}
 use Rattle.gx_device.proofs.RunLemmas.{joined}
-use Rattle.gx_layout.specs.Layout.{StandsFor, flags}
+use Rattle.gx_layout.specs.Layout.{StandsFor, flags, has_bit_on}
 use Rattle.gx_layout.proofs.BlockLemmas.{silent_twice, blocks_read}
-use Rattle.gx_layout.proofs.RecoverLemmas.{settled_home, settled_gate, read_images, found_leaves, still_none, still_reads, still_gate, room_of}
+use Rattle.gx_layout.proofs.RecoverLemmas.{settled_home, settled_gate, read_images, found_leaves, still_none, still_reads, still_gate, room_of, few_of}
 use Rattle.gx_layout.proofs.recovery.settle.Goals as goal
 
 pub returns-in_err-is_gate_open-clause-images : goal.returns-in_err-is_gate_open-clause-images
 returns-in_err-is_gate_open-clause-images g c told v counts none reads =
     let a = g.D.Device.content c.args.device.now in
     read_images (StandsFor v) a _ (c.is_gate_open.ensures.rest)
-    (found_leaves a v (room_of a c.args.pages
-    (omega (arith, g.met.D.Device.sized c.args.device.now told, c.requires.room))) none reads)
+    (found_leaves a v
+    (room_of _ c.args.pages _ (g.met.D.Device.sized c.args.device.now told) c.requires.room)
+    (few_of _ c.args.pages _ v.pages (g.met.D.Device.sized c.args.device.now told) counts
+    c.requires.limit) none reads)
 
 pub returns-else-branch-clause-images : goal.returns-else-branch-clause-images
 returns-else-branch-clause-images g c told v counts none reads =
     let a = g.D.Device.content c.args.device.now in
     read_images (StandsFor v) a _ (c.is_gate_open.ensures.rest)
-    (found_leaves a v (room_of a c.args.pages
-    (omega (arith, g.met.D.Device.sized c.args.device.now told, c.requires.room))) none reads)
+    (found_leaves a v
+    (room_of _ c.args.pages _ (g.met.D.Device.sized c.args.device.now told) c.requires.room)
+    (few_of _ c.args.pages _ v.pages (g.met.D.Device.sized c.args.device.now told) counts
+    c.requires.limit) none reads)
 
 pub returns-in_err-bring_back-clause-images : goal.returns-in_err-bring_back-clause-images
 returns-in_err-bring_back-clause-images g c told v counts none reads =
@@ -28,8 +31,9 @@ returns-in_err-bring_back-clause-images g c told v counts none reads =
     let b = content c.is_gate_open.new.device in
     let r = c.is_gate_open.ensures.rest in
     let first = read_images (StandsFor v) a b r (found_leaves a v
-    (room_of a c.args.pages
-    (omega (arith, g.met.D.Device.sized c.args.device.now told, c.requires.room))) none reads)
+    (room_of _ c.args.pages _ (g.met.D.Device.sized c.args.device.now told) c.requires.room)
+    (few_of _ c.args.pages _ v.pages (g.met.D.Device.sized c.args.device.now told) counts
+    c.requires.limit) none reads)
     in
     let none_b = still_none a b r none in
     let reads_b = still_reads a b v r reads in
@@ -45,8 +49,9 @@ returns-in_err-close_gate-clause-images g c told v counts none reads =
     let b = content c.is_gate_open.new.device in
     let r = c.is_gate_open.ensures.rest in
     let first = read_images (StandsFor v) a b r (found_leaves a v
-    (room_of a c.args.pages
-    (omega (arith, g.met.D.Device.sized c.args.device.now told, c.requires.room))) none reads)
+    (room_of _ c.args.pages _ (g.met.D.Device.sized c.args.device.now told) c.requires.room)
+    (few_of _ c.args.pages _ v.pages (g.met.D.Device.sized c.args.device.now told) counts
+    c.requires.limit) none reads)
     in
     let none_b = still_none a b r none in
     let reads_b = still_reads a b v r reads in
@@ -57,7 +62,7 @@ returns-in_err-close_gate-clause-images g c told v counts none reads =
     let ready = c.in_ok-bring_back.ensures.ready told v counts none_b reads_b gate_b in
     joined (EachImage (StandsFor v)) a (content c.bring_back.new.device)
     (content c.close_gate.new.device) back
-    (c.close_gate.ensures.images told v (flags (block_of b.now 2) c.args.pages) ready)
+    (c.close_gate.ensures.images told v (flags (has_bit_on b.now.blocks) c.args.pages) ready)
 
 pub returns-in_ok-close_gate-clause-images : goal.returns-in_ok-close_gate-clause-images
 returns-in_ok-close_gate-clause-images g c told v counts none reads =
@@ -66,8 +71,9 @@ returns-in_ok-close_gate-clause-images g c told v counts none reads =
     let b = content c.is_gate_open.new.device in
     let r = c.is_gate_open.ensures.rest in
     let first = read_images (StandsFor v) a b r (found_leaves a v
-    (room_of a c.args.pages
-    (omega (arith, g.met.D.Device.sized c.args.device.now told, c.requires.room))) none reads)
+    (room_of _ c.args.pages _ (g.met.D.Device.sized c.args.device.now told) c.requires.room)
+    (few_of _ c.args.pages _ v.pages (g.met.D.Device.sized c.args.device.now told) counts
+    c.requires.limit) none reads)
     in
     let none_b = still_none a b r none in
     let reads_b = still_reads a b v r reads in
@@ -78,7 +84,7 @@ returns-in_ok-close_gate-clause-images g c told v counts none reads =
     let ready = c.in_ok-bring_back.ensures.ready told v counts none_b reads_b gate_b in
     joined (EachImage (StandsFor v)) a (content c.bring_back.new.device)
     (content c.close_gate.new.device) back
-    (c.close_gate.ensures.images told v (flags (block_of b.now 2) c.args.pages) ready)
+    (c.close_gate.ensures.images told v (flags (has_bit_on b.now.blocks) c.args.pages) ready)
 
 pub returns-in_ok-close_gate-clause-at_rest : goal.returns-in_ok-close_gate-clause-at_rest
 returns-in_ok-close_gate-clause-at_rest g c told v counts none reads =
@@ -87,15 +93,16 @@ returns-in_ok-close_gate-clause-at_rest g c told v counts none reads =
     let b = content c.is_gate_open.new.device in
     let r = c.is_gate_open.ensures.rest in
     let first = read_images (StandsFor v) a b r (found_leaves a v
-    (room_of a c.args.pages
-    (omega (arith, g.met.D.Device.sized c.args.device.now told, c.requires.room))) none reads)
+    (room_of _ c.args.pages _ (g.met.D.Device.sized c.args.device.now told) c.requires.room)
+    (few_of _ c.args.pages _ v.pages (g.met.D.Device.sized c.args.device.now told) counts
+    c.requires.limit) none reads)
     in
     let none_b = still_none a b r none in
     let reads_b = still_reads a b v r reads in
     let gate_b = still_gate a b true r (c.in_ok-is_gate_open.ensures.gate told ∙ c.if-branch.true)
     in
     let ready = c.in_ok-bring_back.ensures.ready told v counts none_b reads_b gate_b in
-    c.in_ok-close_gate.ensures.at_rest told v (flags (block_of b.now 2) c.args.pages) ready
+    c.in_ok-close_gate.ensures.at_rest told v (flags (has_bit_on b.now.blocks) c.args.pages) ready
 
 pub returns-in_err-is_gate_open-clause-touched : goal.returns-in_err-is_gate_open-clause-touched
 returns-in_err-is_gate_open-clause-touched g c told = blocks_read _ _ _ c.is_gate_open.ensures.rest
@@ -109,7 +116,8 @@ returns-in_err-bring_back-clause-touched g c told =
     let a = content c.args.device.now in
     let b = content c.is_gate_open.new.device in
     let r = c.is_gate_open.ensures.rest in
-    settled_home c.args.pages a b _ r
+    settled_home (g.D.Device.size c.is_gate_open.new.device) c.args.pages a b _ r
+    (g.met.D.Device.sized c.is_gate_open.new.device told)
     (still_gate a b true r (c.in_ok-is_gate_open.ensures.gate told ∙ c.if-branch.true))
     (c.bring_back.ensures.touched told)
 
@@ -119,7 +127,8 @@ returns-in_err-close_gate-clause-touched g c told =
     let a = content c.args.device.now in
     let b = content c.is_gate_open.new.device in
     let r = c.is_gate_open.ensures.rest in
-    settled_gate c.args.pages a b _ r
+    settled_gate (g.D.Device.size c.is_gate_open.new.device) c.args.pages a b _ r
+    (g.met.D.Device.sized c.is_gate_open.new.device told)
     (still_gate a b true r (c.in_ok-is_gate_open.ensures.gate told ∙ c.if-branch.true)) _
     (c.bring_back.ensures.touched told) c.close_gate.ensures.rest
 
@@ -129,7 +138,8 @@ returns-in_ok-close_gate-clause-touched g c told =
     let a = content c.args.device.now in
     let b = content c.is_gate_open.new.device in
     let r = c.is_gate_open.ensures.rest in
-    settled_gate c.args.pages a b _ r
+    settled_gate (g.D.Device.size c.is_gate_open.new.device) c.args.pages a b _ r
+    (g.met.D.Device.sized c.is_gate_open.new.device told)
     (still_gate a b true r (c.in_ok-is_gate_open.ensures.gate told ∙ c.if-branch.true)) _
     (c.bring_back.ensures.touched told) c.close_gate.ensures.rest
 

@@ -1,6 +1,6 @@
 use Rattle.std.proofs.Common.{rules, ◌≡◌, ◌+◌, ◌*◌, ◌<◌, ℕ, List, length, get_or, Some, ap, subst, ◌∙◌, arith}
 use Rattle.gx_device.specs.Content.{Moment, block_of}
-use Rattle.gx_layout.specs.Layout.{head_of}
+use Rattle.gx_layout.specs.Layout.{first_text, head_of}
 use Rattle.gx_layout.specs.Head.{DifferFirst, text_at}
 use Rattle.gx_layout.proofs.TextLemmas.{one_read, reads_twice, more_same, differ_here}
 use Rattle.gx_layout.proofs.texts.texts_differ.Goals as goal
@@ -27,8 +27,14 @@ returns-in-Some-clause-place g c told =
     let part = c.text_block.result.now in
     let low : i < 4 = c.loop-i-test.true in
     let wide : length block ≡ 4096 = search rules in
-    let block_is : block ≡ block_of old.now (3 + i) =
-    c.in_ok-read_block.ensures.block told ∙ ap (λ (m : Moment). block_of m (3 + i)) inv.reads.now in
+    let first = c.first_text-first.result in
+    let first_is : first ≡ first_text (length old.now.blocks) =
+    c.first_text-first.ensures.block
+    ∙ ap first_text (c.blocks-2.ensures.count ∙ g.met.D.Device.sized c.args.device.now told) in
+    let block_is : block ≡ block_of old.now (first_text (length old.now.blocks) + i) =
+    c.in_ok-read_block.ensures.block told
+    ∙ ap (λ (m : Moment). block_of m (first + i)) inv.reads.now
+    ∙ ap (λ (n : ℕ). block_of old.now (n + i)) first_is in
     let found = c.in-Some.ensures in
     subst (λ (a : List ℕ). DifferFirst (text_at (head_of old.now.blocks)) (λ q. get_or a q 0)
     (Some (4096 * i + c.in-Some.at))) c.text_area-area.ensures
@@ -55,9 +61,15 @@ loop-i-preserved g c =
           let part = c.text_block.result.now in
           let low : i < 4 = c.loop-i-test.true in
           let wide : length block ≡ 4096 = search rules in
-          let block_is : block ≡ block_of old.now (3 + i) =
+          let first = c.first_text-first.result in
+          let first_is : first ≡ first_text (length old.now.blocks) =
+          c.first_text-first.ensures.block
+          ∙ ap first_text
+          (c.blocks-2.ensures.count ∙ g.met.D.Device.sized c.args.device.now told) in
+          let block_is : block ≡ block_of old.now (first_text (length old.now.blocks) + i) =
           c.in_ok-read_block.ensures.block told
-          ∙ ap (λ (m : Moment). block_of m (3 + i)) inv.reads.now in
+          ∙ ap (λ (m : Moment). block_of m (first + i)) inv.reads.now
+          ∙ ap (λ (n : ℕ). block_of old.now (n + i)) first_is in
           more_same old.now area i low block part block_is c.text_block.ensures.is (inv.same told)
           (λ k lt. c.in_default.ensures k (omega (arith, lt, wide)));
     }
