@@ -1,5 +1,5 @@
 -- What calls on the device keep, and what two of them keep together.
-use Rattle.std.proofs.Common.{◌≡◌, ◌+◌, ℕ, true, false, Result, Ok, Err, IsTrue, arith, sym, subst, ◌∙◌}
+use Rattle.std.proofs.Common.{◌≡◌, ℕ, Result, Ok, Err, IsTrue, arith, ap, sym, subst, ◌∙◌}
 use Rattle.std.specs.Prelude.{OnOk, IsErr}
 use Rattle.std.proofs.lemmas.Bool.{true≢false}
 use Rattle.gx_device.specs.declared.device.Device as device
@@ -7,6 +7,7 @@ use Rattle.gx_device.specs.declared.device.Failed.{Failed}
 use Rattle.gx_device.specs.Content.{NonePending, Syncs, block_of}
 use Rattle.gx_device.specs.Faults.{HasCause, IsCounted}
 use Rattle.gx_device.proofs.RunLemmas.{outside_joined, outside_write}
+use Rattle.gx_layout.specs.Layout.{slot}
 use Rattle.gx_layout.proofs.BlockLemmas.{blocks_twice, blocks_more, blocks_read, blocks_sync, blocks_write}
 use Rattle.gx_layout.proofs.FlushLemmas.{unflushed}
 use Rattle.gx_layout.proofs.FormatLemmas.{run_more}
@@ -44,10 +45,13 @@ residents_joined first then = record {
 module _ {D : Type 0} (g : device.Ghosts D) where
   pub still_in_slot : (p : ℕ) (frames now : Pool) (d e : D) → IsInSlot g p frames d
       → SameResidents frames now
-      → block_of (g.content e).now (7 + p) ≡ block_of (g.content d).now (7 + p)
+      → g.size e ≡ g.size d
+      → block_of (g.content e).now (slot (g.size d) p)
+      ≡ block_of (g.content d).now (slot (g.size d) p)
       → IsInSlot g p now e
-  still_in_slot p frames now d e slot same block told r is =
-      slot told r (sym (same.found p) ∙ is) ∙ sym block
+  still_in_slot p frames now d e held same size block told r is =
+      held told r (sym (same.found p) ∙ is) ∙ sym block
+      ∙ ap (λ (n : ℕ). block_of (g.content e).now (slot n p)) (sym size)
 
   pub touches_joined : {T U : Type 0} {free : ℕ → Type 0} {a b c : D} {x : T}
       {result : Result U Failed} → TouchesOnly g free a b (Ok x) → TouchesOnly g free b c result

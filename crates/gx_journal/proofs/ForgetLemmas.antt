@@ -1,5 +1,5 @@
 -- Changes are forgotten.
-use Rattle.std.proofs.Common.{◌≡◌, inl, inr, ℕ, ◌+◌, ◌<◌, ◌≤◌, Bool, true, false, List, [], ◌∷◌, length, get_or, Option, Some, None, refl, sym, ◌∙◌, ap, subst, arith, cond, replicate}
+use Rattle.std.proofs.Common.{◌≡◌, inl, inr, ℕ, ◌<◌, ◌≤◌, Bool, true, false, List, [], ◌∷◌, length, get_or, Option, Some, None, refl, sym, ◌∙◌, ap, subst, arith, cond, replicate}
 use Rattle.std.specs.Prelude.{not, map}
 use Rattle.std.proofs.lemmas.Bool.{true≢false, cases_Bool}
 use Rattle.std.proofs.lemmas.Bool.Decides.{eqb_tells}
@@ -9,7 +9,7 @@ use Rattle.gx_laws.proofs.ListLemmas.{no_flag}
 use Rattle.gx_frames.specs.Order.{IsUnique, IsAbsent}
 use Rattle.gx_frames.specs.Pool.{Resident, find_page, unchanged}
 use Rattle.gx_frames.proofs.PoolLemmas.{find_here}
-use Rattle.gx_layout.specs.Layout.{home}
+use Rattle.gx_layout.specs.Layout.{slot, home}
 use Rattle.gx_journal.specs.Sources.{stored, page_of, IsCached, IsAmong, IsListed}
 use Rattle.gx_journal.proofs.SourceLemmas.{find_past, page_resident, page_absent}
 
@@ -48,25 +48,26 @@ find_unchanged q (x ∷ rs) r u is = elim (cases_Bool x.changed) [
 ]
 
 -- each resident page has the bytes that are stored of it
-abbrev pub AllStored : ℕ → List (List ℕ) → List Bool → List Resident → Type 0
-AllStored P blocks spilled rs = (q : ℕ) (r : Resident) → find_page q rs ≡ Some r
-    → r.bytes ≡ stored P blocks spilled q
+abbrev pub AllStored : ℕ → ℕ → List (List ℕ) → List Bool → List Resident → Type 0
+AllStored N P blocks spilled rs = (q : ℕ) (r : Resident) → find_page q rs ≡ Some r
+    → r.bytes ≡ stored N P blocks spilled q
 
 -- where no page is spilled, each is as at home
-pub all_home : (P : ℕ) (blocks : List (List ℕ)) (spilled : List Bool) (rs : List Resident)
+pub all_home : (N P : ℕ) (blocks : List (List ℕ)) (spilled : List Bool) (rs : List Resident)
     → ((p : ℕ) → get_or spilled p false ≡ false)
-    → AllStored P blocks spilled rs → (q : ℕ)
-    → page_of P blocks spilled rs q ≡ get_or blocks (home P q) []
-all_home P blocks spilled rs none all q = by (find_page q rs) refl
+    → AllStored N P blocks spilled rs → (q : ℕ)
+    → page_of N P blocks spilled rs q ≡ get_or blocks (home N P q) []
+all_home N P blocks spilled rs none all q = by (find_page q rs) refl
   where
-    at_home : stored P blocks spilled q ≡ get_or blocks (home P q) []
-    at_home = ap (λ (b : Bool). Rattle.std.specs.Prelude.if◌then◌else◌ b (get_or blocks (7 + q) [])
-        (get_or blocks (home P q) [])) (none q)
+    at_home : stored N P blocks spilled q ≡ get_or blocks (home N P q) []
+    at_home = ap (λ (b : Bool). Rattle.std.specs.Prelude.if◌then◌else◌ b (get_or blocks (slot N q)
+        [])
+        (get_or blocks (home N P q) [])) (none q)
 
     by : (o : Option Resident) → find_page q rs ≡ o
-        → page_of P blocks spilled rs q ≡ get_or blocks (home P q) []
-    by None e = page_absent P blocks spilled rs q e ∙ at_home
-    by (Some r) e = page_resident P blocks spilled rs q r e ∙ all q r e ∙ at_home
+        → page_of N P blocks spilled rs q ≡ get_or blocks (home N P q) []
+    by None e = page_absent N P blocks spilled rs q e ∙ at_home
+    by (Some r) e = page_resident N P blocks spilled rs q r e ∙ all q r e ∙ at_home
 
 pub listed_none : (spilled : List Bool) → ((p : ℕ) → get_or spilled p false ≡ false)
     → IsListed spilled []
@@ -99,18 +100,18 @@ pub none_set : (n : ℕ) (flags : List Bool) → flags ≡ replicate n false →
 none_set n flags is p = ap (λ (l : List Bool). get_or l p false) is ∙ no_flag n p
 
 -- once the spilled pages left the frames and none counts as spilled, what stayed is as it is stored
-pub all_stored : (P : ℕ) (blocks : List (List ℕ)) (was is : List Bool) (listed : List ℕ)
+pub all_stored : (N P : ℕ) (blocks : List (List ℕ)) (was is : List Bool) (listed : List ℕ)
     (rs ss : List Resident) → IsListed was listed
     → ((p : ℕ) → get_or is p false ≡ false)
     → ((i : ℕ) → i < length listed → find_page (get_or listed i 0) ss ≡ None)
     → ((q : ℕ) (r : Resident) → find_page q ss ≡ Some r
     → (find_page q rs ≡ Some r) × (r.changed ≡ false))
-    → IsCached P blocks was rs → AllStored P blocks is ss
-all_stored P blocks was is listed rs ss names none gone kept cached q r found =
+    → IsCached N P blocks was rs → AllStored N P blocks is ss
+all_stored N P blocks was is listed rs ss names none gone kept cached q r found =
     let before = kept q r found in
     cached q r before.0 before.1
-    ∙ ap (λ (b : Bool). Rattle.std.specs.Prelude.if◌then◌else◌ b (get_or blocks (7 + q) [])
-    (get_or blocks (home P q) [])) (elim (cases_Bool (get_or was q false)) [
+    ∙ ap (λ (b : Bool). Rattle.std.specs.Prelude.if◌then◌else◌ b (get_or blocks (slot N q) [])
+    (get_or blocks (home N P q) [])) (elim (cases_Bool (get_or was q false)) [
       | inl on ↦ absurd (names.every q on
           (λ i low lt at. absurd (let e : ◌≡◌ {A = Option Resident} None (Some r) =
           sym (gone i lt) ∙ ap (λ (k : ℕ). find_page k ss) at ∙ found in cc)))

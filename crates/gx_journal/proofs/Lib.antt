@@ -10,3 +10,4 @@ pub mod OpenLemmas
 pub mod CommitLemmas
 pub mod CallLemmas
 pub mod DeviceLemmas
+pub mod ReadLemmas

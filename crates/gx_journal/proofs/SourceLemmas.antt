@@ -1,5 +1,5 @@
 -- Pages by index, from three sources.
-use Rattle.std.proofs.Common.{◌≡◌, ◌≢◌, inl, inr, ℕ, ◌+◌, ◌<◌, ◌≤◌, Bool, true, false, List, [], ◌∷◌, ◌++◌, length, get_or, Option, Some, None, refl, sym, ◌∙◌, ap, subst, arith}
+use Rattle.std.proofs.Common.{◌≡◌, ◌≢◌, inl, inr, ℕ, ◌<◌, ◌≤◌, Bool, true, false, List, [], ◌∷◌, ◌++◌, length, get_or, Option, Some, None, refl, sym, ◌∙◌, ap, subst, arith}
 use Rattle.std.specs.Prelude.{if◌then◌else◌, IsSome, is_some, map}
 use Rattle.std.specs.List.{AllByRecursion}
 use Rattle.std.specs.Option.{option_map_or}
@@ -10,7 +10,7 @@ use Rattle.gx_frames.specs.Order.{IsUnique, IsAbsent}
 use Rattle.gx_frames.specs.Pool.{Resident, Pool, find_page, without, to_front, IsLast, IsPool}
 use Rattle.gx_frames.specs.Calls.{placed_first}
 use Rattle.gx_frames.proofs.PoolLemmas.{eqb_other, find_here, without_here}
-use Rattle.gx_layout.specs.Layout.{home}
+use Rattle.gx_layout.specs.Layout.{slot, home}
 use Rattle.gx_journal.specs.Sources.{stored, page_of, IsCached}
 
 -- Look-ups in the frames
@@ -156,61 +156,64 @@ still_none p q rs none = elim (eqb_tells p q) [
 
 -- Pages on the device
 
-module _ (P : ℕ) where
+module _ (N P : ℕ) where
   pub stored_apart : (old new : List (List ℕ)) (was is : List Bool) (q : ℕ)
       → get_or is q false ≡ get_or was q false
-      → get_or new (7 + q) [] ≡ get_or old (7 + q) []
-      → get_or new (home P q) [] ≡ get_or old (home P q) []
-      → stored P new is q ≡ stored P old was q
-  stored_apart old new was is q flag slot at_home = λ i. if flag i then slot i else at_home i
+      → get_or new (slot N q) [] ≡ get_or old (slot N q) []
+      → get_or new (home N P q) [] ≡ get_or old (home N P q) []
+      → stored N P new is q ≡ stored N P old was q
+  stored_apart old new was is q flag at_slot at_home =
+      λ i. if flag i then at_slot i else at_home i
 
   -- a slot was written, and that flag may be set
   pub stored_off : (old new : List (List ℕ)) (was is : List Bool) (p : ℕ) → p < P
-      → ((n : ℕ) → n ≢ 7 + p → get_or new n [] ≡ get_or old n [])
+      → ((n : ℕ) → n ≢ slot N p → get_or new n [] ≡ get_or old n [])
       → ((q : ℕ) → q ≢ p → get_or is q false ≡ get_or was q false) → (q : ℕ)
-      → q ≢ p → stored P new is q ≡ stored P old was q
+      → q ≢ p → stored N P new is q ≡ stored N P old was q
   stored_off old new was is p below blocks flags q ne = stored_apart old new was is q (flags q ne)
-      (blocks (7 + q) (λ (e : 7 + q ≡ 7 + p). ne (omega arith)))
-      (blocks (home P q) (λ (e : home P q ≡ 7 + p). absurd (omega arith)))
+      (blocks (slot N q) (λ (e : slot N q ≡ slot N p). ne (omega arith)))
+      (blocks (home N P q) (λ (e : home N P q ≡ slot N p). absurd (omega arith)))
 
   pub stored_slot : (new : List (List ℕ)) (is : List Bool) (p : ℕ) (bytes : List ℕ)
       → get_or is p false ≡ true
-      → get_or new (7 + p) [] ≡ bytes → stored P new is p ≡ bytes
-  stored_slot new is p bytes flag slot =
-      ap (λ (b : Bool). if b then get_or new (7 + p) [] else get_or new (home P p) []) flag ∙ slot
+      → get_or new (slot N p) [] ≡ bytes → stored N P new is p ≡ bytes
+  stored_slot new is p bytes flag written =
+      ap (λ (b : Bool). if b then get_or new (slot N p) [] else get_or new (home N P p) []) flag
+      ∙ written
 
   pub page_resident : (blocks : List (List ℕ)) (spilled : List Bool) (rs : List Resident) (p : ℕ)
       (r : Resident) → find_page p rs ≡ Some r
-      → page_of P blocks spilled rs p ≡ r.bytes
+      → page_of N P blocks spilled rs p ≡ r.bytes
   page_resident blocks spilled rs p r is =
       ap (λ (o : Option Resident). option_map_or (λ (x : Resident). x.bytes) o
-      (stored P blocks spilled p)) is
+      (stored N P blocks spilled p)) is
 
   pub page_absent : (blocks : List (List ℕ)) (spilled : List Bool) (rs : List Resident) (p : ℕ)
       → find_page p rs ≡ None
-      → page_of P blocks spilled rs p ≡ stored P blocks spilled p
+      → page_of N P blocks spilled rs p ≡ stored N P blocks spilled p
   page_absent blocks spilled rs p is =
       ap (λ (o : Option Resident). option_map_or (λ (x : Resident). x.bytes) o
-      (stored P blocks spilled p)) is
+      (stored N P blocks spilled p)) is
 
   pub page_apart : (old new : List (List ℕ)) (was is : List Bool) (rs ss : List Resident) (q : ℕ)
       → find_page q ss ≡ find_page q rs
-      → stored P new is q ≡ stored P old was q → page_of P new is ss q ≡ page_of P old was rs q
+      → stored N P new is q ≡ stored N P old was q → page_of N P new is ss q ≡ page_of N P old was
+      rs q
   page_apart old new was is rs ss q found at =
       λ i. option_map_or (λ (x : Resident). x.bytes) (found i) (at i)
 
   -- nothing but the order of the frames changed
   pub cached_order : (blocks : List (List ℕ)) (spilled : List Bool) (rs ss : List Resident)
       → ((q : ℕ) → find_page q ss ≡ find_page q rs)
-      → IsCached P blocks spilled rs → IsCached P blocks spilled ss
+      → IsCached N P blocks spilled rs → IsCached N P blocks spilled ss
   cached_order blocks spilled rs ss found cached q r is same = cached q r (sym (found q) ∙ is) same
 
   -- what is stored of one changed page changes
   module _ (old new : List (List ℕ)) (was is : List Bool) (rs ss : List Resident) (p : ℕ)
       (r : Resident) (at : find_page p rs ≡ Some r)
       (found : (q : ℕ) → find_page q ss ≡ find_page q rs) (off : (q : ℕ) → q ≢ p
-      → stored P new is q ≡ stored P old was q) where
-    pub rewritten_pages : (q : ℕ) → page_of P new is ss q ≡ page_of P old was rs q
+      → stored N P new is q ≡ stored N P old was q) where
+    pub rewritten_pages : (q : ℕ) → page_of N P new is ss q ≡ page_of N P old was rs q
     rewritten_pages q = elim (eqb_tells q p) [
       | inl same ↦ (let here : find_page q rs ≡ Some r = ap (λ (k : ℕ). find_page k rs) same.1
           ∙ at in
@@ -218,7 +221,7 @@ module _ (P : ℕ) where
       | inr other ↦ page_apart old new was is rs ss q (found q) (off q other.1)
     ]
 
-    pub rewritten_cached : r.changed ≡ true → IsCached P old was rs → IsCached P new is ss
+    pub rewritten_cached : r.changed ≡ true → IsCached N P old was rs → IsCached N P new is ss
     rewritten_cached changed cached q x found_x same = elim (eqb_tells q p) [
       | inl at_p ↦ absurd (let e : Some x ≡ Some r = sym found_x ∙ found q
           ∙ ap (λ (k : ℕ). find_page k rs) at_p.1 ∙ at in
@@ -229,14 +232,14 @@ module _ (P : ℕ) where
   -- a page whose bytes are stored leaves the frames
   module _ (blocks : List (List ℕ)) (spilled : List Bool) (rs : List Resident) (p : ℕ)
       (r : Resident) (at : find_page p rs ≡ Some r)
-      (kept : r.bytes ≡ stored P blocks spilled p) where
+      (kept : r.bytes ≡ stored N P blocks spilled p) where
     pub evicted_pages : (q : ℕ)
-        → page_of P blocks spilled (without p rs) q ≡ page_of P blocks spilled rs q
+        → page_of N P blocks spilled (without p rs) q ≡ page_of N P blocks spilled rs q
     evicted_pages q = elim (eqb_tells p q) [
       | inl same ↦ page_absent blocks spilled (without p rs) q
           (ap (λ (k : ℕ). find_page k (without p rs)) (sym same.1)
           ∙ find_without_same p rs)
-          ∙ ap (stored P blocks spilled) (sym same.1) ∙ sym kept
+          ∙ ap (stored N P blocks spilled) (sym same.1) ∙ sym kept
           ∙ sym (page_resident blocks spilled rs q r
           (ap (λ (k : ℕ). find_page k rs) (sym same.1) ∙ at))
       | inr other ↦ page_apart blocks blocks spilled spilled rs (without p rs) q
@@ -244,8 +247,8 @@ module _ (P : ℕ) where
     ]
 
   pub evicted_cached : (blocks : List (List ℕ)) (spilled : List Bool) (rs : List Resident) (p : ℕ)
-      → IsCached P blocks spilled rs
-      → IsCached P blocks spilled (without p rs)
+      → IsCached N P blocks spilled rs
+      → IsCached N P blocks spilled (without p rs)
   evicted_cached blocks spilled rs p cached q x found same = elim (eqb_tells p q) [
     | inl at_p ↦ absurd (let e : ◌≡◌ {A = Option Resident} None (Some x) =
         sym (find_without_same p rs) ∙ ap (λ (k : ℕ). find_page k (without p rs)) at_p.1 ∙ found in
@@ -258,23 +261,23 @@ module _ (P : ℕ) where
       (r : Resident) (here : find_page p ss ≡ Some r)
       (there : (q : ℕ) → p ≢ q → find_page q ss ≡ find_page q rs) where
     pub placed_other : (q : ℕ) → p ≢ q
-        → page_of P blocks spilled ss q ≡ page_of P blocks spilled rs q
+        → page_of N P blocks spilled ss q ≡ page_of N P blocks spilled rs q
     placed_other q ne = page_apart blocks blocks spilled spilled rs ss q (there q ne) refl
 
-    pub placed_cached : (r.changed ≡ false → r.bytes ≡ stored P blocks spilled p)
-        → IsCached P blocks spilled rs
-        → IsCached P blocks spilled ss
+    pub placed_cached : (r.changed ≡ false → r.bytes ≡ stored N P blocks spilled p)
+        → IsCached N P blocks spilled rs
+        → IsCached N P blocks spilled ss
     placed_cached mine cached q x found same = elim (eqb_tells p q) [
       | inl at_p ↦ (let f : x ≡ r =
           same_Some x r (sym found ∙ ap (λ (k : ℕ). find_page k ss) (sym at_p.1) ∙ here) in
           ap (λ (y : Resident). y.bytes) f ∙ mine (ap (λ (y : Resident). y.changed) (sym f) ∙ same)
-          ∙ ap (stored P blocks spilled) at_p.1)
+          ∙ ap (stored N P blocks spilled) at_p.1)
       | inr other ↦ cached q x (sym (there q other.1) ∙ found) same
     ]
 
   -- a page comes into a frame as it is stored
   module _ (blocks : List (List ℕ)) (spilled : List Bool) (rs : List Resident) (p : ℕ)
-      (bytes : List ℕ) (is : bytes ≡ stored P blocks spilled p) where
+      (bytes : List ℕ) (is : bytes ≡ stored N P blocks spilled p) where
     here : find_page p (placed_first p bytes rs) ≡ Some (record
         { page = p; bytes = bytes; changed = false })
     here = find_here p (record { page = p; bytes = bytes; changed = false }) rs refl
@@ -282,17 +285,17 @@ module _ (P : ℕ) where
     there : (q : ℕ) → p ≢ q → find_page q (placed_first p bytes rs) ≡ find_page q rs
     there q ne = find_past q (record { page = p; bytes = bytes; changed = false }) rs ne
 
-    pub admitted_pages : find_page p rs ≡ None → (q : ℕ) → page_of P blocks spilled
-        (placed_first p bytes rs) q ≡ page_of P blocks spilled rs q
+    pub admitted_pages : find_page p rs ≡ None → (q : ℕ) → page_of N P blocks spilled
+        (placed_first p bytes rs) q ≡ page_of N P blocks spilled rs q
     admitted_pages absent q = elim (eqb_tells p q) [
-      | inl same ↦ ap (page_of P blocks spilled (placed_first p bytes rs)) (sym same.1)
+      | inl same ↦ ap (page_of N P blocks spilled (placed_first p bytes rs)) (sym same.1)
           ∙ page_resident blocks spilled (placed_first p bytes rs) p _ here ∙ is
-          ∙ sym (page_absent blocks spilled rs p absent) ∙ ap (page_of P blocks spilled rs) same.1
+          ∙ sym (page_absent blocks spilled rs p absent) ∙ ap (page_of N P blocks spilled rs) same.1
       | inr other ↦ placed_other blocks spilled rs (placed_first p bytes rs) p _ here there q
           other.1
     ]
 
-    pub admitted_cached : IsCached P blocks spilled rs → IsCached P blocks spilled
+    pub admitted_cached : IsCached N P blocks spilled rs → IsCached N P blocks spilled
         (placed_first p bytes rs)
     admitted_cached = placed_cached blocks spilled rs (placed_first p bytes rs) p _ here there
         (λ plain. is)

@@ -17,10 +17,14 @@ module _ {D : Type 0} {g : device.Ghosts D} where
   abbrev pub size_of : Journal D g → ℕ
   size_of j = length j.working.spilled.items
 
+  -- how many frames it has
+  abbrev pub frames_of : Journal D g → ℕ
+  frames_of j = j.working.frames.frames
+
   -- the pages as they were written last
   abbrev pub working_of : Journal D g → List (List ℕ)
   working_of j =
-      pages_told g.tells (size_of j)
+      pages_told g.tells (g.size j.device) (size_of j)
       (content_of j) j.working.spilled.items j.working.frames.resident
 
   -- the pages of the last commit
@@ -28,8 +32,8 @@ module _ {D : Type 0} {g : device.Ghosts D} where
   kept_of j = homes_told g.tells (size_of j) (content_of j)
 
   -- the block of the magic and those of the texts
-  abbrev pub head_blocks : Journal D g → List (List ℕ)
-  head_blocks j = head_told g.tells (content_of j)
+  abbrev pub kept_head : Journal D g → List (List ℕ)
+  kept_head j = head_told g.tells (content_of j)
 
   -- no commit has failed
   abbrev pub IsSteady : Journal D g → Type 0
@@ -47,8 +51,9 @@ module _ {D : Type 0} {g : device.Ghosts D} where
   -- what every call leaves but `commit` and `seal`
   pub record Keeps (old new : Journal D g) : Type 0 where
     pub kept : kept_of new ≡ kept_of old
-    pub head : head_blocks new ≡ head_blocks old
+    pub head : kept_head new ≡ kept_head old
     pub size : size_of new ≡ size_of old
+    pub frames : frames_of new ≡ frames_of old
     pub blocks : g.size (device_of new) ≡ g.size (device_of old)
     pub steady : new.failed ≡ old.failed
     pub calm : (start : Content) → IsCalm old start → IsCalm new start

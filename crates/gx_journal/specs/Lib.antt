@@ -6,4 +6,6 @@ pub mod DeviceCalls
 pub mod WorkingCalls
 pub mod Publishing
 pub mod Journal
+pub mod Calls
 pub mod Opening
+pub mod OpeningLaws

@@ -1,13 +1,12 @@
 -- Pages that go from their slots to their homes.
-use Rattle.std.specs.Prelude.{◌≡◌, ◌<◌, ◌≤◌, ◌+◌, ℕ, Bool, true, false, List, length, get_or, Result, Some, IsTrue, OnOk}
+use Rattle.std.specs.Prelude.{◌≡◌, ◌<◌, ◌≤◌, ℕ, Bool, true, false, List, length, get_or, Result, Some, IsTrue, OnOk}
 use Rattle.gx_device.specs.declared.device.Device as device
 use Rattle.gx_device.specs.declared.device.Failed.{Failed}
 use Rattle.gx_device.specs.Content.{Moment, Content, block_of}
 use Rattle.gx_device.specs.Crash.{LeavesOnly}
 use Rattle.gx_frames.specs.Pool.{Resident, Pool, find_page}
-use Rattle.gx_layout.specs.Layout.{View, AtRest, Either, Holds, SameButChanged, with_pages, home}
+use Rattle.gx_layout.specs.Layout.{View, AtRest, Either, Holds, SameButChanged, with_pages, head_blocks, slot, home}
 use Rattle.gx_journal.specs.Sources.{IsListed}
-use Rattle.gx_layout.specs.declared.formatting.TheConstants.{HEAD_BLOCKS}
 
 -- the same pages stand in the frames, with the same bytes, in any order
 pub record SameResidents (old new : Pool) : Type 0 where
@@ -17,9 +16,9 @@ pub record SameResidents (old new : Pool) : Type 0 where
   pub found : (p : ℕ) → find_page p new.resident ≡ find_page p old.resident
 
 -- the home of each listed page has what was in its slot
-abbrev pub AreCopiedHome : ℕ → List ℕ → (old new : Moment) → Type 0
-AreCopiedHome P listed old new = (i : ℕ) → i < length listed
-    → block_of new (home P (get_or listed i 0)) ≡ block_of old (HEAD_BLOCKS + get_or listed i 0)
+abbrev pub AreCopiedHome : ℕ → ℕ → List ℕ → (old new : Moment) → Type 0
+AreCopiedHome size P listed old new = (i : ℕ) → i < length listed
+    → block_of new (home size P (get_or listed i 0)) ≡ block_of old (slot size (get_or listed i 0))
 
 -- the device is at rest with the kept pages, and those that have changed since are in their slots
 pub record IsPrepared (kept : View) (pages : List (List ℕ)) (spilled : List Bool)
@@ -28,7 +27,7 @@ pub record IsPrepared (kept : View) (pages : List (List ℕ)) (spilled : List Bo
   pub count : length spilled ≡ length pages
   pub rest : AtRest m kept
   pub same : SameButChanged spilled kept.pages pages
-  pub slots : Holds HEAD_BLOCKS pages spilled m
+  pub slots : Holds (head_blocks kept.size) pages spilled m
 
 -- The pages take the place of the kept ones all at once: a crash within the call leaves the kept
 -- ones or these, and after an Ok the device is at rest with these.
@@ -41,7 +40,7 @@ module _ {D : Type 0} (g : device.Ghosts D) where
   -- where a page stands in a frame, its slot has the same bytes
   abbrev pub IsInSlot : ℕ → Pool → D → Type 0
   IsInSlot p frames d = IsTrue g.tells → (r : Resident) → find_page p frames.resident ≡ Some r
-      → r.bytes ≡ block_of (g.content d).now (HEAD_BLOCKS + p)
+      → r.bytes ≡ block_of (g.content d).now (slot (g.size d) p)
 
   -- each listed page is one of so many, and in its slot
   pub record AreInSlots (pages : ℕ) (listed : List ℕ) (frames : Pool) (d : D) : Type 0 where

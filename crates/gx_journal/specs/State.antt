@@ -12,9 +12,10 @@ abbrev pub blank : ℕ → List (List ℕ)
 blank P = replicate P []
 
 -- the working pages: page by page
-abbrev pub pages_told : Bool → ℕ → Content → List Bool → List Resident → List (List ℕ)
-pages_told tells P c spilled residents =
-    if tells then map (page_of P c.now.blocks spilled residents) (range_with_len 0 P) else blank P
+abbrev pub pages_told : Bool → ℕ → ℕ → Content → List Bool → List Resident → List (List ℕ)
+pages_told tells size P c spilled residents =
+    if tells then map (page_of size P c.now.blocks spilled residents) (range_with_len 0 P)
+    else blank P
 
 -- the kept pages: the homes as they read
 abbrev pub homes_told : Bool → ℕ → Content → List (List ℕ)

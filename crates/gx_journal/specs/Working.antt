@@ -11,16 +11,16 @@ abbrev pub size_in : WorkingPages → ℕ
 size_in w = length w.spilled.items
 
 -- a working page, over what the device holds
-abbrev pub page_in : ℕ → Content → WorkingPages → ℕ → List ℕ
-page_in P c w = page_of P c.now.blocks w.spilled.items w.frames.resident
+abbrev pub page_in : ℕ → ℕ → Content → WorkingPages → ℕ → List ℕ
+page_in size P c w = page_of size P c.now.blocks w.spilled.items w.frames.resident
 
 -- the working pages
-abbrev pub pages_in : Bool → ℕ → Content → WorkingPages → List (List ℕ)
-pages_in tells P c w = pages_told tells P c w.spilled.items w.frames.resident
+abbrev pub pages_in : Bool → ℕ → ℕ → Content → WorkingPages → List (List ℕ)
+pages_in tells size P c w = pages_told tells size P c w.spilled.items w.frames.resident
 
 -- a page in a frame that hasn't changed has the bytes that the device holds of it
-abbrev pub IsCachedIn : ℕ → Content → WorkingPages → Type 0
-IsCachedIn P c w = IsCached P c.now.blocks w.spilled.items w.frames.resident
+abbrev pub IsCachedIn : ℕ → ℕ → Content → WorkingPages → Type 0
+IsCachedIn size P c w = IsCached size P c.now.blocks w.spilled.items w.frames.resident
 
 -- no page in a frame has changed, and none is spilled
 pub record IsUnchangedIn (w : WorkingPages) : Type 0 where

@@ -1,19 +1,18 @@
 // Reads and writes of pages, by way of the frames.
 ghost use Rattle.std.specs.Prelude.{◌≡◌, ◌≢◌, ◌<◌, ◌+◌, ◌∷◌, ◌⊎◌, ℕ, true, [], length, slice_index_or, IsTrue, OnOk, OnErr, if◌then◌else◌};
 ghost use Rattle.gx_frames.specs.Pool.{IsResident, HasFreeFrame, without, with_residents};
-ghost use Rattle.gx_layout.specs.Layout.{home};
+ghost use Rattle.gx_layout.specs.Layout.{slot, home};
 ghost use Rattle.gx_journal.specs.DeviceCalls.{HasPlaces, ReadsOnly};
 ghost use Rattle.gx_journal.specs.Sources.{SamePages};
 ghost use Rattle.gx_journal.specs.Working.{size_in, page_in, IsUnchangedIn};
 ghost use Rattle.gx_journal.specs.WorkingCalls.{IsBacked, WritesSlots, KeepsWorking};
 ghost use Rattle.gx_device.specs.declared.device.TheConstants.{BLOCK_LEN};
-ghost use Rattle.gx_layout.specs.declared.formatting.TheConstants.{HEAD_BLOCKS};
 
 use crate::room::{make_room, reserve};
 use crate::working::WorkingPages;
-use gx_device::{Device, Failed};
+use gx_device::{BLOCK_LEN, Device, Failed};
 use gx_frames::{Call, Frames};
-use gx_layout::HEAD_BLOCKS;
+use gx_layout::{home, slot};
 
 // A page stands in a frame, with these bytes, and counts as changed.
 fn put(frames: &mut Frames, p: u32, from: &[u8])
@@ -41,15 +40,17 @@ pub(crate) fn write<D: Device>(
     requires bytes { length from.now ≡ BLOCK_LEN }
     requires backed { IsBacked D.Device device.old working.old }
     ensures page { IsTrue D.tells →
-        OnOk result (page_in (size_in working.old) (D.content device.new) working.new p
+        OnOk result
+        (page_in (D.size device.old) (size_in working.old) (D.content device.new) working.new p
         ≡ from.now) }
     ensures others { IsTrue D.tells → (q : ℕ) → p ≢ q →
-        page_in (size_in working.old) (D.content device.new) working.new q
-        ≡ page_in (size_in working.old) (D.content device.old) working.old q }
+        page_in (D.size device.old) (size_in working.old) (D.content device.new) working.new q
+        ≡ page_in (D.size device.old) (size_in working.old) (D.content device.old) working.old q }
     ensures failed { IsTrue D.tells →
         OnErr result
-        (SamePages (page_in (size_in working.old) (D.content device.old) working.old)
-        (page_in (size_in working.old) (D.content device.new) working.new)) }
+        (SamePages
+        (page_in (D.size device.old) (size_in working.old) (D.content device.old) working.old)
+        (page_in (D.size device.old) (size_in working.old) (D.content device.new) working.new)) }
     ensures writes { WritesSlots D.Device device.old device.new working.old working.new result }
 {
     reserve(device, working, p)?;
@@ -71,40 +72,39 @@ fn fetch<D: Device>(
     ensures page { IsTrue D.tells →
         OnOk result
         (into.new ≡ (if is_spilled
-        then slice_index_or (D.content device.old).now.blocks (HEAD_BLOCKS + p) []
-        else slice_index_or (D.content device.old).now.blocks (home pages p) [])) }
+        then slice_index_or (D.content device.old).now.blocks (slot (D.size device.old) p) []
+        else slice_index_or (D.content device.old).now.blocks (home (D.size device.old) pages p)
+        [])) }
     ensures reads { ReadsOnly D.Device device.old device.new result }
 {
+    let size = device.blocks();
     if is_spilled {
-        device.read_block(HEAD_BLOCKS + p, into)
+        device.read_block(slot(size, p), into)
     } else {
-        device.read_block(HEAD_BLOCKS + pages + p, into)
+        device.read_block(home(size, pages, p), into)
     }
 }
 
-/// Reads a page, which then stands in a frame.
-pub(crate) fn read<D: Device>(
+/// Makes a page stand in a frame, whose bytes are then those of the page.
+pub(crate) fn bring<D: Device>(
     device: &mut D,
     working: &mut WorkingPages,
     p: u32,
-    into: &mut [u8],
 ) -> Result<(), Failed>
     requires below { p < size_in working.old }
-    requires bytes { length into.old ≡ BLOCK_LEN }
     requires backed { IsBacked D.Device device.old working.old }
-    ensures page { IsTrue D.tells →
-        OnOk result
-        (into.new ≡ page_in (size_in working.old) (D.content device.old) working.old p) }
+    ensures resident { OnOk result (IsResident working.new.frames p) }
     ensures unchanged { IsUnchangedIn working.old → IsUnchangedIn working.new }
     ensures keeps { KeepsWorking D.Device device.old device.new working.old working.new result }
 {
-    if let Some(bytes) = working.frames.get(p) {
-        into.copy_from_slice(bytes);
+    if working.frames.is_resident(p) {
+        working.frames.carry_out(Call::Get(p));
         return Ok(());
     }
     make_room(device, working)?;
     let is_spilled = working.spilled[p as usize];
-    fetch(device, is_spilled, working.count(), p, into)?;
-    working.frames.carry_out(Call::Admit(p, into));
+    let mut bytes = [0; BLOCK_LEN];
+    fetch(device, is_spilled, working.count(), p, &mut bytes)?;
+    working.frames.carry_out(Call::Admit(p, &bytes));
     Ok(())
 }

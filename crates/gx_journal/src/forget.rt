@@ -16,6 +16,7 @@ fn leave(frames: &mut Frames, p: u32)
     ensures others { (q : ℕ) → p ≢ q →
         find_page q frames.new.resident ≡ find_page q frames.old.resident }
     ensures pages { frames.new.pages ≡ frames.old.pages }
+    ensures frames { frames.new.frames ≡ frames.old.frames }
 {
     if frames.is_resident(p) {
         frames.evict(p);
@@ -29,6 +30,7 @@ fn forget_changed(frames: &mut Frames)
     ensures unchanged { (q : ℕ) (r : Resident) → find_page q frames.new.resident ≡ Some r →
         r.changed ≡ false }
     ensures pages { frames.new.pages ≡ frames.old.pages }
+    ensures frames { frames.new.frames ≡ frames.old.frames }
 {
     let _victim = frames.victim();
     frames.forget_changes();
@@ -36,12 +38,13 @@ fn forget_changed(frames: &mut Frames)
 
 /// Forgets all changes: each page is as at home. The device isn't called.
 pub(crate) fn forget(working: &mut WorkingPages)
-    ensures same { (P : ℕ) (c : Content) → IsCachedIn P c working.old → (q : ℕ) →
-        page_in P c working.new q ≡ block_of c.now (home P q) }
-    ensures cached { (P : ℕ) (c : Content) → IsCachedIn P c working.old →
-        IsCachedIn P c working.new }
+    ensures same { (size P : ℕ) (c : Content) → IsCachedIn size P c working.old → (q : ℕ) →
+        page_in size P c working.new q ≡ block_of c.now (home size P q) }
+    ensures cached { (size P : ℕ) (c : Content) → IsCachedIn size P c working.old →
+        IsCachedIn size P c working.new }
     ensures unchanged { IsUnchangedIn working.new }
     ensures long { size_in working.new ≡ size_in working.old }
+    ensures frames { working.new.frames.frames ≡ working.old.frames.frames }
 {
     forget_changed(&mut working.frames);
     for i in 0..working.listed.len() {

@@ -1,24 +1,24 @@
 // Pages over a device, with the working ones in a few frames.
-ghost use Rattle.std.specs.Prelude.{◌≡◌, ◌↔◌, ◌<◌, ◌≤◌, ◌+◌, ◌*◌, ◌-◌, ◌≢◌, ◌∷◌, [], false, length, replicate, drop, slice_set, slice_index_or, IsTrue, IfOk, IfErr, OnOk, OnErr};
-ghost use Rattle.gx_device.specs.Content.{Content, Silent, Hears, Listens, Says, Speaks, block_of};
+ghost use Rattle.std.specs.Prelude.{◌≡◌, ◌↔◌, ◌<◌, ◌≤◌, ◌+◌, ◌*◌, [], false, length, replicate, drop, slice_set, slice_index_or, IsTrue, IfOk, IfErr, OnOk, OnErr};
+ghost use Rattle.std.specs.Borrow.{sem};
+ghost use Rattle.gx_device.specs.Content.{Silent, block_of};
 ghost use Rattle.gx_device.specs.Crash.{LeavesOnly};
-ghost use Rattle.gx_device.specs.Quiet.{IsOldOrNew};
-ghost use Rattle.gx_device.specs.Faults.{Rose, HasCause, Counted, IsCounted};
-ghost use Rattle.gx_layout.specs.Layout.{OnlyBlocks, Shows, home, pages_of, is_open};
-ghost use Rattle.gx_layout.specs.Head.{HasMagic, IsFormatted, DifferFirst, text_at, text_area, text_blocks};
-ghost use Rattle.gx_layout.specs.Besides.{IsImageBesides, IsUnsealed};
+ghost use Rattle.gx_device.specs.Faults.{IsCounted};
+ghost use Rattle.gx_layout.specs.Layout.{OnlyBlocks, head_blocks, home, pages_of, is_open};
+ghost use Rattle.gx_layout.specs.Head.{HasMagic, IsFormatted, DifferFirst, text_at, text_area};
+ghost use Rattle.gx_layout.specs.Besides.{IsImageBesides};
 ghost use Rattle.gx_layout.specs.Recovered.{Recovers, IsOfRecovery, replayed_pages, view_now};
 ghost use Rattle.gx_journal.specs.Sources.{IsCached};
 ghost use Rattle.gx_device.specs.declared.device.TheConstants.{BLOCK_LEN};
-ghost use Rattle.gx_layout.specs.declared.formatting.TheConstants.{HEAD_BLOCKS, MAX_BLOCKS, MAX_TEXTS_LEN};
+ghost use Rattle.gx_layout.specs.declared.places.TheConstants.{MAX_BLOCKS, MAX_TEXTS_LEN};
 
-use crate::access::{read, write};
+use crate::access::{bring, write};
 use crate::commit::commit;
 use crate::forget::forget;
 use crate::opening::Unopened;
 use crate::working::WorkingPages;
 use gx_device::{Device, Failed};
-use gx_layout::{HEAD_BLOCKS, format, recover, seal, texts_differ};
+use gx_layout::{format, home, recover, seal, texts_differ};
 use std::alloc::Global;
 
 /// Pages that are committed all at once.
@@ -31,31 +31,33 @@ pub struct Journal<D: Device> {
     device: D,
     working: WorkingPages,
     failed: bool,
-    ghost room: { HEAD_BLOCKS + 2 * length working.spilled.items ≤ D.size device },
+    ghost room: { head_blocks (D.size device) + 2 * length working.spilled.items ≤ D.size device },
     ghost limit: { D.size device ≤ MAX_BLOCKS },
     ghost count: { length working.spilled.items ≡ pages_of (D.size device) },
     ghost closed: { IsTrue D.tells → failed ≡ false →
         is_open (block_of (D.content device).now 1) ≡ false },
     ghost cached: { IsTrue D.tells →
-        IsCached (length working.spilled.items)
+        IsCached (D.size device) (length working.spilled.items)
         (D.content device).now.blocks working.spilled.items working.frames.resident },
 }
 
 impl<D: Device> Journal<D> {
-    ghost use Rattle.gx_journal.specs.Journal.{device_of, content_of, size_of, working_of, kept_of, head_blocks, IsSteady, IsUnchanged, IsCalm, Keeps};
-    ghost use Rattle.gx_journal.specs.Opening.{device_left, content_left, has_no_fault};
-    ghost use Rattle.gx_journal.specs.State.{homes_told, head_told};
+    ghost use Rattle.gx_journal.specs.Journal.{device_of, content_of, size_of, frames_of, working_of, kept_of, kept_head, IsSteady, IsUnchanged, Keeps};
+    ghost use Rattle.gx_journal.specs.Calls.{Rests, Reads, Talks, ReplacesKept, Settles, SealsKept, KeepsPages, Hearing, Saying};
+    ghost use Rattle.gx_journal.specs.Opening.{content_left, IsPoolSize, IsDeviceSize, IsRecovered, IsUnrecovered, IsLaidOut, IsNotLaidOut, Opens};
     ghost use Rattle.gx_journal.specs.Working.{size_in};
+    ghost use Rattle.gx_journal.specs.contracts.journal.Journal.{the_row};
 
     // A journal whose working pages are all at home.
     fn over(device: D, working: WorkingPages) -> Journal<D>
-        requires blocks { HEAD_BLOCKS + 2 * size_in working ≤ D.size device }
+        requires room { head_blocks (D.size device) + 2 * size_in working ≤ D.size device }
         requires limit { D.size device ≤ MAX_BLOCKS }
         requires count { size_in working ≡ pages_of (D.size device) }
         requires closed { IsTrue D.tells → is_open (block_of (D.content device).now 1) ≡ false }
         requires absent { working.frames.resident ≡ [] }
         requires unspilled { working.spilled.items ≡ replicate (size_in working) false }
         ensures size { size_of result ≡ size_in working }
+        ensures frames { frames_of result ≡ working.frames.frames }
         ensures device { device_of result ≡ device }
         ensures steady { IsSteady result }
         ensures working { working_of result ≡ kept_of result }
@@ -71,39 +73,24 @@ impl<D: Device> Journal<D> {
     /// Opens the database on a device, with 8 to 1,024 frames, and settles what a crash left there.
     /// The kept pages are those of the last commit, and so are the working ones.
     ///
+    /// After an Ok no block is pending.
+    ///
     /// Else the device is handed back. `NoMemory`: it wasn't called. `NoDatabase`: the magic isn't
-    /// there, and no block was written. `Fault`: a call of it failed; it holds the same database as
-    /// before, and may be opened again.
+    /// there; no block was written, and after the sync that the call begins with none is pending.
+    /// `Fault`: a call of it failed; it holds the same database as before, and may be opened again.
+    /// Where the magic isn't there no block was written then either.
     pub fn recover(alloc: Global, mut device: D, frames: u32) -> Result<Journal<D>, (D, Unopened)>
-        requires least { 8 ≤ frames }
-        requires most { frames ≤ 1024 }
-        requires blocks { HEAD_BLOCKS ≤ D.size device }
-        requires limit { D.size device ≤ MAX_BLOCKS }
-        ensures kept { IsTrue D.tells →
-            IfOk result (λ j. kept_of j ≡ replayed_pages (D.content device).now.blocks) }
-        ensures working { IfOk result (λ j. working_of j ≡ kept_of j) }
-        ensures head { IfOk result (λ j. head_blocks j ≡ head_told D.tells (D.content device)) }
-        ensures size { IfOk result (λ j. size_of j ≡ pages_of (D.size device)) }
-        ensures unchanged { IfOk result (λ j. IsUnchanged j) }
-        ensures steady { IfOk result (λ j. IsSteady j) }
-        ensures calm { IsTrue D.tells → IfOk result (λ j. IsCalm j (content_of j)) }
-        ensures magic { IsTrue D.tells →
-            OnOk result (HasMagic (block_of (D.content device).now 0)) }
-        ensures no_magic { IsTrue D.tells → IfErr result
-            (λ e. e.1 ≡ Unopened.NoDatabase → ¬ HasMagic (block_of (D.content device).now 0)) }
-        ensures unwritten { IfErr result (λ e. e.1 ≡ Unopened.NoDatabase →
-            (D.content e.0).now.blocks ≡ (D.content device).now.blocks) }
-        ensures uncalled { IfErr result (λ e. e.1 ≡ Unopened.NoMemory → e.0 ≡ device) }
+        requires frames { IsPoolSize frames }
+        requires blocks { IsDeviceSize (D.size device) }
+        ensures recovered { IfOk result (IsRecovered device frames) }
+        ensures unrecovered { IfErr result (λ e. IsUnrecovered D.Device device e.0 e.1) }
         ensures images { IsTrue D.tells → Recovers
             (view_now (replayed_pages (D.content device).now.blocks) (D.content device))
             (D.content device) (content_left result) }
         ensures touched { IsTrue D.tells → OnlyBlocks
             (IsOfRecovery (pages_of (D.size device)) (D.content device).now.blocks)
             (D.content device) (content_left result) }
-        ensures silent { Silent (D.content device) (content_left result) }
-        ensures blocks { D.size (device_left result) ≡ D.size device }
-        ensures faults { Counted (has_no_fault result) (D.faults device)
-            (D.faults (device_left result)) }
+        ensures opens { Opens device result }
     {
         let Ok(working) = WorkingPages::make(alloc, frames, device.blocks()) else {
             return Err((device, Unopened::NoMemory));
@@ -116,10 +103,11 @@ impl<D: Device> Journal<D> {
     }
 
     /// Lays out a device with two texts, with 8 to 1,024 frames. Block 0 and the pages stay as they
-    /// are, so that there is no database before a `seal` if there was none.
+    /// are, so that there is no database before a `seal` if there was none. After an Ok no block is
+    /// pending.
     ///
     /// Else the device is handed back. `NoMemory`: it wasn't called. `Fault`: a call of it failed,
-    /// and some of the blocks 1 to 6 may have been written.
+    /// and some of the blocks between the first and the pages may have been written.
     pub fn format(
         alloc: Global,
         mut device: D,
@@ -127,28 +115,17 @@ impl<D: Device> Journal<D> {
         schema: &[u8],
         equation: &[u8],
     ) -> Result<Journal<D>, (D, Unopened)>
-        requires least { 8 ≤ frames }
-        requires most { frames ≤ 1024 }
-        requires blocks { HEAD_BLOCKS ≤ D.size device }
-        requires limit { D.size device ≤ MAX_BLOCKS }
+        requires frames { IsPoolSize frames }
+        requires blocks { IsDeviceSize (D.size device) }
         requires texts { length schema.now + length equation.now ≤ MAX_TEXTS_LEN }
-        ensures kept { IfOk result
-            (λ j. kept_of j ≡ homes_told D.tells (size_of j) (D.content device)) }
-        ensures working { IfOk result (λ j. working_of j ≡ kept_of j) }
-        ensures head { IsTrue D.tells → IfOk result (λ j. head_blocks j
-            ≡ block_of (D.content device).now 0 ∷ text_blocks schema.now equation.now) }
-        ensures size { IfOk result (λ j. size_of j ≡ pages_of (D.size device)) }
-        ensures unchanged { IfOk result (λ j. IsUnchanged j) }
-        ensures steady { IfOk result (λ j. IsSteady j) }
-        ensures calm { IsTrue D.tells → IfOk result (λ j. IsCalm j (content_of j)) }
-        ensures database { IfErr result (λ e. e.1 ≢ Unopened.NoDatabase) }
-        ensures uncalled { IfErr result (λ e. e.1 ≡ Unopened.NoMemory → e.0 ≡ device) }
-        ensures images { LeavesOnly (IsImageBesides IsFormatted (D.content device).now)
+        ensures laid_out { IfOk result (IsLaidOut device frames schema.now equation.now) }
+        ensures not_laid_out { IfErr result (λ e. IsNotLaidOut device e.0 e.1) }
+        ensures images { LeavesOnly
+            (IsImageBesides (IsFormatted (D.size device)) (D.content device).now)
             (D.content device) (content_left result) }
-        ensures touched { OnlyBlocks IsFormatted (D.content device) (content_left result) }
-        ensures blocks { D.size (device_left result) ≡ D.size device }
-        ensures faults { Counted (has_no_fault result) (D.faults device)
-            (D.faults (device_left result)) }
+        ensures touched { OnlyBlocks (IsFormatted (D.size device)) (D.content device)
+            (content_left result) }
+        ensures opens { Opens device result }
     {
         let Ok(working) = WorkingPages::make(alloc, frames, device.blocks()) else {
             return Err((device, Unopened::NoMemory));
@@ -159,22 +136,14 @@ impl<D: Device> Journal<D> {
         }
     }
 
-    /// Writes the magic: from then on there is a database on the device. After `Failed` block 0 may
-    /// hold anything.
+    /// Writes the magic: from then on there is a database on the device. After an Ok no block is
+    /// pending. After `Failed` block 0 may hold anything.
     pub fn seal(&mut self) -> Result<(), Failed>
-        ensures magic { IsTrue D.tells →
-            OnOk result (HasMagic (slice_index_or (head_blocks self.new) 0 [])) }
-        ensures texts { drop 1 (head_blocks self.new) ≡ drop 1 (head_blocks self.old) }
-        ensures working { working_of self.new ≡ working_of self.old }
-        ensures kept { kept_of self.new ≡ kept_of self.old }
-        ensures size { size_of self.new ≡ size_of self.old }
-        ensures blocks { D.size (device_of self.new) ≡ D.size (device_of self.old) }
-        ensures steady { IsSteady self.old ↔ IsSteady self.new }
-        ensures calm { (start : Content) → IsCalm self.old start →
-            OnOk result (IsCalm self.new (content_of self.new)) }
-        ensures images { (start : Content) → IsCalm self.old start → LeavesOnly
-            (IsUnsealed (view_now (kept_of self.old) (content_of self.old)))
-            (content_of self.old) (content_of self.new) }
+        ensures magic { IsTrue D.tells → OnOk result (HasMagic (D.size (device_of self.old))
+            (slice_index_or (kept_head self.new) 0 [])) }
+        ensures texts { drop 1 (kept_head self.new) ≡ drop 1 (kept_head self.old) }
+        ensures seals { SealsKept self.old self.new result }
+        ensures keeps { KeepsPages self.old self.new }
         ensures touched { OnlyBlocks (λ n. n ≡ 0) (content_of self.old) (content_of self.new) }
         ensures faults { IsCounted (D.faults (device_of self.old))
             (D.faults (device_of self.new)) result }
@@ -184,20 +153,23 @@ impl<D: Device> Journal<D> {
 
     /// The first place of the text area, counted from 0, in which the device differs from these
     /// texts; None where it has them. The text area is the bytes of the text blocks: the lengths of
-    /// the texts, the texts, and zeros.
+    /// the texts, the texts, and zeros. `Failed`: a call of the device failed. Whatever it answers,
+    /// the pages stay, and nothing on the device changes or comes to be pending.
     pub fn texts_differ(&mut self, schema: &[u8], equation: &[u8]) -> Result<Option<u16>, Failed>
         requires { length schema.now + length equation.now ≤ MAX_TEXTS_LEN }
-        ensures place { IsTrue D.tells → IfOk result (DifferFirst (text_at (head_blocks self.old))
+        ensures place { IsTrue D.tells → IfOk result (DifferFirst (text_at (kept_head self.old))
             (λ q. slice_index_or (text_area schema.now equation.now) q 0)) }
-        ensures working { working_of self.new ≡ working_of self.old }
-        ensures unchanged { IsUnchanged self.old → IsUnchanged self.new }
-        ensures blocks { (content_of self.new).now.blocks ≡ (content_of self.old).now.blocks }
-        ensures keeps { Keeps self.old self.new }
-        ensures silent { Silent (content_of self.old) (content_of self.new) }
-        ensures faults { IsCounted (D.faults (device_of self.old))
-            (D.faults (device_of self.new)) result }
+        ensures now { (content_of self.new).now ≡ (content_of self.old).now }
+        ensures reads { Reads self.old self.new result }
     {
         texts_differ(&mut self.device, schema, equation)
+    }
+
+    /// The number of blocks of the device.
+    pub fn blocks(&self) -> u32
+        ensures { result ≡ D.size (device_of self.now) }
+    {
+        self.device.blocks()
     }
 
     /// The number of pages.
@@ -210,25 +182,42 @@ impl<D: Device> Journal<D> {
     /// The block in which a page is kept.
     pub fn block(&self, p: u32) -> u32
         requires { p < size_of self.now }
-        ensures { result ≡ home (size_of self.now) p }
+        ensures { result ≡ home (D.size (device_of self.now)) (size_of self.now) p }
     {
-        HEAD_BLOCKS + self.pages() + p
+        home(self.device.blocks(), self.pages(), p)
     }
 
-    /// Reads a page as it was written last. After `Failed` the slice may hold anything.
+    /// Lends the 4,096 bytes of a page, as it was written last. The loan ends with the next call of
+    /// the journal. No bytes are copied where the page stands in a frame.
+    ///
+    /// `Failed`: a call of the device failed. The working pages and the kept ones are as before.
+    pub fn lend_page(&mut self, p: u32) -> Result<&[u8], Failed>
+        requires { p < size_of self.old }
+        ensures page { IsTrue D.tells →
+            IfOk result (λ bytes. bytes.now ≡ slice_index_or (working_of self.old) p []) }
+        ensures size { IfOk result (λ bytes. length bytes.now ≡ BLOCK_LEN) }
+        ensures* reads { sem 𝓛 (Rests (the_row D.row D.Device) self.entry
+            (λ last. Reads self.old last result)) }
+    {
+        bring(&mut self.device, &mut self.working, p)?;
+        match self.working.frames.peek(p) {
+            Some(bytes) => Ok(bytes),
+            None => Err(Failed),
+        }
+    }
+
+    /// Reads a page as it was written last, into a slice. After `Failed` the slice may hold
+    /// anything, and the working pages and the kept ones are as before.
     pub fn read_page(&mut self, p: u32, into: &mut [u8]) -> Result<(), Failed>
         requires below { p < size_of self.old }
         requires bytes { length into.old ≡ BLOCK_LEN }
         ensures page { IsTrue D.tells →
             OnOk result (into.new ≡ slice_index_or (working_of self.old) p []) }
-        ensures working { working_of self.new ≡ working_of self.old }
-        ensures unchanged { IsUnchanged self.old → IsUnchanged self.new }
-        ensures keeps { Keeps self.old self.new }
-        ensures silent { Silent (content_of self.old) (content_of self.new) }
-        ensures faults { IsCounted (D.faults (device_of self.old))
-            (D.faults (device_of self.new)) result }
+        ensures reads { Reads self.old self.new result }
     {
-        read(&mut self.device, &mut self.working, p, into)
+        let bytes = self.lend_page(p)?;
+        into.copy_from_slice(bytes);
+        Ok(())
     }
 
     /// Writes a page. After `Failed` the working pages are as before.
@@ -246,25 +235,17 @@ impl<D: Device> Journal<D> {
         write(&mut self.device, &mut self.working, p, from)
     }
 
-    /// Makes the working pages the kept ones, all at once. Where no page has changed the device
-    /// isn't called. After `Failed` the journal is to be opened again.
+    /// Makes the working pages the kept ones, all at once: a crash within the call leaves the ones
+    /// or the others. Where no page has changed the device isn't called. Where one has, no block is
+    /// pending after an Ok. After `Failed` the journal is to be opened again.
     pub fn commit(&mut self) -> Result<(), Failed>
         ensures kept { OnOk result (kept_of self.new ≡ working_of self.old) }
         ensures working { OnOk result (working_of self.new ≡ working_of self.old) }
-        ensures head { head_blocks self.new ≡ head_blocks self.old }
-        ensures size { size_of self.new ≡ size_of self.old }
-        ensures blocks { D.size (device_of self.new) ≡ D.size (device_of self.old) }
         ensures steady { OnOk result (IsSteady self.old ↔ IsSteady self.new) }
-        ensures images { (start : Content) → IsCalm self.old start → LeavesOnly
-            (IsOldOrNew (Shows (head_blocks self.old) (kept_of self.old))
-            (Shows (head_blocks self.old) (working_of self.old))
-            (content_of self.old).now)
-            (content_of self.old) (content_of self.new) }
-        ensures calm { (start : Content) → IsCalm self.old start →
-            OnOk result (IsCalm self.new (content_of self.new)) }
-        ensures unchanged { IsUnchanged self.old → device_of self.new ≡ device_of self.old }
         ensures saved { OnOk result (IsUnchanged self.new) }
-        ensures silent { Silent (content_of self.old) (content_of self.new) }
+        ensures idle { IsUnchanged self.old → device_of self.new ≡ device_of self.old }
+        ensures replaces { ReplacesKept self.old self.new result }
+        ensures settles { Settles self.old self.new }
         ensures faults { IsCounted (D.faults (device_of self.old))
             (D.faults (device_of self.new)) result }
     {
@@ -283,41 +264,19 @@ impl<D: Device> Journal<D> {
         forget(&mut self.working);
     }
 
-    /// Hears the script, as the device does.
+    /// Hears the script, as the device does. The pages stay.
     pub fn hear(&mut self, into: &mut [u8]) -> Result<usize, Failed>
         requires { 0 < length into.old }
-        ensures bound { IfOk result (λ n. n ≤ length into.new) }
-        ensures heard { IsTrue D.tells →
-            IfOk result (λ n. Hears n into.new (content_of self.old) (content_of self.new)) }
-        ensures not_heard { OnErr result ((content_of self.new).script
-            ≡ (content_of self.old).script) }
-        ensures rest { Listens (content_of self.old) (content_of self.new) }
-        ensures faults { IsCounted (D.faults (device_of self.old))
-            (D.faults (device_of self.new)) result }
-        ensures working { working_of self.new ≡ working_of self.old }
-        ensures unchanged { IsUnchanged self.old → IsUnchanged self.new }
-        ensures keeps { Keeps self.old self.new }
+        ensures hears { Hearing self.old self.new into.new result }
+        ensures keeps { Talks self.old self.new }
     {
         self.device.hear(into)
     }
 
-    /// Says the first bytes of a piece, as the device does.
+    /// Says the first bytes of a piece: the device is called once at most. The pages stay.
     pub fn say(&mut self, from: &[u8]) -> Result<usize, Failed>
-        ensures bound { IfOk result (λ n. n ≤ length from.now) }
-        ensures said { IsTrue D.tells →
-            IfOk result (λ n. Says n from.now (content_of self.old) (content_of self.new)) }
-        ensures not_said { OnErr result ((content_of self.new).now.said
-            ≡ (content_of self.old).now.said) }
-        ensures rest { Speaks (content_of self.old) (content_of self.new) }
-        ensures cause { HasCause (D.faults (device_of self.old))
-            (D.faults (device_of self.new)) result }
-        ensures counted { IfOk result (λ n. 0 < n → D.faults (device_of self.new)
-            ≡ D.faults (device_of self.old)) }
-        ensures none_taken { result ≡ Ok 0 → 0 < length from.now →
-            Rose (D.faults (device_of self.old)) (D.faults (device_of self.new)) }
-        ensures working { working_of self.new ≡ working_of self.old }
-        ensures unchanged { IsUnchanged self.old → IsUnchanged self.new }
-        ensures keeps { Keeps self.old self.new }
+        ensures says { Saying self.old self.new from.now result }
+        ensures keeps { Talks self.old self.new }
     {
         self.device.say(from)
     }

@@ -1,18 +1,18 @@
 // Room in the frames.
-ghost use Rattle.std.specs.Prelude.{◌≡◌, ◌<◌, ◌≤◌, ◌+◌, ◌⊎◌, ℕ, true, false, Some, None, length, slice_set, vec_capacity, IsTrue, IsSomeAnd, OnOk};
+ghost use Rattle.std.specs.Prelude.{◌≡◌, ◌<◌, ◌≤◌, ◌+◌, ◌⊎◌, ℕ, true, false, Some, None, length, slice_index_or, slice_set, vec_capacity, IsTrue, IsSomeAnd, OnOk};
 ghost use Rattle.gx_device.specs.Content.{Written};
 ghost use Rattle.gx_frames.specs.Pool.{Resident, IsResident, IsChanged, HasFreeFrame, find_page, to_front, with_residents};
+ghost use Rattle.gx_layout.specs.Layout.{slot};
 ghost use Rattle.gx_journal.specs.DeviceCalls.{HasPlaces, WritesBlock};
 ghost use Rattle.gx_journal.specs.Publishing.{SameResidents};
 ghost use Rattle.gx_journal.specs.Sources.{stored, IsListed};
 ghost use Rattle.gx_journal.specs.Working.{size_in, IsUnchangedIn};
 ghost use Rattle.gx_journal.specs.WorkingCalls.{IsBacked, KeepsWorking};
-ghost use Rattle.gx_layout.specs.declared.formatting.TheConstants.{HEAD_BLOCKS};
 
 use crate::working::WorkingPages;
 use gx_device::{Device, Failed};
 use gx_frames::Frames;
-use gx_layout::HEAD_BLOCKS;
+use gx_layout::slot;
 
 // Writes a resident page to its slot.
 fn write_slot<D: Device>(device: &mut D, frames: &mut Frames, p: u32) -> Result<(), Failed>
@@ -22,11 +22,14 @@ fn write_slot<D: Device>(device: &mut D, frames: &mut Frames, p: u32) -> Result<
     ensures frames { frames.new ≡ with_residents frames.old (to_front p frames.old.resident) }
     ensures written { IsTrue D.tells → (r : Resident) → find_page p frames.old.resident ≡ Some r →
         OnOk result
-        (Written (HEAD_BLOCKS + p) r.bytes (D.content device.old) (D.content device.new)) }
-    ensures writes { WritesBlock D.Device (HEAD_BLOCKS + p) device.old device.new result }
+        (Written (slot (D.size device.old) p) r.bytes (D.content device.old)
+        (D.content device.new)) }
+    ensures writes { WritesBlock D.Device (slot (D.size device.old) p) device.old device.new
+        result }
 {
+    let block = slot(device.blocks(), p);
     if let Some(bytes) = frames.get(p) {
-        device.write_block(HEAD_BLOCKS + p, bytes)
+        device.write_block(block, bytes)
     } else {
         Err(Failed)
     }
@@ -58,10 +61,12 @@ pub(crate) fn spill<D: Device>(
     requires backed { IsBacked D.Device device.old working.old }
     ensures frames { working.new.frames
         ≡ with_residents working.old.frames (to_front p working.old.frames.resident) }
+    ensures spilled { OnOk result (slice_index_or working.new.spilled.items p false ≡ true) }
     ensures stored { IsTrue D.tells → (r : Resident) →
         find_page p working.old.frames.resident ≡ Some r →
         OnOk result
-        (stored (size_in working.old) (D.content device.new).now.blocks working.new.spilled.items p
+        (stored (D.size device.old) (size_in working.old) (D.content device.new).now.blocks
+        working.new.spilled.items p
         ≡ r.bytes) }
     ensures keeps { KeepsWorking D.Device device.old device.new working.old working.new result }
 {
@@ -86,7 +91,8 @@ fn settle<D: Device>(
     ensures stored { IsTrue D.tells → (r : Resident) →
         find_page p working.old.frames.resident ≡ Some r →
         OnOk result
-        (stored (size_in working.old) (D.content device.new).now.blocks working.new.spilled.items p
+        (stored (D.size device.old) (size_in working.old) (D.content device.new).now.blocks
+        working.new.spilled.items p
         ≡ r.bytes) }
     ensures keeps { KeepsWorking D.Device device.old device.new working.old working.new result }
 {

@@ -2,12 +2,11 @@
 ghost use Rattle.std.specs.Prelude.{◌≡◌, ◌≤◌, [], false, length, replicate, vec_capacity, IfOk};
 ghost use Rattle.gx_layout.specs.Layout.{pages_of};
 ghost use Rattle.gx_journal.specs.Sources.{IsListed};
-ghost use Rattle.gx_layout.specs.declared.bitmap.TheConstants.{MAX_PAGES};
-ghost use Rattle.gx_layout.specs.declared.formatting.TheConstants.{HEAD_BLOCKS, MAX_BLOCKS};
+ghost use Rattle.gx_layout.specs.declared.places.TheConstants.{MAX_BLOCKS};
 
 use gx_device::NoMemory;
 use gx_frames::Frames;
-use gx_layout::HEAD_BLOCKS;
+use gx_layout::page_count;
 use std::alloc::Global;
 
 // The working pages: some stand in frames, the spilled ones of the others in their slots, and the
@@ -17,7 +16,7 @@ pub(crate) struct WorkingPages {
     pub(crate) frames: Frames,
     pub(crate) spilled: Vec<bool>,
     pub(crate) listed: Vec<u32>,
-    ghost few: { length spilled.items ≤ MAX_PAGES },
+    ghost few: { length spilled.items ≤ MAX_BLOCKS },
     ghost pages: { frames.pages ≡ length spilled.items },
     ghost named: { IsListed spilled.items listed.items },
     ghost space: { length spilled.items ≤ vec_capacity listed },
@@ -28,14 +27,14 @@ impl WorkingPages {
     pub(crate) fn make(alloc: Global, frames: u32, blocks: u32) -> Result<WorkingPages, NoMemory>
         requires least { 8 ≤ frames }
         requires most { frames ≤ 1024 }
-        requires head { HEAD_BLOCKS ≤ blocks }
         requires limit { blocks ≤ MAX_BLOCKS }
         ensures count { IfOk result (λ working. length working.spilled.items ≡ pages_of blocks) }
+        ensures frames { IfOk result (λ working. working.frames.frames ≡ frames) }
         ensures absent { IfOk result (λ working. working.frames.resident ≡ []) }
         ensures unspilled { IfOk result (λ working. working.spilled.items
             ≡ replicate (length working.spilled.items) false) }
     {
-        let pages = (blocks - HEAD_BLOCKS) / 2;
+        let pages = page_count(blocks);
         Ok(WorkingPages {
             frames: Frames::make(alloc, frames, pages)?,
             spilled: vec![in alloc; false; pages as usize]?,

@@ -1,4 +1,5 @@
-use Rattle.std.proofs.Common.{◌<◌, ℕ, inl, inr, subst, arith}
+use Rattle.std.proofs.Common.{◌<◌, ◌∙◌, ℕ, inl, inr, sym, subst, arith}
+use Rattle.std.proofs.lemmas.Bool.{true≢false}
 use Rattle.std.proofs.lemmas.Bool.Decides.{eqb_tells, leb_tells}
 use Rattle.gx_frames.specs.Pool.{Pool, find_page, IsPool, IsNextChanged, IsChanged}
 use Rattle.gx_journal.proofs.SourceLemmas.{found_below}
@@ -57,6 +58,8 @@ loop-p-preserved g c =
       keeps = keeps_joined g.D.Device inv.keeps c.in_ok-spill_one.ensures.keeps;
       idle = λ none. absurd (never_changed c.args.working.now c.loop-p.working c.in-Some.p none
           (inv.idle none).1 c.in-Some.ensures.next.changed);
+      untouched = λ none. absurd (true≢false (sym c.in_ok-spill_one.ensures.spilled
+          ∙ none c.in-Some.p));
       below = λ q lt h. elim (eqb_tells q c.in-Some.p) [
         | inl same ↦ c.in_ok-spill_one.ensures.clean
             (subst (λ (k : ℕ). IsChanged c.spill_one.new.working.frames k) same.1 h)

@@ -1,4 +1,4 @@
-use Rattle.std.proofs.Common.{◌≡◌, ◌<◌, ◌-◌, ℕ, Ok, length}
+use Rattle.std.proofs.Common.{◌≡◌, ◌<◌, ◌-◌, ℕ, false, Ok, length, get_or}
 use Rattle.gx_frames.specs.Pool.{IsChanged}
 use Rattle.gx_journal.specs.WorkingCalls.{KeepsWorking}
 use Rattle.gx_journal.proofs.commit.spill_all.Given as goal
@@ -9,6 +9,8 @@ invariant-loop-p g l = record {
       (Ok tt);
   idle : ((q : ℕ) → IsChanged l.fn.working.frames q → ⊥) → (l.device ≡ l.fn.device) ×
       (l.working ≡ l.fn.working);
+  untouched : ((q : ℕ) → get_or l.working.spilled.items q false ≡ false)
+      → l.working ≡ l.fn.working;
   below : (q : ℕ) → q < l.from → IsChanged l.working.frames q → ⊥;
 }
 

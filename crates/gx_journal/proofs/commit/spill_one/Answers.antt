@@ -54,19 +54,22 @@ returns-clause-keeps g c =
     let order = front_found p rs ss (ap (λ (x : Pool). x.resident) c.spill.ensures.frames) in
     let x = find_cleaned p ss r.0 (order p ∙ r.1) in
     let blocks = (g.D.Device.content c.spill.new.device).now.blocks in
+    let N = g.D.Device.size c.args.device.now in
     let P = length c.args.working.now.spilled.items in
     let spilled = c.spill.new.working.spilled.items in
     keeps_placed g.D.Device _ c.in_ok-spill.ensures.keeps refl
-    (λ told q. ap (λ (y : Pool). page_of P blocks spilled y.resident q) c.clean.ensures ∙ elim
+    (ap (λ (y : Pool). y.frames) c.clean.ensures)
+    (λ told q. ap (λ (y : Pool). page_of N P blocks spilled y.resident q) c.clean.ensures ∙ elim
     (eqb_tells p q) [
-      | inl same ↦ page_resident P blocks spilled (cleaned p ss) q x.0
+      | inl same ↦ page_resident N P blocks spilled (cleaned p ss) q x.0
           (ap (λ (k : ℕ). find_page k (cleaned p ss)) (sym same.1) ∙ x.1) ∙ x.2
-          ∙ sym (page_resident P blocks spilled ss q r.0
+          ∙ sym (page_resident N P blocks spilled ss q r.0
           (ap (λ (k : ℕ). find_page k ss) (sym same.1) ∙ order p ∙ r.1))
-      | inr other ↦ placed_other P blocks spilled ss (cleaned p ss) p x.0 x.1
+      | inr other ↦ placed_other N P blocks spilled ss (cleaned p ss) p x.0 x.1
           (λ k off. find_cleaned_other p k ss off) q other.1
     ])
-    (λ told cached. subst (λ (y : Pool). IsCached P blocks spilled y.resident) (sym c.clean.ensures)
-    (placed_cached P blocks spilled ss (cleaned p ss) p x.0 x.1
+    (λ told cached. subst (λ (y : Pool). IsCached N P blocks spilled y.resident) (sym
+    c.clean.ensures)
+    (placed_cached N P blocks spilled ss (cleaned p ss) p x.0 x.1
     (λ k off. find_cleaned_other p k ss off) (λ e. x.2 ∙ sym
     (c.in_ok-spill.ensures.stored told r.0 r.1)) cached))

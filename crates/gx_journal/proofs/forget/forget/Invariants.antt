@@ -6,6 +6,7 @@ abbrev pub invariant-loop-i : goal.invariant-loop-i
 invariant-loop-i l = record {
   spilled : l.working.spilled.items ≡ l.fn.working.spilled.items;
   listed : l.working.listed.items ≡ l.fn.working.listed.items;
+  frames : l.working.frames.frames ≡ l.fn.working.frames.frames;
   kept : (q : ℕ) (r : Resident) → find_page q l.working.frames.resident ≡ Some r
       → (find_page q l.fn.working.frames.resident ≡ Some r) × (r.changed ≡ false);
   gone : (k : ℕ) → k < l.i

@@ -6,7 +6,8 @@ use Rattle.gx_journal.proofs.publish.bring_home.Goals as goal
 
 pub returns-clause-homes : goal.returns-clause-homes
 returns-clause-homes g c told = on_ok_always c.sync.result (λ i lt.
-    ap (λ (l : List (List ℕ)). get_or l (home c.args.pages (get_or c.args.listed.now.items i 0)) [])
+    ap (λ (l : List (List ℕ)). get_or l (home (g.D.Device.size c.args.device.now) c.args.pages
+    (get_or c.args.listed.now.items i 0)) [])
     c.sync.ensures.rest.blocks
     ∙ c.in_ok-write_homes.ensures.homes told i lt)
 

@@ -1,4 +1,4 @@
-use Rattle.std.proofs.Common.{◌≡◌, refl, ℕ}
+use Rattle.std.proofs.Common.{◌≡◌, ◌∙◌, ap, ℕ}
 use Rattle.gx_layout.specs.Layout.{home}
 use Rattle.gx_journal.proofs.DeviceLemmas.{counted, failed_counted, writes_joined, read_writes, block_writes}
 use Rattle.gx_journal.proofs.publish.copy_home.Goals as goal
@@ -6,7 +6,8 @@ use Rattle.gx_journal.proofs.publish.copy_home.Goals as goal
 pub returns-in_err-read_block-clause-writes : goal.returns-in_err-read_block-clause-writes
 returns-in_err-read_block-clause-writes g c =
     let read = c.in_err-read_block.ensures in
-    read_writes g.D.Device (λ n. n ≡ home c.args.pages c.args.p) (record {
+    read_writes g.D.Device (λ n. n ≡ home (g.D.Device.size c.args.device.now) c.args.pages c.args.p)
+    (record {
       rest = c.read_block.ensures.rest;
       size = c.read_block.ensures.size;
       faults = failed_counted c.from_residual.result c.from_residual.ensures.0
@@ -15,7 +16,7 @@ returns-in_err-read_block-clause-writes g c =
 
 pub returns-clause-writes : goal.returns-clause-writes
 returns-clause-writes g c =
-    let free = λ (n : ℕ). n ≡ home c.args.pages c.args.p in
+    let free = λ (n : ℕ). n ≡ home (g.D.Device.size c.args.device.now) c.args.pages c.args.p in
     let read = c.in_ok-read_block.ensures in
     let write = c.write_block.ensures in
     writes_joined g.D.Device
@@ -24,7 +25,9 @@ returns-clause-writes g c =
       size = c.read_block.ensures.size;
       faults = counted read.cause read.counted;
     }))
-    (block_writes g.D.Device free (home c.args.pages c.args.p) refl (record {
+    (block_writes g.D.Device free c.home.result
+    (c.home.ensures ∙ ap (λ (n : ℕ). home n c.args.pages c.args.p) c.blocks-size.ensures.count)
+    (record {
       rest = write.rest;
       size = write.size;
       faults = counted write.cause write.counted;

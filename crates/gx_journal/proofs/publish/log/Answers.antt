@@ -1,7 +1,6 @@
-use Rattle.std.proofs.Common.{ℕ, Bool, List, [], length, get_or, subst, sym}
+use Rattle.std.proofs.Common.{ℕ, List, subst, sym}
 use Rattle.gx_laws.proofs.ResultLemmas.{on_ok_always}
-use Rattle.gx_device.specs.Content.{block_of}
-use Rattle.gx_layout.specs.Layout.{Names}
+use Rattle.gx_layout.specs.Layout.{NamesListed, has_bit_on, most_pages}
 use Rattle.gx_journal.proofs.DeviceLemmas.{counted, not_flushed, flushed}
 use Rattle.gx_journal.proofs.publish.log.Goals as goal
 
@@ -28,12 +27,12 @@ returns-clause-flushes g c =
       };
     }) sync.rest sync.size (counted sync.cause sync.counted) sync.none_pending
 
-pub returns-clause-names : goal.returns-clause-names
-returns-clause-names g c told =
-    let flags = c.args.spilled.now.items in
-    let bits = block_of (g.D.Device.content c.write_bitmap.new.device).now 2 in
+pub returns-clause-named : goal.returns-clause-named
+returns-clause-named g c told =
+    let n = most_pages (g.D.Device.size c.args.device.now) in
     on_ok_always c.sync.result
-    (subst (λ (l : List (List ℕ)). Names flags (get_or l 2 []) (length flags))
+    (subst (λ (l : List (List ℕ)). NamesListed c.args.listed.now.items (has_bit_on l) n)
     (sym c.sync.ensures.rest.blocks)
-    (subst (λ (xs : List Bool). Names xs bits (length xs)) c.deref.ensures.value
-    (c.in_ok-write_bitmap.ensures.written told)))
+    (subst (λ (xs : List ℕ).
+    NamesListed xs (has_bit_on (g.D.Device.content c.write_bitmap.new.device).now.blocks) n)
+    c.deref.ensures.value (c.in_ok-write_bitmap.ensures.written told)))

@@ -1,4 +1,4 @@
-use Rattle.std.proofs.Common.{◌≡◌, refl}
+use Rattle.std.proofs.Common.{◌≡◌, ◌∙◌, ap, ℕ}
 use Rattle.gx_layout.specs.Layout.{home}
 use Rattle.gx_journal.proofs.CallLemmas.{front_residents}
 use Rattle.gx_journal.proofs.DeviceLemmas.{counted, block_writes}
@@ -11,7 +11,10 @@ returns-in-Some-clause-frames g c =
 pub returns-in-Some-clause-writes : goal.returns-in-Some-clause-writes
 returns-in-Some-clause-writes g c =
     let write = c.write_block.ensures in
-    block_writes g.D.Device (λ n. n ≡ home c.args.pages c.args.p) (home c.args.pages c.args.p) refl
+    block_writes g.D.Device
+    (λ n. n ≡ home (g.D.Device.size c.args.device.now) c.args.pages c.args.p) c.home-block.result
+    (c.home-block.ensures
+    ∙ ap (λ (n : ℕ). home n c.args.pages c.args.p) c.blocks-2.ensures.count)
     (record {
       rest = write.rest;
       size = write.size;

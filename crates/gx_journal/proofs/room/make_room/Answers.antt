@@ -65,17 +65,19 @@ returns-clause-keeps g c =
     let last = last_found c.args.working.now.frames c.in-Some.page c.in-Some.changed
     c.victim.ensures.pool c.in-Some.ensures.last in
     let stand = (g.D.Device.content c.settle.new.device).now.blocks in
+    let N = g.D.Device.size c.args.device.now in
     let P = length c.args.working.now.spilled.items in
     let spilled = c.settle.new.working.spilled.items in
     let residents = c.settle.new.working.frames.resident in
     keeps_placed g.D.Device _ c.in_ok-settle.ensures.keeps refl
-    (λ told q. ap (λ (x : Pool). page_of P stand spilled x.resident q) c.evict.ensures
-    ∙ evicted_pages P stand spilled residents c.in-Some.page _
+    (ap (λ (x : Pool). x.frames) c.evict.ensures)
+    (λ told q. ap (λ (x : Pool). page_of N P stand spilled x.resident q) c.evict.ensures
+    ∙ evicted_pages N P stand spilled residents c.in-Some.page _
     (c.settle.ensures.frames.found c.in-Some.page ∙ last.1)
     (sym (c.in_ok-settle.ensures.stored told _ last.1)) q)
-    (λ told cached. subst (λ (x : Pool). IsCached P stand spilled x.resident)
+    (λ told cached. subst (λ (x : Pool). IsCached N P stand spilled x.resident)
     (sym c.evict.ensures)
-    (evicted_cached P stand spilled residents c.in-Some.page cached))
+    (evicted_cached N P stand spilled residents c.in-Some.page cached))
 
 pub returns-in_err-settle-clause-unchanged : goal.returns-in_err-settle-clause-unchanged
 returns-in_err-settle-clause-unchanged g c is =

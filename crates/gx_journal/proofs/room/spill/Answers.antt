@@ -13,8 +13,8 @@ returns-in_err-write_slot-clause-keeps g c =
 
 pub returns-clause-stored : goal.returns-clause-stored
 returns-clause-stored g c told r is =
-    let room = c.requires.backed.room in
-    written_stored _ c.args.p r.bytes (g.D.Device.content c.args.device.now)
+    let room = c.requires.backed.places.room in
+    written_stored _ _ c.args.p r.bytes (g.D.Device.content c.args.device.now)
     (g.D.Device.content c.write_slot.new.device) c.args.working.now.spilled.items
     c.note.new.spilled.items c.requires.below
     (omega (arith, room, c.requires.below, g.met.D.Device.sized c.args.device.now told))

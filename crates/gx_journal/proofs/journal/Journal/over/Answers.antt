@@ -1,4 +1,4 @@
-use Rattle.std.proofs.Common.{◌≡◌, List, length, Option, Some, None, refl, ap, sym, ◌∙◌, arith}
+use Rattle.std.proofs.Common.{◌≡◌, List, length, Option, Some, None, refl, ap, sym, ◌∙◌}
 use Rattle.gx_frames.specs.Pool.{Resident, find_page}
 use Rattle.gx_journal.proofs.PageLemmas.{pages_home}
 use Rattle.gx_journal.proofs.ForgetLemmas.{all_home, none_set}
@@ -8,12 +8,13 @@ use Rattle.gx_journal.proofs.journal.Journal.over.Goals as goal
 pub returns-clause-working : goal.returns-clause-working
 returns-clause-working g c =
     let working = c.args.working in
+    let N = g.D.Device.size c.args.device in
     let P = length working.spilled.items in
     let content = g.D.Device.content c.args.device in
     let rs = working.frames.resident in
-    pages_home g.D.Device.tells P P content working.spilled.items rs refl
-    (λ told. omega (arith, c.requires.blocks, g.met.D.Device.sized c.args.device told))
-    (λ told. all_home P content.now.blocks working.spilled.items rs
+    pages_home g.D.Device.tells N P P content working.spilled.items rs refl c.requires.room
+    (g.met.D.Device.sized c.args.device)
+    (λ told. all_home N P content.now.blocks working.spilled.items rs
     (none_set P working.spilled.items c.requires.unspilled)
     (λ q r is. absurd (let e : ◌≡◌ {A = Option Resident} None (Some r) =
     sym (ap (λ (l : List Resident). find_page q l) c.requires.absent) ∙ is in cc)))
