@@ -24,7 +24,7 @@ use std::alloc::Global;
 /// the root, by the separator behind the one before. After a refusal `out` may hold more than
 /// before.
 pub fn select<P: Pages>(
-    _alloc: Global,
+    alloc: Global,
     pages: &mut P,
     place: &Place,
     span: &Span,
@@ -39,7 +39,7 @@ pub fn select<P: Pages>(
     let mut key = KeyBuf::from_slice(span.lo.as_slice());
     for _ in 0..pages.pages() {
         let way = find(pages, place, key.as_slice(), &mut page)?;
-        if !give(&page, key.as_slice(), span, out)? {
+        if !give(alloc, &page, key.as_slice(), span, out)? {
             return Err(Stop::Damaged(pages.block(way.page)));
         }
         let bound = way.bound;
@@ -56,7 +56,13 @@ pub fn select<P: Pages>(
 
 // Appends the entries of a page inside the span, from a key on. Those behind the span aren't looked
 // at. False only where the bytes are no entry page.
-fn give(page: &[u8], from: &[u8], span: &Span, out: &mut Entries) -> Result<bool, NoMemory>
+fn give(
+    alloc: Global,
+    page: &[u8],
+    from: &[u8],
+    span: &Span,
+    out: &mut Entries,
+) -> Result<bool, NoMemory>
     requires { length page.now ≡ PAGE_LEN }
     ensures ok { IsAscendingPage page.now → OnOk result (out.new
         ≡ out.old ++ given_from from.now span.now.lo span.now.hi (entries_of page.now)) }
@@ -68,7 +74,7 @@ fn give(page: &[u8], from: &[u8], span: &Span, out: &mut Entries) -> Result<bool
         let Some(((key, body), behind)) = split_entry(rest) else {
             return Ok(false);
         };
-        if !give_entry(key, body, from, span, out)? {
+        if !give_entry(alloc, key, body, from, span, out)? {
             return Ok(true);
         }
         rest = behind;
@@ -79,6 +85,7 @@ fn give(page: &[u8], from: &[u8], span: &Span, out: &mut Entries) -> Result<bool
 // Appends an entry where it lies inside the span and isn't below a key. False: it stands behind the
 // span.
 fn give_entry(
+    alloc: Global,
     key: &[u8],
     body: &[u8],
     from: &[u8],
@@ -97,7 +104,7 @@ fn give_entry(
         return Ok(false);
     }
     if is_up_to(span.lo.as_slice(), key) {
-        out.push(key, body)?;
+        out.push(alloc, key, body)?;
     }
     Ok(true)
 }

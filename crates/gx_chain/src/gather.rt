@@ -39,7 +39,7 @@ pub fn collect<P: Pages>(
 {
     let mut found = Vec::new(alloc);
     gather_from(alloc, pages, first, span, &mut found)?;
-    append_sorted(&mut found, out)?;
+    append_sorted(alloc, &mut found, out)?;
     Ok(())
 }
 
@@ -80,12 +80,16 @@ pub fn gather_from<P: Pages>(
 
 /// Sorts entries by their keys, and appends copies of them. After a refusal `out` may hold more
 /// than before.
-pub fn append_sorted(found: &mut Vec<Entry>, out: &mut Entries) -> Result<(), NoMemory>
+pub fn append_sorted(
+    alloc: Global,
+    found: &mut Vec<Entry>,
+    out: &mut Entries,
+) -> Result<(), NoMemory>
     ensures ok { OnOk result (HasAppended found.old.items out.old out.new) }
     ensures extends { Extends out.old out.new }
 {
     sort_entries(found)?;
-    append_all(found, out)
+    append_all(alloc, found, out)
 }
 
 // Copies the entries of a page inside the span. False only where the bytes are no entry page.
@@ -142,12 +146,12 @@ fn sort_entries(found: &mut Vec<Entry>) -> Result<(), AllocError>
 }
 
 // Appends copies of entries.
-fn append_all(found: &[Entry], out: &mut Entries) -> Result<(), NoMemory>
+fn append_all(alloc: Global, found: &[Entry], out: &mut Entries) -> Result<(), NoMemory>
     ensures ok { OnOk result (out.new ≡ out.old ++ found.now) }
     ensures extends { Extends out.old out.new }
 {
     for entry in found {
-        out.push(entry.key.as_slice(), entry.body.as_slice())?;
+        out.push(alloc, entry.key.as_slice(), entry.body.as_slice())?;
     }
     Ok(())
 }

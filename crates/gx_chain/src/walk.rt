@@ -11,9 +11,8 @@ ghost use Rattle.gx_chain.specs.Chain.{IsChain, HasChain};
 ghost use Rattle.gx_chain.specs.Walk.{IsTrial, IsSpot, noted, AreSpots};
 
 use crate::read::{behind, read_entries};
-use crate::write::add_last;
 use gx_ports::{PAGE_LEN, Pages, Stop};
-use gx_slots::{add, find, take};
+use gx_slots::{add, count, find, take};
 
 /// What a page is to an entry that is to be put.
 #[derive(Clone, Copy, Debug)]
@@ -59,7 +58,8 @@ fn try_entry(page: &mut [u8], key: &[u8], body: &[u8]) -> Trial
     ensures next { next_of page.new ≡ next_of page.old }
 {
     let Some(place) = find(page, key) else {
-        return if add_last(page, key, body) {
+        let end = count(page);
+        return if add(page, end, key, body) {
             Trial::Room
         } else {
             Trial::Other

@@ -78,7 +78,7 @@ pub fn select<P: Pages>(
         span.now out.old out.new pages.old pages.new result }
 {
     let mut found = gather_inside(alloc, pages, place, span)?;
-    append_sorted(&mut found, out)?;
+    append_sorted(alloc, &mut found, out)?;
     Ok(())
 }
 

@@ -271,7 +271,7 @@ fn select_cells(
             return Ok(false);
         }
         if let Some(body) = cell.as_slice() {
-            out.push(bytes, body)?;
+            out.push(alloc, bytes, body)?;
         }
     }
     Ok(is_past)

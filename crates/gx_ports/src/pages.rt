@@ -1,8 +1,10 @@
 // Pages: each has 4,096 bytes and an owner, as it is and as it was last committed.
 ghost use Rattle.std.specs.Prelude.{◌≡◌, ◌↔◌, ◌*◌, ◌≤◌, ◌<◌, length, slice_get, slice_set, Some, IsTrue, IfOk, OnOk, IsErrOf};
+ghost use Rattle.std.specs.Borrow.{sem};
 ghost use Rattle.gx_device.specs.Content.{Content};
 ghost use Rattle.gx_ports.specs.Sheets.{IsPast, IsHomeOf, IsClaimed, IsOwnedAnew, AreOwnersOn, HasNone};
-ghost use Rattle.gx_ports.specs.PageCalls.{KeepsPages, ReadsPages, TalksPages, SettlesPages, CountsPageFaults, PagesHear, PagesSay};
+ghost use Rattle.gx_ports.specs.PageCalls.{KeepsPages, ReadsPages, TalksPages, SettlesPages, ReplacesPages, CountsPageFaults, PagesHear, PagesSay};
+ghost use Rattle.gx_ports.specs.Loans.{Rests};
 ghost use Rattle.gx_ports.specs.Stops.{HasStopCause};
 ghost use Rattle.gx_device.specs.Quiet.{QuietSince};
 ghost use Rattle.gx_bytes.specs.declared.page.TheConstants.{PAGE_LEN};
@@ -13,9 +15,6 @@ use gx_device::Failed;
 
 /// The greatest owner of a page past the table. The least is 1; a page of the owner 0 is free.
 pub const MAX_OWNER: u16 = 65534;
-
-/// How many pages the table of the owners has. They are the first ones.
-pub const TABLE_PAGES: u32 = 16;
 
 /// How many owners stand on a page of the table.
 pub const OWNERS: usize = 2048;
@@ -120,6 +119,16 @@ pub trait Pages: PageView {
         ensures reads { ReadsPages Self.PageView self.old self.new }
         ensures faults { CountsPageFaults Self.PageView self.old self.new result };
 
+    /// Lends the 4,096 bytes of a page. The loan ends with the next call of the pages.
+    fn look(&mut self, page: u32) -> Result<&[u8], Failed>
+        requires page { page < (Self.ground self.old).size }
+        ensures look { IsTrue Self.tells → IfOk result
+            (λ bytes. slice_get (Self.working self.old).bytes page ≡ Some bytes.now) }
+        ensures bytes { IfOk result (λ bytes. length bytes.now ≡ PAGE_LEN) }
+        ensures* reads { sem 𝓛 (Rests Self.row self.entry (λ last.
+            ReadsPages Self.PageView self.old last
+            × CountsPageFaults Self.PageView self.old last result)) };
+
     /// Writes a page past the table. After `Failed` the pages are to be opened again.
     fn write(&mut self, page: u32, from: &[u8]) -> Result<(), Failed>
         requires page { IsPast (Self.ground self.old) page }
@@ -132,14 +141,16 @@ pub trait Pages: PageView {
         ensures keeps { KeepsPages Self.PageView self.old self.new }
         ensures faults { CountsPageFaults Self.PageView self.old self.new result };
 
-    /// Makes the working pages the kept ones. Where none was changed the device isn't called. After
-    /// `Failed` the pages are to be opened again.
+    /// Makes the working pages the kept ones, all at once: a crash within the call leaves the ones or
+    /// the others. Where none was changed the device isn't called. After `Failed` the pages are to be
+    /// opened again.
     fn commit(&mut self) -> Result<(), Failed>
         ensures kept { OnOk result (Self.kept self.new ≡ Self.working self.old) }
         ensures working { OnOk result (Self.working self.new ≡ Self.working self.old) }
         ensures steady { OnOk result (Self.steady self.old ↔ Self.steady self.new) }
         ensures saved { OnOk result (Self.unchanged self.new) }
         ensures idle { Self.unchanged self.old → Self.content self.new ≡ Self.content self.old }
+        ensures replaces { ReplacesPages Self.PageView self.old self.new result }
         ensures settles { SettlesPages Self.PageView self.old self.new }
         ensures faults { CountsPageFaults Self.PageView self.old self.new result };
 
@@ -168,8 +179,8 @@ pub trait Pages: PageView {
 
     /// What calm means: since that content a crash leaves blocks that stand for the kept pages,
     /// with what had been said then and a front of what has been said since.
-    ghost calm_means: { (p : Self) (s : Content) → IsTrue Self.tells → Self.calm p s →
-        QuietSince (Self.stands (Self.ground p).head (Self.kept p)) s (Self.content p) };
+    ghost calm_means: { (p : Self) (s : Content) → Self.calm p s →
+        QuietSince (Self.stands (Self.ground p) (Self.kept p)) s (Self.content p) };
 
     /// What is calm since an earlier content is calm from now on.
     ghost calm_now: { (p : Self) (s : Content) → Self.calm p s → Self.calm p (Self.content p) };

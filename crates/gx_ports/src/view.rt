@@ -27,8 +27,9 @@ pub trait View {
     /// Nothing was changed since the last commit: another one calls nothing of the device.
     ghost unchanged: { Self → Type 0 };
 
-    /// How many steps there were: one for each `select` that answered Ok, and one for each entry
-    /// that it gave. It stays at 2 ^ 64 - 1 once it is there.
+    /// How many steps there were: one for each `select`, `insert` and `count` that answered Ok, and
+    /// one for each entry that it gave or met. An `insert` that was refused may have counted so too.
+    /// The number stays at 2 ^ 64 - 1 once it is there.
     ghost work: { Self → ℕ };
 
     /// The pages that limit the entries, and the blocks of the device on which they lie, where

@@ -6,8 +6,8 @@ use Rattle.gx_slots.proofs.PageLemmas.{page_of}
 use Rattle.gx_chain.proofs.EntryLemmas.{less_other}
 use Rattle.gx_chain.proofs.walk.try_entry.Goals as goal
 
-pub add-requires-clause-other : goal.add-requires-clause-other
-add-requires-clause-other c =
+pub add-requires-2-clause-other : goal.add-requires-2-clause-other
+add-requires-2-clause-other c =
     let es = entries_of c.args.page.now in
     let found = c.in-Some.ensures.found in
     subst (All (λ (e : Entry). e.key ≢ c.args.key.now)) (sym c.take.ensures.entries)
