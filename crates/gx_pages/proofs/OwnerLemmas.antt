@@ -99,10 +99,10 @@ module _ (pages : List (List ℕ)) (page owner : ℕ) (bytes : List ℕ) (below 
       (length-set pages (page / 2048) bytes) below owner_here owner_other
 
 -- pages past the table have no part in the owners
-pub owners_past : (pages : List (List ℕ)) (page : ℕ) (bytes : List ℕ) → length pages ≤ 32768
-    → 16 ≤ page
+pub owners_past : (pages : List (List ℕ)) (tables page : ℕ) (bytes : List ℕ)
+    → length pages ≤ 2048 * tables → tables ≤ page
     → page_owners (set pages page bytes) ≡ page_owners pages
-owners_past pages page bytes few past =
+owners_past pages tables page bytes few past =
     let next = set pages page bytes in
     let same = length-set pages page bytes in
     same_lists (page_owners next) (page_owners pages) (count_owners next ∙ same
@@ -115,13 +115,13 @@ owners_past pages page bytes few past =
 
 -- so a page has another owner, and all past the table is as it was
 pub owned_anew : (base : Ground) (pages next : List (List ℕ)) (page owner : ℕ)
-    (table bytes : List ℕ) → base.tables ≡ 16
-    → page < length pages → length pages ≤ 32768 → owner < 2 ^ 16 → length table ≡ 4096
+    (table bytes : List ℕ) → page < length pages → length pages ≤ 2048 * base.tables
+    → owner < 2 ^ 16 → length table ≡ 4096
     → table ≡ get_or pages (page / 2048) []
     → bytes ≡ overwritten table (2 * (page % 2048)) (to_be_bytes w16 owner)
     → next ≡ set pages (page / 2048) bytes
     → IsOwnedAnew page owner base (sheets_of pages) (sheets_of next)
-owned_anew base pages next page owner table bytes sixteen below few fits whole read is next_is =
+owned_anew base pages next page owner table bytes below few fits whole read is next_is =
     record {
       owners = ap page_owners next_is
           ∙ owners_set pages page owner bytes below (ap (λ (t : List ℕ). length t) (sym read)
@@ -130,21 +130,20 @@ owned_anew base pages next page owner table bytes sixteen below few fits whole r
           read);
       bytes = λ other past. ap (λ (ps : List (List ℕ)). slice_get ps other) next_is
           ∙ page_other pages (page / 2048) other bytes
-          (λ e. absurd (omega (arith, e, past, few, below, sixteen)));
+          (λ e. absurd (omega (arith, e, past, few, below)));
     }
 
-pub sheets_written : (pages next : List (List ℕ)) (page : ℕ) (bytes : List ℕ) → length pages ≤ 32768
-    → 16 ≤ page
-    → next ≡ set pages page bytes
+pub sheets_written : (pages next : List (List ℕ)) (tables page : ℕ) (bytes : List ℕ)
+    → length pages ≤ 2048 * tables → tables ≤ page → next ≡ set pages page bytes
     → sheets_of next ≡ record { owners = page_owners pages; bytes = set pages page bytes }
-sheets_written pages next page bytes few past is =
+sheets_written pages next tables page bytes few past is =
     ap sheets_of is ∙ (λ i.
-    record { owners = owners_past pages page bytes few past i; bytes = set pages page bytes })
+    record { owners = owners_past pages tables page bytes few past i; bytes = set pages page bytes })
 
 -- where no free page is found, none is free
 pub none_free : (base : Ground) (pages : List (List ℕ)) (found : Option ℕ)
-    → length pages ≡ base.size → length pages ≤ 32768 → found ≡ None
-    → IsFoundFree 0 16 base pages found → HasNone base (sheets_of pages)
+    → length pages ≡ base.size → length pages ≤ 2048 * base.tables → found ≡ None
+    → IsFoundFree 0 base.tables base pages found → HasNone base (sheets_of pages)
 none_free base pages found long few none free page past is =
     let below : page < length pages = omega (arith, past.below, long) in
     MatchOption-at_none _ _ none free page (omega arith) (omega (arith, below, few)) past
@@ -167,33 +166,33 @@ claimed_since base mid pages between next page owner long tables same past free 
 }
 
 -- one more page of the table has been cleared
-pub clear_more : (pages next : List (List ℕ)) (table : ℕ) (bytes : List ℕ) → table < length pages
-    → next ≡ set pages table bytes
-    → IsClear table bytes → ((t : ℕ) → t < table → IsClear t (get_or pages t [])) → (t : ℕ)
-    → t < table + 1 → IsClear t (get_or next t [])
-clear_more pages next table bytes below is clear before t lt = elim (eqb_tells t table) [
-  | inl same ↦ subst (λ (k : ℕ). IsClear k (get_or next k [])) (sym same.1)
-      (subst (IsClear table) (sym (ap (λ (ps : List (List ℕ)). get_or ps table []) is
+pub clear_more : (pages next : List (List ℕ)) (tables table : ℕ) (bytes : List ℕ)
+    → table < length pages → next ≡ set pages table bytes → IsClear tables table bytes
+    → ((t : ℕ) → t < table → IsClear tables t (get_or pages t [])) → (t : ℕ)
+    → t < table + 1 → IsClear tables t (get_or next t [])
+clear_more pages next tables table bytes below is clear before t lt = elim (eqb_tells t table) [
+  | inl same ↦ subst (λ (k : ℕ). IsClear tables k (get_or next k [])) (sym same.1)
+      (subst (IsClear tables table) (sym (ap (λ (ps : List (List ℕ)). get_or ps table []) is
       ∙ get_or-set_same pages table bytes [] below)) clear)
   | inr off ↦ (let ne = off.1 in
-      subst (IsClear t) (sym (ap (λ (ps : List (List ℕ)). get_or ps t []) is
+      subst (IsClear tables t) (sym (ap (λ (ps : List (List ℕ)). get_or ps t []) is
       ∙ get_or-set_other pages table t bytes [] ne)) (before t (omega (arith, lt, ne))))
 ]
 
 -- where the whole table has been cleared, no page past it has an owner
-pub all_free : (base : Ground) (pages : List (List ℕ)) (end : ℕ) → base.tables ≡ 16
+pub all_free : (base : Ground) (pages : List (List ℕ)) (end : ℕ)
     → length pages ≡ base.size
     → ((page : ℕ) → page < length pages → page / 2048 < end)
-    → ((t : ℕ) → t < end → IsClear t (get_or pages t []))
+    → ((t : ℕ) → t < end → IsClear base.tables t (get_or pages t []))
     → IsAllFree base (sheets_of pages)
-all_free base pages end sixteen long within clear = record {
+all_free base pages end long within clear = record {
   own = λ page low lt. (let below : page < length pages = omega (arith, lt, long) in
       owner_listed pages page 65535 below
-      ((clear (page / 2048) (within page below)).own page refl (omega (arith, low, sixteen))));
+      ((clear (page / 2048) (within page below)).own page refl (omega (arith, low))));
   free = λ page past. (let below : page < length pages = omega (arith, past.below, long) in
       owner_listed pages page 0 below
       ((clear (page / 2048) (within page below)).free page refl
-      (omega (arith, past.past, sixteen))));
+      (omega (arith, past.past))));
 }
 
 -- A page of the table is searched in two parts. What was found in the first one is free, and where

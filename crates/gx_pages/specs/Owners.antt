@@ -3,7 +3,7 @@ use Rattle.std.specs.Prelude.{◌≡◌, ◌≢◌, ℕ, ◌*◌, ◌/◌, ◌%�
 use Rattle.std.specs.Int.{w16, from_be_bytes}
 use Rattle.std.specs.List.{range_with_len}
 use Rattle.gx_ports.specs.Sheets.{Sheets, Ground, IsPast}
-use Rattle.gx_ports.specs.declared.pages.TheConstants.{OWNERS, TABLE_PAGES}
+use Rattle.gx_ports.specs.declared.pages.TheConstants.{OWNERS}
 use Rattle.gx_pages.specs.declared.table.TheConstants.{TABLE_OWNER}
 
 -- the number that a page of the table has for this page
@@ -37,12 +37,12 @@ IsFoundFree from end base pages found = MatchOption found
     → IsPast base page → owner_at pages page ≢ 0)
     (λ page. owner_at pages page ≡ 0)
 
--- a page of the table, by its number, on which the table's pages have its owner, and no other page
--- has an owner
-pub record IsClear (table : ℕ) (bytes : List ℕ) : Type 0 where
-  pub own : (page : ℕ) → page / OWNERS ≡ table → page < TABLE_PAGES
+-- a page of a table of so many pages, by its number, on which the table's pages have its owner, and
+-- no other page has an owner
+pub record IsClear (tables table : ℕ) (bytes : List ℕ) : Type 0 where
+  pub own : (page : ℕ) → page / OWNERS ≡ table → page < tables
       → owner_number bytes page ≡ TABLE_OWNER
-  pub free : (page : ℕ) → page / OWNERS ≡ table → TABLE_PAGES ≤ page → owner_number bytes page ≡ 0
+  pub free : (page : ℕ) → page / OWNERS ≡ table → tables ≤ page → owner_number bytes page ≡ 0
 
 -- the table's pages have its owner, and each page past it is free
 pub record IsAllFree (base : Ground) (sheets : Sheets) : Type 0 where

@@ -4,17 +4,16 @@ use Rattle.gx_device.specs.declared.device.Device as device
 use Rattle.gx_device.specs.Content.{Silent}
 use Rattle.gx_device.specs.Faults.{IsCounted}
 use Rattle.gx_layout.specs.Layout.{Shows}
+use Rattle.gx_layout.specs.Places.{table_pages, head_blocks}
 use Rattle.gx_ports.specs.Sheets.{Sheets, Ground}
 use Rattle.gx_journal.specs.declared.journal.Journal.{Journal}
-use Rattle.gx_journal.specs.Journal.{device_of, content_of, size_of, working_of, kept_of, head_blocks, Keeps}
+use Rattle.gx_journal.specs.Journal.{device_of, content_of, size_of, working_of, kept_of, kept_head, Keeps}
 use Rattle.gx_pages.specs.Owners.{page_owners, sheets_of}
-use Rattle.gx_ports.specs.declared.pages.TheConstants.{TABLE_PAGES}
-use Rattle.gx_layout.specs.declared.formatting.TheConstants.{HEAD_BLOCKS}
 
--- blocks have this head, and stand for these pages with the owners of their table
-pub record StandsFor (head : List (List ℕ)) (sheets : Sheets)
-    (blocks : List (List ℕ)) : Type 0 where
-  pub shows : Shows head sheets.bytes blocks
+-- the blocks are those of a device with so many of them and this head, and stand for these pages with
+-- the owners of their table
+pub record StandsFor (base : Ground) (sheets : Sheets) (blocks : List (List ℕ)) : Type 0 where
+  pub shows : Shows base.blocks base.head sheets.bytes blocks
   pub owners : sheets.owners ≡ page_owners sheets.bytes
 
 module _ {D : Type 0} {g : device.Ghosts D} where
@@ -29,10 +28,10 @@ module _ {D : Type 0} {g : device.Ghosts D} where
   ground_of j =
       record {
         size = size_of j;
-        tables = TABLE_PAGES;
+        tables = table_pages (g.size (device_of j));
         blocks = g.size (device_of j);
-        first = HEAD_BLOCKS + size_of j;
-        head = head_blocks j;
+        first = head_blocks (g.size (device_of j)) + size_of j;
+        head = kept_head j;
       }
 
   -- what a call keeps of the journal, and how it counts faults

@@ -1,6 +1,6 @@
 // The owners of pages, read off the table and written there.
 ghost use Rattle.std.specs.Prelude.{◌≡◌, ◌<◌, ◌≤◌, ◌+◌, ◌*◌, ℕ, Some, length, slice_get, IsTrue, IfOk, IfSome, OnOk};
-ghost use Rattle.gx_ports.specs.declared.pages.TheConstants.{OWNERS, TABLE_PAGES};
+ghost use Rattle.gx_ports.specs.declared.pages.TheConstants.{OWNERS};
 ghost use Rattle.gx_ports.specs.Sheets.{IsPast, IsOwnedAnew};
 ghost use Rattle.gx_journal.specs.Journal.{size_of, working_of, IsUnchanged};
 ghost use Rattle.gx_pages.specs.Owners.{owner_at, IsFoundFree, IsAllFree};
@@ -9,7 +9,16 @@ ghost use Rattle.gx_pages.specs.Paged.{ground_of, working_sheets, KeepsJournal};
 use crate::table::{NUMBERS, clear_page, free_between, number, read_numbers, set_number};
 use gx_device::{Device, Failed};
 use gx_journal::Journal;
-use gx_ports::{PAGE_LEN, TABLE_PAGES};
+use gx_layout::table_pages;
+use gx_ports::PAGE_LEN;
+
+/// How many pages the table of the owners has.
+pub(crate) fn tables<D: Device>(journal: &Journal<D>) -> u32
+    ensures count { result ≡ (ground_of journal.now).tables }
+    ensures few { result ≤ OWNERS }
+{
+    table_pages(journal.blocks())
+}
 
 /// The owner of a page, 0 where it is free.
 pub(crate) fn owner<D: Device>(journal: &mut Journal<D>, page: u32) -> Result<u16, Failed>
@@ -72,7 +81,7 @@ fn free_on<D: Device>(
     hint: u32,
 ) -> Result<Option<u32>, Failed>
     requires below { table < size_of journal.old }
-    requires table { table < TABLE_PAGES }
+    requires table { table < OWNERS }
     ensures free { IsTrue D.tells → IfOk result
         (IsFoundFree table (table + 1) (ground_of journal.old) (working_of journal.old)) }
     ensures past { IfOk result (λ found. IfSome found (IsPast (ground_of journal.old))) }
@@ -83,7 +92,7 @@ fn free_on<D: Device>(
     journal.read_page(table, &mut numbers)?;
     let start = table * NUMBERS;
     let end = journal.pages().min(start + NUMBERS);
-    let first = start.max(TABLE_PAGES).min(end);
+    let first = start.max(tables(journal)).min(end);
     let middle = hint.clamp(first, end);
     if let Some(page) = free_between(&numbers, middle, end) {
         return Ok(Some(page));
@@ -99,7 +108,7 @@ fn free_among<D: Device>(
     hint: u32,
 ) -> Result<Option<u32>, Failed>
     requires below { end ≤ size_of journal.old }
-    requires table { end ≤ TABLE_PAGES }
+    requires table { end ≤ OWNERS }
     ensures free { IsTrue D.tells → IfOk result
         (IsFoundFree from end (ground_of journal.old) (working_of journal.old)) }
     ensures past { IfOk result (λ found. IfSome found (IsPast (ground_of journal.old))) }
@@ -121,14 +130,15 @@ pub(crate) fn find_free<D: Device>(
     hint: u32,
 ) -> Result<Option<u32>, Failed>
     ensures free { IsTrue D.tells → IfOk result
-        (IsFoundFree 0 TABLE_PAGES (ground_of journal.old) (working_of journal.old)) }
+        (IsFoundFree 0 (ground_of journal.old).tables (ground_of journal.old)
+        (working_of journal.old)) }
     ensures past { IfOk result (λ found. IfSome found (IsPast (ground_of journal.old))) }
     ensures working { working_of journal.new ≡ working_of journal.old }
     ensures keeps { KeepsJournal journal.old journal.new result }
 {
-    let tables = journal.pages().div_ceil(NUMBERS).min(TABLE_PAGES);
-    let first = tables.min(hint / NUMBERS);
-    if let Some(page) = free_among(journal, first, tables, hint)? {
+    let end = journal.pages().div_ceil(NUMBERS).min(tables(journal));
+    let first = end.min(hint / NUMBERS);
+    if let Some(page) = free_among(journal, first, end, hint)? {
         return Ok(Some(page));
     }
     free_among(journal, 0, first, hint)
@@ -138,12 +148,13 @@ pub(crate) fn find_free<D: Device>(
 pub(crate) fn clear_owners<D: Device>(journal: &mut Journal<D>) -> Result<(), Failed>
     ensures free { IsTrue D.tells → OnOk result
         (IsAllFree (ground_of journal.old) (working_sheets journal.new)) }
-    ensures bytes { IsTrue D.tells → (other : ℕ) → TABLE_PAGES ≤ other →
+    ensures bytes { IsTrue D.tells → (other : ℕ) → (ground_of journal.old).tables ≤ other →
         slice_get (working_of journal.new) other ≡ slice_get (working_of journal.old) other }
     ensures keeps { KeepsJournal journal.old journal.new result }
 {
-    for table in 0..journal.pages().min(TABLE_PAGES) {
-        journal.write_page(table, &clear_page(table))?;
+    let tables = tables(journal);
+    for table in 0..journal.pages().min(tables) {
+        journal.write_page(table, &clear_page(tables, table))?;
     }
     Ok(())
 }

@@ -1,16 +1,15 @@
 // Pages with owners.
 ghost use Rattle.std.specs.Prelude.{◌≡◌, ◌≤◌, ◌<◌, ℕ, slice_get, IsTrue, IfOk};
-ghost use Rattle.gx_ports.specs.declared.pages.TheConstants.{TABLE_PAGES};
 
-use crate::owners::{clear_owners, find_free, owner, owners_on, set_owner};
+use crate::owners::{clear_owners, find_free, owner, owners_on, set_owner, tables};
 use crate::table::FREE;
 use gx_device::{Device, Failed};
 use gx_journal::Journal;
-use gx_ports::{PageView, Pages, Stop, TABLE_PAGES};
+use gx_ports::{PageView, Pages, Stop};
 
 /// Pages with owners, over a journal.
 ///
-/// The first `TABLE_PAGES` pages are the table of the owners: the number of page p stands in two
+/// The first pages, as many as `table_pages` gives, are the table of the owners: the number of page p stands in two
 /// bytes, big endian, at byte 2 (p % 2048) of page p / 2048. A call that reads or changes an owner
 /// reads one page of the table. `claim` looks for a free page where the last one was claimed or
 /// freed, and reads each page of the table once at most.
@@ -33,7 +32,7 @@ impl<D: Device> Paged<D> {
     pub fn make(mut journal: Journal<D>) -> Result<Paged<D>, (Journal<D>, Failed)>
         ensures free { IsTrue D.tells → IfOk result
             (λ p. IsAllFree (ground_of journal) (working_sheets (journal_of p))) }
-        ensures bytes { IsTrue D.tells → (other : ℕ) → TABLE_PAGES ≤ other →
+        ensures bytes { IsTrue D.tells → (other : ℕ) → (ground_of journal).tables ≤ other →
             slice_get (working_of (journal_left result)) other
             ≡ slice_get (working_of journal) other }
         ensures keeps { KeepsJournal journal (journal_left result) result }
@@ -85,6 +84,7 @@ impl<D: Device> PageView for Paged<D> {
 }
 
 impl<D: Device> Pages for Paged<D> {
+    ghost use Rattle.gx_journal.specs.Journal.{device_of};
     ghost use Rattle.gx_pages.specs.Laws.{many_pages, calm_stands, calm_later};
 
     fn pages(&self) -> u32 {
@@ -92,7 +92,7 @@ impl<D: Device> Pages for Paged<D> {
     }
 
     fn tables(&self) -> u32 {
-        TABLE_PAGES
+        tables(&self.journal)
     }
 
     fn claim(&mut self, owner: u16) -> Result<u32, Stop> {
@@ -130,6 +130,10 @@ impl<D: Device> Pages for Paged<D> {
         self.journal.read_page(page, into)
     }
 
+    fn look(&mut self, page: u32) -> Result<&[u8], Failed> {
+        self.journal.lend_page(page)
+    }
+
     fn write(&mut self, page: u32, from: &[u8]) -> Result<(), Failed> {
         self.journal.write_page(page, from)
     }
@@ -152,7 +156,8 @@ impl<D: Device> Pages for Paged<D> {
 
     ghost many = { λ p told. many_pages p.journal };
 
-    ghost calm_means = { λ p s told calm. calm_stands p.journal s calm };
+    ghost calm_means = { λ p s calm.
+        calm_stands p.journal (D.sized (device_of p.journal) calm.told) s calm };
 
     ghost calm_now = { λ p s calm. calm_later p.journal s calm };
 }

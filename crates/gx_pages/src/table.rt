@@ -1,5 +1,5 @@
 // The numbers on a page of the table of owners.
-ghost use Rattle.std.specs.Prelude.{◌≡◌, ◌*◌, ◌%◌, ◌<◌, ℕ, Some, length, slice_get};
+ghost use Rattle.std.specs.Prelude.{◌≡◌, ◌*◌, ◌%◌, ◌<◌, ◌≤◌, ℕ, Some, length, slice_get};
 ghost use Rattle.std.specs.Int.{w16, to_be_bytes};
 ghost use Rattle.gx_bytes.specs.Parts.{overwritten};
 ghost use Rattle.gx_bytes.specs.declared.page.TheConstants.{PAGE_LEN};
@@ -7,7 +7,7 @@ ghost use Rattle.gx_ports.specs.declared.pages.TheConstants.{OWNERS};
 ghost use Rattle.gx_pages.specs.Owners.{owner_number, IsFreeBetween, IsClear};
 
 use gx_bytes::overwrite;
-use gx_ports::{MAX_OWNER, OWNERS, PAGE_LEN, TABLE_PAGES};
+use gx_ports::{MAX_OWNER, OWNERS, PAGE_LEN};
 
 /// The owner of a page of the table.
 pub(crate) const TABLE_OWNER: u16 = MAX_OWNER + 1;
@@ -70,23 +70,25 @@ pub(crate) fn free_between(table: &[u8], from: u32, end: u32) -> Option<u32>
     None
 }
 
-// The first page of the table while no page past the table has an owner.
-fn first_clear() -> [u8; PAGE_LEN]
-    ensures { IsClear 0 result }
+// The first page of a table of so many pages while no page past it has an owner.
+fn first_clear(tables: u32) -> [u8; PAGE_LEN]
+    requires { tables ≤ OWNERS }
+    ensures { IsClear tables 0 result }
 {
     let mut numbers = [0; PAGE_LEN];
-    for page in 0..TABLE_PAGES {
+    for page in 0..tables {
         set_number(&mut numbers, page, TABLE_OWNER);
     }
     numbers
 }
 
-/// A page of the table while no page past the table has an owner.
-pub(crate) fn clear_page(table: u32) -> [u8; PAGE_LEN]
-    ensures { IsClear table result }
+/// A page of a table of so many pages while no page past it has an owner.
+pub(crate) fn clear_page(tables: u32, table: u32) -> [u8; PAGE_LEN]
+    requires { tables ≤ OWNERS }
+    ensures { IsClear tables table result }
 {
     if table == 0 {
-        return first_clear();
+        return first_clear(tables);
     }
     [0; PAGE_LEN]
 }
