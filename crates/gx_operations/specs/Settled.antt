@@ -7,14 +7,17 @@ use Rattle.gx_schema.specs.declared.schema.Schema.{Schema}
 use Rattle.gx_types.specs.declared.built.Built.{Built}
 use Rattle.gx_model.specs.States.{State}
 use Rattle.gx_states.specs.Internal.{AreInternal}
-use Rattle.gx_layout.specs.Layout.{pages_of}
+use Rattle.gx_layout.specs.Places.{pages_of, table_pages}
 use Rattle.gx_store.specs.Device.{IsSettled}
-use Rattle.gx_ports.specs.declared.pages.TheConstants.{TABLE_PAGES}
 
 -- the pages of a device of so many blocks, and those that the leaves take from the start on
 abbrev pub limits_on : List LeafSpec → ℕ → Limits
 limits_on specs blocks =
-    record { pages = pages_of blocks; fixed = TABLE_PAGES + root_pages specs; blocks = blocks }
+    record {
+      pages = pages_of blocks;
+      fixed = table_pages blocks + root_pages specs;
+      blocks = blocks;
+    }
 
 -- the blocks are settled with maps in which these nodes hold the state
 abbrev pub IsSettledIn : Schema → Built → List ℕ → List ℕ → List LeafSpec → List (List ℕ) → State

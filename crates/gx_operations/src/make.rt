@@ -2,7 +2,6 @@
 ghost use Rattle.std.specs.Prelude.{◌≡◌, ◌≤◌, List, ℕ, false, Some, None};
 ghost use Rattle.gx_device.specs.Content.{device_at};
 ghost use Rattle.gx_device.specs.Faults.{Rose};
-ghost use Rattle.gx_layout.specs.Layout.{pages_of};
 ghost use Rattle.gx_store.specs.Device.{IsNoneOrEmpty};
 ghost use Rattle.gx_store.specs.Store.{CanAttach, Attaches, KeepsDevice};
 ghost use Rattle.gx_requests.specs.Checked.{IsStored};
@@ -10,7 +9,7 @@ ghost use Rattle.gx_play.specs.Endings.{is_outside};
 ghost use Rattle.gx_operations.specs.Making.{making_ending, IsMaking};
 
 use gx_device::Machine;
-use gx_layout::HEAD_BLOCKS;
+use gx_layout::page_count;
 use gx_play::Ending;
 use gx_requests::{Stored, unopened_ending};
 use gx_store::{Unopened, make};
@@ -63,11 +62,4 @@ fn making_ending<'a>(made: Result<(), Unopened>, blocks: u32) -> Ending<'a>
         Ok(()) => Ending::Made(blocks, page_count(blocks)),
         Err(why) => unopened_ending(why),
     }
-}
-
-// How many pages a device of so many blocks has.
-fn page_count(blocks: u32) -> u32
-    ensures { result ≡ pages_of blocks }
-{
-    blocks.saturating_sub(HEAD_BLOCKS) / 2
 }

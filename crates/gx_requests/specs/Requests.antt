@@ -22,7 +22,7 @@ use Rattle.gx_requests.specs.Words.{Action, checking, working, request_words, Is
 use Rattle.gx_play.specs.Endings.{IsOutside}
 use Rattle.gx_play.specs.Summaries.{summary_of}
 use Rattle.gx_work.specs.Schema.{schema_lines}
-use Rattle.gx_layout.specs.declared.formatting.TheConstants.{MAX_TEXTS_LEN}
+use Rattle.gx_layout.specs.declared.places.TheConstants.{MAX_TEXTS_LEN}
 
 -- the most bytes that a text may have, and that the two canonical texts may have together
 abbrev pub text_limit : ℕ

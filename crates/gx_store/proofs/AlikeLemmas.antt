@@ -1,11 +1,12 @@
 -- Blocks from which the same is read.
-use Rattle.std.proofs.Common.{◌≡◌, ◌∙◌, ℕ, ◌≤◌, Bool, true, false, not, List, [], length, get_or, IsTrue, refl, sym, ap, subst, arith, Result, Ok, Err}
+use Rattle.std.proofs.Common.{◌≡◌, ◌∙◌, ℕ, ◌≤◌, Bool, true, false, not, List, [], length, get_or, IsTrue, refl, sym, ap, subst, Result, Ok, Err}
 use Rattle.std.specs.Prelude.{IfOk, OnOk}
 use Rattle.gx_device.specs.Content.{Content, block_of}
 use Rattle.gx_ports.specs.declared.kinds.LeafSpec.{LeafSpec}
 use Rattle.gx_ports.specs.Heads.{Head}
 use Rattle.gx_ports.specs.LeafMaps.{LeafMap}
-use Rattle.gx_layout.specs.Layout.{OnlyBlocks, pages_of, head_of, is_open}
+use Rattle.gx_layout.specs.Layout.{OnlyBlocks, head_blocks, table_pages, pages_of, head_of, is_open}
+use Rattle.gx_ports.specs.Sheets.{Ground}
 use Rattle.gx_layout.specs.Head.{HasMagic}
 use Rattle.gx_layout.specs.Recovered.{replayed_pages, IsOfRecovery}
 use Rattle.gx_journal.specs.State.{head_told, homes_told}
@@ -22,13 +23,6 @@ use Rattle.gx_store.proofs.SettledLemmas.{home_replayed, homes_are}
 pub alike_itself : (blocks : List (List ℕ)) → ReadAlike blocks blocks
 alike_itself blocks = record { count = refl; head = refl; pages = refl }
 
-pub alike_same : (old new : List (List ℕ)) → new ≡ old → ReadAlike old new
-alike_same old new same =
-    subst (λ (bs : List (List ℕ)). ReadAlike old bs) (sym same) (alike_itself old)
-
-pub alike_then : (old mid new : List (List ℕ)) → ReadAlike old mid → new ≡ mid → ReadAlike old new
-alike_then old mid new is same = subst (λ (bs : List (List ℕ)). ReadAlike old bs) (sym same) is
-
 pub alike_back : (old new : List (List ℕ)) → ReadAlike old new → ReadAlike new old
 alike_back old new is = record { count = sym is.count; head = sym is.head; pages = sym is.pages }
 
@@ -38,9 +32,12 @@ pub reopens_alike : (schema equation : List ℕ) (specs : List LeafSpec) (maps :
     → Reopens schema equation specs maps old → Reopens schema equation specs maps new
 reopens_alike schema equation specs maps old new same is = record {
   size = subst (λ (n : ℕ). IsSize specs n) (sym same.count) is.size;
-  magic = subst (λ (h : List (List ℕ)). HasMagic (get_or h 0 [])) (sym same.head) is.magic;
+  magic = subst (λ (n : ℕ). HasMagic n (get_or new 0 [])) (sym same.count)
+      (subst (λ (h : List (List ℕ)). HasMagic (length old) (get_or h 0 [])) (sym same.head)
+      is.magic);
   texts = subst (λ (h : List (List ℕ)). AreTexts schema equation h) (sym same.head) is.texts;
-  leaves = maps_moved (ground_on old) (ground_on new) (ap pages_of (sym same.count)) refl specs maps
+  leaves = maps_moved (ground_on old) (ground_on new) (ap pages_of (sym same.count))
+      (ap table_pages (sym same.count)) specs maps
       (sheets_of (replayed_pages new))
       (subst (λ (ps : List (List ℕ)). AreMaps (ground_on old) specs maps (sheets_of ps))
       (sym same.pages) is.leaves);
@@ -49,7 +46,7 @@ reopens_alike schema equation specs maps old new same is = record {
 -- recovered blocks read as those that were there
 pub recovered_alike : (tells : Bool) (P : ℕ) (old new : Content) → IsTrue tells
     → length new.now.blocks ≡ length old.now.blocks
-    → 7 ≤ length old.now.blocks
+    → head_blocks (length new.now.blocks) ≤ length new.now.blocks
     → head_told tells new ≡ head_of old.now.blocks → P ≡ pages_of (length new.now.blocks)
     → is_open (block_of new.now 1) ≡ false
     → homes_told tells P new ≡ replayed_pages old.now.blocks
@@ -57,7 +54,7 @@ pub recovered_alike : (tells : Bool) (P : ℕ) (old new : Content) → IsTrue te
 recovered_alike tells P old new told count room head many gate kept = record {
   count = count;
   head = sym (ap (λ (b : Bool). head_told b new) told) ∙ head;
-  pages = sym (home_replayed new.now.blocks (omega (arith, count, room)) gate)
+  pages = sym (home_replayed new.now.blocks room gate)
       ∙ sym (homes_are tells P new told many) ∙ kept;
 }
 
@@ -70,21 +67,15 @@ unwritten_by journal.Fault old new none memory goes = absurd (let f : false ≡ 
 unwritten_by journal.NoMemory old new none memory goes = memory refl
 unwritten_by journal.NoDatabase old new none memory goes = none refl
 
-pub refused_alike : (why : NoJournal) (old new : List (List ℕ))
-    → (why ≡ journal.NoDatabase → new ≡ old)
-    → (why ≡ journal.NoMemory → new ≡ old)
-    → not (is_fault (no_journal why)) ≡ true → ReadAlike old new
-refused_alike why old new none memory goes =
-    alike_same old new (unwritten_by why old new none memory goes)
-
 pub headed : {T E : Type 0} (r : Result T E) (H : T → Head) (schema equation : List ℕ)
     (specs : List LeafSpec) (blocks : List (List ℕ))
-    → OnOk r (AreOpened schema equation specs blocks) → IfOk r (λ s. (H s).blocks ≡ head_of blocks)
+    → OnOk r (AreOpened schema equation specs blocks)
+    → IfOk r (λ s. (H s).base ≡ ground_on blocks)
     → IfOk r (λ s. (H s).leaves ≡ specs)
     → IfOk r (λ s. IsHeadOf schema equation specs (H s))
-headed (Ok s) H schema equation specs blocks opened head leaves = record {
-  magic = subst (λ (h : List (List ℕ)). HasMagic (get_or h 0 [])) (sym head) opened.magic;
-  texts = subst (λ (h : List (List ℕ)). AreTexts schema equation h) (sym head) opened.texts;
+headed (Ok s) H schema equation specs blocks opened base leaves = record {
+  magic = subst (λ (b : Ground). HasMagic b.blocks (get_or b.head 0 [])) (sym base) opened.magic;
+  texts = subst (λ (b : Ground). AreTexts schema equation b.head) (sym base) opened.texts;
   leaves = leaves;
 }
 headed (Err e) H schema equation specs blocks opened head leaves = tt

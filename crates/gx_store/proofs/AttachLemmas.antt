@@ -1,6 +1,5 @@
 -- A device that has been attached, and a refusal to attach one.
-use Rattle.std.proofs.Common.{◌≡◌, ◌∙◌, ℕ, ◌≤◌, true, false, not, List, Some, None, Result, Ok, Err, refl, sym, ap}
-use Rattle.std.specs.Prelude.{IfOk, IfErr}
+use Rattle.std.proofs.Common.{◌≡◌, ◌∙◌, ℕ, ◌≤◌, true, false, not, List, Some, refl, sym, ap}
 use Rattle.std.proofs.lemmas.Option.{same_Some}
 use Rattle.gx_device.specs.Content.{Content, IsOpened, device_at, Silent}
 use Rattle.gx_device.specs.Faults.{Counted, Rose}
@@ -10,16 +9,6 @@ use Rattle.gx_store.specs.Causes.{not_attached}
 use Rattle.gx_store.specs.Store.{is_fault}
 use Rattle.gx_store.proofs.ShelfLemmas.{attached_at}
 
-pub if_err_with : {T E : Type 0} (r : Result T E) (P Q : E → Type 0)
-    → ((y : E) → r ≡ Err y → P y → Q y) → IfErr r P → IfErr r Q
-if_err_with (Ok x) P Q f p = tt
-if_err_with (Err e) P Q f p = f e refl p
-
-pub if_ok_with : {T E : Type 0} (r : Result T E) (Q : T → Type 0) → ((y : T) → r ≡ Ok y → Q y)
-    → IfOk r Q
-if_ok_with (Ok x) Q f = f x refl
-if_ok_with (Err e) Q f = tt
-
 -- the blocks of the device are those that are attached
 pub attached_blocks : (name : List ℕ) (blocks : List (List ℕ)) (old new : Content)
     → device_at old.now name ≡ Some blocks
@@ -28,12 +17,11 @@ attached_blocks name blocks old new was o = same_Some blocks o.blocks (sym was �
     ∙ sym o.attached.blocks_are
 
 -- a device whose blocks were left is as it was
-pub left_alone : (name : List ℕ) (old mid last : Content) → old.now.shelf.name ≡ None
-    → IsOpened name old mid → Silent mid last
+pub left_alone : (name : List ℕ) (old mid last : Content) → IsOpened name old mid → Silent mid last
     → last.now.blocks ≡ mid.now.blocks
     → device_at last.now name ≡ device_at old.now name
-left_alone name old mid last free o silent same =
-    attached_at name o.blocks old mid last free o.attached silent
+left_alone name old mid last o silent same =
+    attached_at name o.blocks old mid last o.attached silent
     ∙ ap (λ (bs : List (List ℕ)). Some bs) (same ∙ o.attached.blocks_are)
     ∙ sym o.was
 

@@ -33,7 +33,7 @@ counted_still a b same = record {
 
 module _ (schema equation : List ℕ) (specs : List LeafSpec) (blocks : List (List ℕ)) where
   pub unread_on : (head : List (List ℕ)) (why : Unopened) → IsSize specs (length blocks)
-      → HasMagic (get_or blocks 0 [])
+      → HasMagic (length blocks) (get_or blocks 0 [])
       → head ≡ head_of blocks
       → AreUnread schema equation head why → AreUnopened schema equation specs blocks why
   unread_on head (unopened.OtherTexts place) size magic same differ = (
@@ -51,7 +51,7 @@ module _ (schema equation : List ℕ) (specs : List LeafSpec) (blocks : List (Li
   unread_on head unopened.NoDatabase size magic same none = absurd none
 
   pub unrecovered : (why : NoJournal) → IsSize specs (length blocks)
-      → (why ≡ journal.NoDatabase → ¬ HasMagic (get_or blocks 0 []))
+      → (why ≡ journal.NoDatabase → ¬ HasMagic (length blocks) (get_or blocks 0 []))
       → AreUnopened schema equation specs blocks (no_journal why)
   unrecovered journal.Fault size none = tt
   unrecovered journal.NoMemory size none = tt
@@ -68,17 +68,6 @@ module _ (schema equation : List ℕ) (specs : List LeafSpec) (blocks : List (Li
   unopened_on name before unopened.Size was are = (blocks, was, are)
   unopened_on name before unopened.NoDatabase was are = (blocks, was, are)
   unopened_on name before (unopened.OtherTexts place) was are = (blocks, was, are)
-
-pub unread_touched : (schema equation : List ℕ) (head : List (List ℕ)) (why : Unopened)
-    → AreUnread schema equation head why
-    → is_untouched why ≡ true → ⊥
-unread_touched schema equation head (unopened.OtherTexts place) is e = cc
-unread_touched schema equation head unopened.Fault is e = cc
-unread_touched schema equation head unopened.NoMemory is e = cc
-unread_touched schema equation head unopened.Missing is e = is
-unread_touched schema equation head unopened.Exists is e = is
-unread_touched schema equation head unopened.Size is e = is
-unread_touched schema equation head unopened.NoDatabase is e = is
 
 pub untouched_by : (why : NoJournal) → is_untouched (no_journal why) ≡ true
     → why ≡ journal.NoDatabase

@@ -7,7 +7,7 @@ use Rattle.gx_ports.specs.declared.kinds.LeafSpec.{LeafSpec}
 use Rattle.gx_ports.specs.declared.pages.Place.{Place}
 use Rattle.gx_ports.specs.LeafMaps.{LeafMap}
 use Rattle.gx_ports.specs.Sheets.{Sheets, Ground}
-use Rattle.gx_layout.specs.Layout.{pages_of, head_of}
+use Rattle.gx_layout.specs.Layout.{head_blocks, table_pages, pages_of, head_of}
 use Rattle.gx_layout.specs.Recovered.{replayed_pages}
 use Rattle.gx_leaves.specs.Places.{places_of}
 use Rattle.gx_leaves.specs.Wholeness.{AreLaid, maps_of}
@@ -73,16 +73,22 @@ pub ground_same : (blocks : List (List ℕ)) (size count : ℕ) (head : List (Li
     → head ≡ head_of blocks
     → ground_on blocks ≡ record {
       size = size;
-      tables = 16;
+      tables = table_pages count;
       blocks = count;
-      first = 7 + size;
+      first = head_blocks count + size;
       head = head;
     }
 ground_same blocks size count head e n h =
     let es = sym e in
     let ns = sym n in
     let hs = sym h in
-    λ i. record { size = es i; tables = 16; blocks = ns i; first = 7 + es i; head = hs i }
+    λ i. record {
+      size = es i;
+      tables = table_pages (ns i);
+      blocks = ns i;
+      first = head_blocks (ns i) + es i;
+      head = hs i;
+    }
 
 -- the maps of blocks as a journal over them has them
 pub maps_opened : (blocks : List (List ℕ)) (specs : List LeafSpec) (maps : List LeafMap)
@@ -90,11 +96,23 @@ pub maps_opened : (blocks : List (List ℕ)) (specs : List LeafSpec) (maps : Lis
     → size ≡ pages_of (length blocks) → count ≡ length blocks → head ≡ head_of blocks
     → pages ≡ replayed_pages blocks
     → AreMaps (ground_on blocks) specs maps (sheets_of (replayed_pages blocks))
-    → AreMaps (record { size = size; tables = 16; blocks = count; first = 7 + size; head = head })
+    → AreMaps (record {
+      size = size;
+      tables = table_pages count;
+      blocks = count;
+      first = head_blocks count + size;
+      head = head;
+    })
     specs maps (sheets_of pages)
 maps_opened blocks specs maps size count head pages es en eh ep are =
     subst (λ (ps : List (List ℕ)). AreMaps
-    (record { size = size; tables = 16; blocks = count; first = 7 + size; head = head }) specs
+    (record {
+      size = size;
+      tables = table_pages count;
+      blocks = count;
+      first = head_blocks count + size;
+      head = head;
+    }) specs
     maps
     (sheets_of ps)) (sym ep)
     (subst (λ (b : Ground). AreMaps b specs maps (sheets_of (replayed_pages blocks)))
@@ -106,7 +124,13 @@ module _ {M : Type 0} {g : device.Ghosts M} where
       let s = keeps.size in
       let n = keeps.blocks in
       let h = keeps.head in
-      λ i. record { size = s i; tables = 16; blocks = n i; first = 7 + s i; head = h i }
+      λ i. record {
+        size = s i;
+        tables = table_pages (n i);
+        blocks = n i;
+        first = head_blocks (n i) + s i;
+        head = h i;
+      }
 
   module _ {v : page_view.Ghosts (Paged M g)} where
     -- what leaves hold that have been made
@@ -143,7 +167,7 @@ module _ {M : Type 0} {g : device.Ghosts M} where
         (grounds s.pages ∙ ap ground_of is ∙ ground_kept j k keeps)
         (works s.pages ∙ ap working_sheets is ∙ ap sheets_of (same ∙ kept))
         (keeps_sheets s.pages ∙ ap kept_sheets is ∙ ap sheets_of keeps.kept)
-        places
+        (places ∙ ap (λ (b : Ground). places_of b specs) (ground_kept j k keeps))
 
     -- and they are as at the last commit
     pub adopted_just : (j k : Journal M g) → Keeps j k → working_of k ≡ working_of j

@@ -9,3 +9,7 @@ pub mod LeftLemmas
 pub mod JournalLemmas
 pub mod AlikeLemmas
 pub mod OpenedLemmas
+pub mod StoredLemmas
+pub mod CrashLemmas
+pub mod NamedLemmas
+pub mod MadeLemmas

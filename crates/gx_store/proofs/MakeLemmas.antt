@@ -79,13 +79,13 @@ unmade_touched specs count unopened.NoDatabase size are so = are
 unmade_touched specs count (unopened.OtherTexts place) size are so = are
 
 -- a block that begins with a zero doesn't begin with the magic
-pub zero_first : (block : List ℕ) → get_or block 0 0 ≡ 0 → ¬ HasMagic block
-zero_first block none is = let first : 71 ≡ 0 = sym (ap (λ (bytes : List ℕ). get_or bytes 0 0) is.1)
+pub zero_first : (size : ℕ) (block : List ℕ) → get_or block 0 0 ≡ 0 → ¬ HasMagic size block
+zero_first size block none is = let first : 71 ≡ 0 = sym (ap (λ (bytes : List ℕ). get_or bytes 0 0) is.1)
     ∙ none in absurd (omega (arith, first))
 
 -- so no block of a device that was made has it
-pub none_made : (n : ℕ) → ¬ HasMagic (get_or (zero_blocks n) 0 [])
-none_made n = zero_first (get_or (zero_blocks n) 0 []) (first n)
+pub none_made : (size n : ℕ) → ¬ HasMagic size (get_or (zero_blocks n) 0 [])
+none_made size n = zero_first size (get_or (zero_blocks n) 0 []) (first n)
   where
     first : (k : ℕ) → get_or (get_or (zero_blocks k) 0 []) 0 0 ≡ 0
     first zero = refl

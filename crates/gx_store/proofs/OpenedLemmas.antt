@@ -1,23 +1,36 @@
 -- What leaves that were opened leave on their device where they are only read.
-use Rattle.std.proofs.Common.{◌≡◌, ◌∙◌, ◌≤◌, ℕ, Bool, List, [], length, get_or, IsTrue, sym, ap, subst, arith}
+use Rattle.std.proofs.Common.{◌≡◌, ◌∙◌, ◌≤◌, ℕ, Bool, false, List, [], length, get_or, IsTrue, Result, Ok, Err, refl, sym, ap, subst, arith}
+use Rattle.std.specs.Prelude.{IfOk, IfErr, OnOk}
 use Rattle.gx_device.specs.declared.device.Device as device
+use Rattle.gx_device.specs.Content.{Content, NonePending, block_of}
+use Rattle.gx_device.specs.Crash.{EachImage}
 use Rattle.gx_ports.specs.declared.page_view.PageView as page_view
 use Rattle.gx_ports.specs.declared.kinds.LeafSpec.{LeafSpec}
 use Rattle.gx_ports.specs.Heads.{Head}
 use Rattle.gx_ports.specs.LeafMaps.{LeafMap}
 use Rattle.gx_ports.specs.Sheets.{Sheets, Ground}
-use Rattle.gx_layout.specs.Layout.{pages_of}
+use Rattle.gx_layout.specs.Layout.{bitmap_blocks, head_blocks, is_open, pages_of}
 use Rattle.gx_layout.specs.Head.{HasMagic}
+use Rattle.gx_layout.specs.Recovered.{IsUnwritten}
 use Rattle.gx_journal.specs.State.{head_told}
 use Rattle.gx_journal.specs.declared.journal.Journal.{Journal}
-use Rattle.gx_journal.specs.Journal.{IsSteady, content_of, size_of}
+use Rattle.gx_journal.specs.declared.opening.Unopened.{Unopened as NoJournal}
+use Rattle.gx_journal.specs.declared.opening.Unopened.TheVariants as journal
+use Rattle.gx_journal.specs.Journal.{IsCalm, IsSteady, content_of, size_of}
 use Rattle.gx_pages.specs.declared.paged.Paged.{Paged}
 use Rattle.gx_pages.specs.Paged.{ground_of, kept_sheets}
+use Rattle.gx_pages.specs.View.{journal_of}
 use Rattle.gx_leaves.specs.declared.paged.PagedLeaves.{PagedLeaves}
-use Rattle.gx_leaves.specs.Paged.{places_in, working_of, kept_of, head_of, IsWhole, WasWhole}
+use Rattle.gx_leaves.specs.Paged.{pages_of as pages_in, places_in, working_of, kept_of, head_of, IsWhole, WasWhole}
 use Rattle.gx_leaves.specs.Places.{specs_of}
-use Rattle.gx_store.specs.Device.{AreTexts, IsHeadOf, IsSettled, ReadAlike}
-use Rattle.gx_store.specs.Store.{IsJustOpened}
+use Rattle.gx_store.specs.Causes.{no_journal}
+use Rattle.gx_store.specs.Device.{AreTexts, IsHeadOf, IsSettled, ReadAlike, ground_on}
+use Rattle.gx_store.specs.Crashes.{IsReplayed, IsLeftBy}
+use Rattle.gx_store.specs.Opened.{IsStoreOn}
+use Rattle.gx_store.specs.Opening.{AreOpened, AreUnread}
+use Rattle.gx_store.specs.Store.{IsJustOpened, machine_of, machine_left}
+use Rattle.gx_store.specs.declared.unopened.Unopened.{Unopened}
+use Rattle.gx_store.specs.declared.unopened.Unopened.TheVariants as unopened
 use Rattle.gx_store.proofs.AlikeLemmas.{recovered_alike}
 use Rattle.gx_store.proofs.SettledLemmas.{home_replayed, homes_are}
 
@@ -40,8 +53,9 @@ module _ {M : Type 0} {g : device.Ghosts M} where
         (subst (λ (ms : List LeafMap). IsSettled schema equation (specs_of (places_in new)) ms
         blocks) (kept ∙ just.kept_is)
         (closed (record {
-          magic = subst (λ (h : Head). HasMagic (get_or h.blocks 0 [])) (sym same) head.magic;
-          texts = subst (λ (h : Head). AreTexts schema equation h.blocks) (sym same) head.texts;
+          magic = subst (λ (h : Head). HasMagic h.base.blocks (get_or h.base.head 0 [])) (sym same)
+              head.magic;
+          texts = subst (λ (h : Head). AreTexts schema equation h.base.head) (sym same) head.texts;
           leaves = λ i. specs_of (places_in new);
         }) (still (just.was_whole whole))))
 
@@ -57,11 +71,69 @@ module _ {M : Type 0} {g : device.Ghosts M} where
       let blocks = (content_of old).now.blocks in
       let room = old.room in
       let size = ap (λ (b : Ground). b.blocks) ground in
-      let seven : 7 ≤ length blocks = omega (arith, room, before) in
+      let fits : head_blocks (length blocks) ≤ length blocks =
+      omega (arith, room, before, ap bitmap_blocks before) in
+      let still = new.room in
       recovered_alike g.tells (size_of new) (content_of old) (content_of new) told (sym after ∙ size
-      ∙ before) seven
+      ∙ before) (omega (arith, still, after, ap bitmap_blocks after))
       (ap (λ (b : Ground). b.head) ground ∙ ap (λ (b : Bool). head_told b (content_of old)) told)
       (new.count ∙ ap pages_of after) (new.closed told steady_new)
       (ap (λ (s : Sheets). s.bytes) sheets
       ∙ homes_are g.tells (size_of old) (content_of old) told (old.count ∙ ap pages_of before)
-      ∙ home_replayed blocks seven (old.closed told steady_old))
+      ∙ home_replayed blocks fits (old.closed told steady_old))
+
+module _ {M : Type 0} {g : device.Ghosts M} {v : page_view.Ghosts (Paged M g)} (schema equation : List ℕ)
+    (specs : List LeafSpec) (old : Content) where
+  -- what leaves have that were opened, fact by fact
+  pub opened_all : (r : Result (PagedLeaves (Paged M g) v) (M × Unopened))
+      → IfOk r (λ s. IsJustOpened s)
+      → OnOk r (AreOpened schema equation specs old.now.blocks)
+      → IfOk r (λ s. IsHeadOf schema equation specs (head_of s))
+      → IfOk r (λ s. ground_of (journal_of (pages_in s)) ≡ ground_on old.now.blocks)
+      → IfOk r (λ s. IsWhole s
+      → IsSettled schema equation specs (working_of s) (g.content (machine_of s)).now.blocks)
+      → IfOk r (λ s. IsCalm (journal_of (pages_in s)) (content_of (journal_of (pages_in s))))
+      → EachImage (IsReplayed old.now) (g.content (machine_left r)).now
+      → NonePending (g.content (machine_left r))
+      → IfOk r (λ s. IsStoreOn schema equation specs old s)
+  opened_all (Ok s) just opened head ground settled calm replayed none = record {
+    just_opened = just;
+    opened = opened;
+    head = head;
+    ground = ground;
+    settled = settled;
+    calm = calm;
+    replayed = replayed;
+    none_pending = none;
+  }
+  opened_all (Err e) just opened head ground settled calm replayed none = tt
+
+  -- and a refusal after recovery was carried through
+  pub left_all : (r : Result (PagedLeaves (Paged M g) v) (M × Unopened)) (head : List (List ℕ))
+      → IfErr r (λ e. AreUnread schema equation head e.1)
+      → is_open (block_of (g.content (machine_left r)).now 1) ≡ false
+      → NonePending (g.content (machine_left r))
+      → EachImage (IsReplayed old.now) (g.content (machine_left r)).now
+      → IfErr r (λ e. IsLeftBy old (g.content e.0) e.1)
+  left_all (Ok s) head unread gate none replayed = tt
+  left_all (Err e) head unread gate none replayed =
+      left_why (g.content e.0) e.1 head unread gate none replayed
+    where
+      left_why : (new : Content) (why : Unopened) (head : List (List ℕ))
+          → AreUnread schema equation head why → is_open (block_of new.now 1) ≡ false
+          → NonePending new → EachImage (IsReplayed old.now) new.now → IsLeftBy old new why
+      left_why new (unopened.OtherTexts place) head is gate none replayed = (gate, none, replayed)
+      left_why new unopened.Fault head is gate none replayed = tt
+      left_why new unopened.NoMemory head is gate none replayed = tt
+      left_why new unopened.Missing head is gate none replayed = tt
+      left_why new unopened.Exists head is gate none replayed = tt
+      left_why new unopened.Size head is gate none replayed = absurd is
+      left_why new unopened.NoDatabase head is gate none replayed = absurd is
+
+-- a journal that wasn't opened
+pub unjournaled : (old new : Content) (why : NoJournal)
+    → (why ≡ journal.NoDatabase → IsUnwritten old new × NonePending new)
+    → IsLeftBy old new (no_journal why)
+unjournaled old new journal.Fault none = tt
+unjournaled old new journal.NoMemory none = tt
+unjournaled old new journal.NoDatabase none = none refl

@@ -7,16 +7,18 @@ use Rattle.gx_ports.specs.declared.kinds.LeafSpec.{LeafSpec}
 use Rattle.gx_ports.specs.LeafMaps.{LeafMap}
 use Rattle.gx_ports.specs.Roots.{root_pages}
 use Rattle.gx_ports.specs.Sheets.{Ground}
-use Rattle.gx_layout.specs.Layout.{pages_of, head_of, is_open, replayed}
+use Rattle.gx_layout.specs.Layout.{first_text, head_blocks, table_pages, pages_of, head_of, home, is_open, replayed}
+use Rattle.gx_layout.specs.PlaceLaws.{one_bitmap}
 use Rattle.gx_layout.specs.PhaseLaws.{shut}
 use Rattle.gx_layout.specs.Recovered.{replayed_pages}
 use Rattle.gx_layout.specs.Head.{HasMagic, text_at, text_area, text_blocks, block_in}
 use Rattle.gx_layout.proofs.ReplayLemmas.{length-replayed, homes_long}
 use Rattle.gx_layout.proofs.TextLemmas.{more_same}
 use Rattle.gx_journal.specs.State.{homes_told, head_told}
+use Rattle.gx_journal.specs.Opening.{IsDeviceSize}
 use Rattle.gx_pages.specs.Owners.{sheets_of}
-use Rattle.gx_store.specs.Device.{AreMaps, AreTexts, IsDatabase, IsSettled, Reopens, home_pages, ground_on}
-use Rattle.gx_layout.specs.declared.formatting.TheConstants.{MAX_BLOCKS}
+use Rattle.gx_store.specs.Device.{IsSize, AreMaps, AreTexts, IsDatabase, IsSettled, Reopens, home_pages, ground_on}
+use Rattle.gx_layout.specs.declared.places.TheConstants.{MAX_BLOCKS}
 use Rattle.gx_store.proofs.GroundLemmas.{maps_moved}
 
 -- the text blocks of a device, byte by byte
@@ -26,35 +28,53 @@ pub texts_read : (c : Content) (schema equation : List ℕ)
 texts_read c schema equation is =
     let area = text_area schema equation in
     let m = c.now in
-    let e0 : block_of m 3 ≡ block_in area 0 = ap (λ (l : List (List ℕ)). get_or l 0 []) is in
-    let e1 : block_of m 4 ≡ block_in area 1 = ap (λ (l : List (List ℕ)). get_or l 1 []) is in
-    let e2 : block_of m 5 ≡ block_in area 2 = ap (λ (l : List (List ℕ)). get_or l 2 []) is in
-    let e3 : block_of m 6 ≡ block_in area 3 = ap (λ (l : List (List ℕ)). get_or l 3 []) is in
+    let f = first_text (length m.blocks) in
+    let e0 : block_of m f ≡ block_in area 0 = ap (λ (l : List (List ℕ)). get_or l 0 []) is in
+    let e1 : block_of m (f + 1) ≡ block_in area 1 = ap (λ (l : List (List ℕ)). get_or l 1 []) is in
+    let e2 : block_of m (f + 2) ≡ block_in area 2 = ap (λ (l : List (List ℕ)). get_or l 2 []) is in
+    let e3 : block_of m (f + 3) ≡ block_in area 3 = ap (λ (l : List (List ℕ)). get_or l 3 []) is in
     let none : (q : ℕ) → q < 4096 * 0 → text_at (head_of m.blocks) q ≡ get_or area q 0 =
     λ q low. absurd (omega (arith, low)) in
-    let t0 = more_same m area 0 (omega arith) (block_of m 3) (block_in area 0) refl refl none
+    let here : block_of m f ≡ block_of m (f + 0) = ap (λ (n : ℕ). block_of m n) (omega arith) in
+    let t0 = more_same m area 0 (omega arith) (block_of m f) (block_in area 0) here refl none
     (λ k lt. ap (λ (l : List ℕ). get_or l k 0) e0) in
-    let t1 = more_same m area 1 (omega arith) (block_of m 4) (block_in area 1) refl refl t0
+    let t1 = more_same m area 1 (omega arith) (block_of m (f + 1)) (block_in area 1) refl refl t0
     (λ k lt. ap (λ (l : List ℕ). get_or l k 0) e1) in
-    let t2 = more_same m area 2 (omega arith) (block_of m 5) (block_in area 2) refl refl t1
+    let t2 = more_same m area 2 (omega arith) (block_of m (f + 2)) (block_in area 2) refl refl t1
     (λ k lt. ap (λ (l : List ℕ). get_or l k 0) e2) in
-    more_same m area 3 (omega arith) (block_of m 6) (block_in area 3) refl refl t2
+    more_same m area 3 (omega arith) (block_of m (f + 3)) (block_in area 3) refl refl t2
     (λ k lt. ap (λ (l : List ℕ). get_or l k 0) e3)
 
 -- behind a closed gate the pages are those at home
-pub home_replayed : (blocks : List (List ℕ)) → 7 ≤ length blocks
+pub home_replayed : (blocks : List (List ℕ)) → head_blocks (length blocks) ≤ length blocks
     → is_open (get_or blocks 1 []) ≡ false
     → home_pages blocks ≡ replayed_pages blocks
 home_replayed blocks room gate =
     let P = pages_of (length blocks) in
+    let base = home (length blocks) P 0 in
     let homes = home_pages blocks in
     let long : length homes ≡ P = homes_long P blocks (omega (arith, room)) in
     same_lists homes (replayed_pages blocks) (long ∙ sym (length-replayed blocks)) (λ k d lt.
     let under : k < P = omega (arith, long, lt) in
-    get_or-take P (drop (7 + P) blocks) k d under ∙ get_or-drop (7 + P) blocks k d
-    ∙ get_or_default blocks (7 + P + k) d [] (omega (arith, under, room))
+    get_or-take P (drop base blocks) k d under ∙ get_or-drop base blocks k d
+    ∙ get_or_default blocks (base + k) d [] (omega (arith, under, room))
+    ∙ ap (λ (n : ℕ). get_or blocks n []) (omega arith)
     ∙ sym (shut P blocks k gate)
     ∙ sym (get_or-map-range_with_len (replayed P blocks) 0 P k k d under (omega arith)))
+
+-- a device with room for leaves has room for the blocks before its pages
+pub fits_head : (specs : List LeafSpec) (size : ℕ) → IsSize specs size → head_blocks size ≤ size
+fits_head specs size is =
+    let least = is.least in
+    let one = one_bitmap size is.most in
+    let none = one_bitmap 0 (omega arith) in
+    omega (arith, least, one, none)
+
+pub sized_device : (specs : List LeafSpec) (size : ℕ) → IsSize specs size → IsDeviceSize size
+sized_device specs size is =
+    let least = is.least in
+    let none = one_bitmap 0 (omega arith) in
+    record { least = omega (arith, least, none); most = is.most }
 
 -- so a device that is settled is opened with the same maps
 pub settled_reopens : (schema equation : List ℕ) (specs : List LeafSpec) (maps : List LeafMap)
@@ -62,7 +82,7 @@ pub settled_reopens : (schema equation : List ℕ) (specs : List LeafSpec) (maps
     → IsSettled schema equation specs maps blocks → Reopens schema equation specs maps blocks
 settled_reopens schema equation specs maps blocks is =
     subst (λ (pages : List (List ℕ)). IsDatabase schema equation specs maps blocks pages)
-    (home_replayed blocks (let least = is.database.size.least in omega (arith, least)) is.gate)
+    (home_replayed blocks (fits_head specs (length blocks) is.database.size) is.gate)
     is.database
 
 -- the kept pages are those at home
@@ -70,7 +90,23 @@ pub homes_are : (tells : Bool) (P : ℕ) (c : Content) → IsTrue tells
     → P ≡ pages_of (length c.now.blocks)
     → homes_told tells P c ≡ home_pages c.now.blocks
 homes_are tells P c told many = ap (λ (b : Bool). homes_told b P c) told
-    ∙ ap (λ (n : ℕ). take n (drop (7 + n) c.now.blocks)) many
+    ∙ ap (λ (n : ℕ). take n (drop (home (length c.now.blocks) n 0) c.now.blocks)) many
+
+-- where there is room for leaves among the pages
+pub sized_for : (specs : List LeafSpec) (P size : ℕ) → size ≤ MAX_BLOCKS
+    → table_pages size + root_pages specs ≤ P → P ≡ pages_of size → IsSize specs size
+sized_for specs P size most least many =
+    let one = one_bitmap size most in
+    let none = one_bitmap 0 (omega arith) in
+    record { least = omega (arith, least, many, one, none); most = most }
+
+pub rooms : (specs : List LeafSpec) (size P : ℕ) → IsSize specs size → P ≡ pages_of size
+    → table_pages size + root_pages specs ≤ P
+rooms specs size P is many =
+    let least = is.least in
+    let one = one_bitmap size is.most in
+    let none = one_bitmap 0 (omega arith) in
+    omega (arith, least, many, one, none)
 
 -- Behind a closed gate the blocks hold what the kept pages hold.
 pub closed_settled : (schema equation : List ℕ) (specs : List LeafSpec) (maps : List LeafMap)
@@ -78,9 +114,10 @@ pub closed_settled : (schema equation : List ℕ) (specs : List LeafSpec) (maps 
     → IsTrue tells
     → P ≡ pages_of (length c.now.blocks) → is_open (block_of c.now 1) ≡ false
     → length c.now.blocks ≤ MAX_BLOCKS
-    → 16 + root_pages specs ≤ P
-    → HasMagic (get_or (head_told tells c) 0 []) → AreTexts schema equation (head_told tells c)
-    → (base : Ground) → base.size ≡ P → base.tables ≡ 16
+    → table_pages (length c.now.blocks) + root_pages specs ≤ P
+    → HasMagic (length c.now.blocks) (get_or (head_told tells c) 0 []) → AreTexts schema equation (head_told tells c)
+    → (base : Ground) → base.size ≡ P
+    → base.tables ≡ table_pages (length c.now.blocks)
     → AreMaps base specs maps (sheets_of (homes_told tells P c))
     → IsSettled schema equation specs maps c.now.blocks
 closed_settled schema equation specs maps tells P c told many gate most least magic texts base size
@@ -89,8 +126,8 @@ closed_settled schema equation specs maps tells P c told many gate most least ma
     record {
       gate = gate;
       database = record {
-        size = record { least = omega (arith, least, many); most = most };
-        magic = subst (λ (h : List (List ℕ)). HasMagic (get_or h 0 [])) head magic;
+        size = sized_for specs P (length c.now.blocks) most least many;
+        magic = subst (λ (h : List (List ℕ)). HasMagic (length c.now.blocks) (get_or h 0 [])) head magic;
         texts = subst (λ (h : List (List ℕ)). AreTexts schema equation h) head texts;
         leaves = maps_moved base (ground_on c.now.blocks) (size ∙ many) tables specs maps
             (sheets_of (home_pages c.now.blocks))

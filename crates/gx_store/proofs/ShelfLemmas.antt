@@ -1,10 +1,10 @@
 -- The device of a name, and the others, while one is attached.
-use Rattle.std.proofs.Common.{◌≡◌, ◌≢◌, ◌∙◌, ℕ, Bool, false, List, Some, None, cond, refl, sym, ap}
+use Rattle.std.proofs.Common.{◌≡◌, ◌≢◌, ◌∙◌, inl, inr, ℕ, Bool, false, List, Some, None, cond, refl, ap}
 use Rattle.std.specs.FinMap as fin
 use Rattle.std.specs.Ordering.{eq_by_cmp}
 use Rattle.std.specs.Cmp.Lexicographic.{nat_list_cmp_total}
 use Rattle.std.proofs.lemmas.Bool.{false_from_ne_true}
-use Rattle.gx_device.specs.Content.{Moment, Content, Shelf, Devices, Silent, SameContent, IsAttached, device_at, with_named}
+use Rattle.gx_device.specs.Content.{Moment, Content, Shelf, Devices, Silent, SameContent, IsAttached, MayAttach, device_at, devices_of, is_pending, with_named}
 use Rattle.gx_ports.specs.Keyed.{key_cmp}
 use Rattle.gx_ports.proofs.KeyLemmas.{same_key, tied}
 use Rattle.gx_store.specs.Store.{Attaches}
@@ -32,7 +32,7 @@ named_at m name named =
     ∙ fin.get-insert nat_list_cmp_total m.shelf.devices name m.blocks name
     ∙ ap (λ (b : Bool). cond b (Some m.blocks) (fin.get m.shelf.devices name)) (tied name)
 
-module _ (name : List ℕ) (blocks : List (List ℕ)) (a b c : Content) (free : a.now.shelf.name ≡ None)
+module _ (name : List ℕ) (blocks : List (List ℕ)) (a b c : Content)
     (at : IsAttached name blocks a b)
     (silent : Silent b c) where
   pub attached_named : c.now.shelf.name ≡ Some name
@@ -50,8 +50,7 @@ module _ (name : List ℕ) (blocks : List (List ℕ)) (a b c : Content) (free : 
         ap (λ n. fin.get (with_named n c.now.blocks c.now.shelf.devices) other) attached_named
         ∙ ap (λ (d : Devices). fin.get (with_named (Some name) c.now.blocks d) other)
         (ap (λ (s : Shelf). s.devices) silent.shelf ∙ at.others)
-        ∙ other_named a.now.shelf.devices name c.now.blocks other differ
-        ∙ ap (λ n. fin.get (with_named n a.now.blocks a.now.shelf.devices) other) (sym free);
+        ∙ other_named (devices_of a.now) name c.now.blocks other differ;
   }
 
 -- where none was attached all is as it was
@@ -62,3 +61,9 @@ refused_rest name a b same = record {
   aside = same.aside;
   others = λ other differ. ap (λ (m : Moment). device_at m other) same.now;
 }
+
+-- whether a device may be attached is told by what stands now
+pub may_still : (old new : Content) → new.now ≡ old.now → MayAttach old → MayAttach new
+may_still old new same (inl free) = inl (ap (λ (m : Moment). m.shelf.name) same ∙ free)
+may_still old new same (inr none) =
+    inr (λ n. ap (λ (m : Moment). is_pending m n) same ∙ none n)

@@ -6,18 +6,18 @@ use Rattle.gx_ports.specs.LeafMaps.{LeafMap}
 use Rattle.gx_ports.specs.Heads.{Head}
 use Rattle.gx_ports.specs.Roots.{root_pages}
 use Rattle.gx_ports.specs.Sheets.{Sheets, Ground}
-use Rattle.gx_layout.specs.Layout.{pages_of, head_of, is_open}
+use Rattle.gx_layout.specs.Layout.{head_blocks, table_pages, pages_of, head_of, home, is_open}
 use Rattle.gx_layout.specs.Recovered.{replayed_pages}
 use Rattle.gx_layout.specs.Head.{HasMagic, text_at, text_area}
-use Rattle.gx_layout.specs.declared.formatting.TheConstants.{HEAD_BLOCKS, TEXT_AREA_LEN, MAX_BLOCKS}
+use Rattle.gx_layout.specs.declared.places.TheConstants.{TEXT_AREA_LEN, MAX_BLOCKS}
 use Rattle.gx_pages.specs.Owners.{sheets_of}
 use Rattle.gx_leaves.specs.Places.{places_of}
 use Rattle.gx_leaves.specs.Wholeness.{AreLaid, maps_of}
-use Rattle.gx_ports.specs.declared.pages.TheConstants.{TABLE_PAGES}
 
--- the blocks before the pages, and two for each page of the table of owners and for each root page
+-- of the smallest devices: the blocks before the pages, and two for each page of the table of owners
+-- and for each root page
 abbrev pub smallest_device : List LeafSpec → ℕ
-smallest_device specs = HEAD_BLOCKS + 2 * (TABLE_PAGES + root_pages specs)
+smallest_device specs = head_blocks 0 + 2 * (table_pages 0 + root_pages specs)
 
 -- there is room for such leaves, and no more than a device may have
 pub record IsSize (specs : List LeafSpec) (blocks : ℕ) : Type 0 where
@@ -29,9 +29,9 @@ abbrev pub ground_on : List (List ℕ) → Ground
 ground_on blocks =
     record {
       size = pages_of (length blocks);
-      tables = TABLE_PAGES;
+      tables = table_pages (length blocks);
       blocks = length blocks;
-      first = HEAD_BLOCKS + pages_of (length blocks);
+      first = head_blocks (length blocks) + pages_of (length blocks);
       head = head_of blocks;
     }
 
@@ -46,8 +46,8 @@ HasTexts schema equation blocks = AreTexts schema equation (head_of blocks)
 
 -- a head has the magic and these texts, and leaves of these kinds
 pub record IsHeadOf (schema equation : List ℕ) (specs : List LeafSpec) (head : Head) : Type 0 where
-  pub magic : HasMagic (get_or head.blocks 0 [])
-  pub texts : AreTexts schema equation head.blocks
+  pub magic : HasMagic head.base.blocks (get_or head.base.head 0 [])
+  pub texts : AreTexts schema equation head.base.head
   pub leaves : head.leaves ≡ specs
 
 -- the table of owners is whole, and so is each leaf of these kinds; these are their maps
@@ -61,14 +61,14 @@ pub record AreMaps (base : Ground) (specs : List LeafSpec) (maps : List LeafMap)
 pub record IsDatabase (schema equation : List ℕ) (specs : List LeafSpec) (maps : List LeafMap)
     (blocks pages : List (List ℕ)) : Type 0 where
   pub size : IsSize specs (length blocks)
-  pub magic : HasMagic (get_or blocks 0 [])
+  pub magic : HasMagic (length blocks) (get_or blocks 0 [])
   pub texts : HasTexts schema equation blocks
   pub leaves : AreMaps (ground_on blocks) specs maps (sheets_of pages)
 
 -- the pages in their home blocks
 abbrev pub home_pages : List (List ℕ) → List (List ℕ)
 home_pages blocks =
-    take (pages_of (length blocks)) (drop (HEAD_BLOCKS + pages_of (length blocks)) blocks)
+    take (pages_of (length blocks)) (drop (home (length blocks) (pages_of (length blocks)) 0) blocks)
 
 -- The device holds these maps, and its gate is closed.
 pub record IsSettled (schema equation : List ℕ) (specs : List LeafSpec) (maps : List LeafMap)
@@ -91,7 +91,7 @@ pub record ReadAlike (old new : List (List ℕ)) : Type 0 where
 
 -- Where the blocks have the magic, they are opened with an empty database.
 abbrev pub IsNoneOrEmpty : List ℕ → List ℕ → List LeafSpec → List (List ℕ) → Type 0
-IsNoneOrEmpty schema equation specs blocks = HasMagic (get_or blocks 0 [])
+IsNoneOrEmpty schema equation specs blocks = HasMagic (length blocks) (get_or blocks 0 [])
     → Reopens schema equation specs (replicate (length specs) empty) blocks
 
 -- An empty database was made on a device of so many blocks.

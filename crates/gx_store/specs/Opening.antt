@@ -14,22 +14,22 @@ use Rattle.gx_store.specs.declared.unopened.Unopened.TheVariants as unopened
 pub record AreOpened (schema equation : List ℕ) (specs : List LeafSpec)
     (blocks : List (List ℕ)) : Type 0 where
   pub size : IsSize specs (length blocks)
-  pub magic : HasMagic (get_or blocks 0 [])
+  pub magic : HasMagic (length blocks) (get_or blocks 0 [])
   pub texts : HasTexts schema equation blocks
 
 -- the blocks have the size of a database with such leaves, and the magic
 pub record HaveDatabase (specs : List LeafSpec) (blocks : List (List ℕ)) : Type 0 where
   pub size : IsSize specs (length blocks)
-  pub magic : HasMagic (get_or blocks 0 [])
+  pub magic : HasMagic (length blocks) (get_or blocks 0 [])
 
 -- Why such blocks aren't opened. The place is the first one at which the bytes of the text blocks
 -- are others.
 abbrev pub AreUnopened : List ℕ → List ℕ → List LeafSpec → List (List ℕ) → Unopened → Type 0
 AreUnopened schema equation specs blocks unopened.Size = ¬ IsSize specs (length blocks)
 AreUnopened schema equation specs blocks unopened.NoDatabase =
-    IsSize specs (length blocks) × ¬ HasMagic (get_or blocks 0 [])
+    IsSize specs (length blocks) × ¬ HasMagic (length blocks) (get_or blocks 0 [])
 AreUnopened schema equation specs blocks (unopened.OtherTexts place) =
-    IsSize specs (length blocks) × HasMagic (get_or blocks 0 [])
+    IsSize specs (length blocks) × HasMagic (length blocks) (get_or blocks 0 [])
     × DifferFirst (text_at (head_of blocks)) (λ q. slice_index_or (text_area schema equation) q 0)
     (Some place)
 AreUnopened schema equation specs blocks unopened.Fault = Unit {0}

@@ -1,7 +1,7 @@
 -- Leaves on a named device of a machine, as contracts see them.
-use Rattle.std.specs.Prelude.{◌≡◌, ◌≢◌, ℕ, Bool, true, false, not, List, Some, None, Result, Ok, Err, IsTrue}
+use Rattle.std.specs.Prelude.{◌≡◌, ◌≢◌, ℕ, Bool, true, false, not, List, Some, Result, Ok, Err, IsTrue}
 use Rattle.gx_device.specs.declared.device.Device as device
-use Rattle.gx_device.specs.Content.{Content, device_at}
+use Rattle.gx_device.specs.Content.{Content, MayAttach, device_at}
 use Rattle.gx_ports.specs.declared.page_view.PageView as page_view
 use Rattle.gx_ports.specs.LeafMaps.{LeafMap}
 use Rattle.gx_journal.specs.Journal.{device_of}
@@ -12,10 +12,10 @@ use Rattle.gx_leaves.specs.Paged.{pages_of, working_of, kept_of, IsWhole, WasWho
 use Rattle.gx_store.specs.declared.unopened.Unopened.{Unopened}
 use Rattle.gx_store.specs.declared.unopened.Unopened.TheVariants as unopened
 
--- the machine tells its content, and no device is attached
+-- the machine tells its content, and a device may be attached
 pub record CanAttach (tells : Bool) (c : Content) : Type 0 where
   pub told : IsTrue tells
-  pub free : c.now.shelf.name ≡ None
+  pub may : MayAttach c
 
 -- all but the device of that name is as it was
 pub record Attaches (name : List ℕ) (old new : Content) : Type 0 where

@@ -1,11 +1,13 @@
 //! The leaves of a database on a named device of a machine: made, opened and closed.
 #![tactic(auto)]
 
+mod laws;
 mod making;
 mod opening;
 mod store;
 mod unopened;
 
+pub use laws::{reopens_alike, stored_reopens};
 pub use making::make;
 pub use opening::{open, open_attached};
 pub use store::{FRAMES, Store, close, smallest_device};

@@ -1,21 +1,24 @@
 // A database's leaves are made.
-ghost use Rattle.std.specs.Prelude.{◌≡◌, ◌↔◌, ◌+◌, ◌≤◌, ℕ, List, [], Some, None, true, drop, length, slice_index_or, replicate, IsTrue, IfOk, IfErr, OnOk};
+ghost use Rattle.std.specs.Prelude.{◌≡◌, ◌+◌, ◌≤◌, ℕ, List, [], drop, length, slice_index_or, replicate, IsTrue, IfOk, IfErr, OnOk};
 ghost use Rattle.std.specs.FinMap.{empty};
-ghost use Rattle.gx_device.specs.Content.{device_at, block_of, Silent};
+ghost use Rattle.gx_device.specs.Content.{block_of, NonePending, Silent};
+ghost use Rattle.gx_device.specs.Crash.{LeavesOnly};
 ghost use Rattle.gx_device.specs.Faults.{Counted};
 ghost use Rattle.gx_layout.specs.Head.{HasMagic, text_blocks};
-ghost use Rattle.gx_layout.specs.declared.formatting.TheConstants.{MAX_TEXTS_LEN};
+ghost use Rattle.gx_layout.specs.Besides.{IsUnsealed};
+ghost use Rattle.gx_layout.specs.Recovered.{view_now};
+ghost use Rattle.gx_layout.specs.declared.places.TheConstants.{MAX_TEXTS_LEN};
 ghost use Rattle.gx_leaves.specs.Kinds.{are_built};
 ghost use Rattle.gx_leaves.specs.Places.{IsRoomFor};
-ghost use Rattle.gx_journal.specs.Journal.{IsSteady, device_of, content_of, working_of, kept_of, head_blocks};
-ghost use Rattle.gx_journal.specs.State.{head_told};
+ghost use Rattle.gx_journal.specs.Journal.{IsCalm, IsSteady, device_of, content_of, working_of, kept_of, kept_head};
 ghost use Rattle.gx_pages.specs.Owners.{IsAllFree};
 ghost use Rattle.gx_pages.specs.Paged.{ground_of, working_sheets};
 ghost use Rattle.gx_pages.specs.View.{journal_of};
-ghost use Rattle.gx_store.specs.Device.{IsSize, AreMaps, IsSettled, IsMadeOn, IsNoneOrEmpty};
-ghost use Rattle.gx_store.specs.Store.{CanAttach, Attaches, KeepsDevice, OfBlocks};
-ghost use Rattle.gx_store.specs.Opening.{is_untouched};
-ghost use Rattle.gx_store.specs.Making.{IsUnmade, IsUnmadeOn, IsUnlaid, Publishes, not_laid, has_no_fault, machine_below, is_laid};
+ghost use Rattle.gx_store.specs.Device.{IsSize, AreMaps, IsSettled, IsMadeOn};
+ghost use Rattle.gx_store.specs.Store.{CanAttach, Attaches};
+ghost use Rattle.gx_store.specs.Crashes.{HasNoMagic, IsNewImage};
+ghost use Rattle.gx_store.specs.Making.{IsUnmade, IsUnmadeOn, IsUnlaid, IsMadeOver, IsMadeBy, IsSealed, LeavesMaking, Publishes, not_laid, has_no_fault, machine_below, is_laid};
+ghost use Rattle.gx_ports.specs.LeafMaps.{LeafMap};
 ghost use Rattle.gx_ports.specs.declared.kinds.TheConstants.{MAX_LEAVES};
 
 use crate::store::{FRAMES, is_size};
@@ -29,7 +32,7 @@ use std::alloc::Global;
 
 /// Makes a device of that name with so many blocks, and an empty database on it under these two
 /// canonical texts. The specs are those of the texts. The magic is written last. After Ok the
-/// device is attached.
+/// device is attached, and nothing is pending on it.
 ///
 /// Otherwise, in this order: `Size` of the number, `Exists`; then no device is made or changed.
 /// `Fault`: the count of faults rose; with every other answer it stays. `NoMemory`: there was none.
@@ -49,27 +52,14 @@ pub fn make<M: Machine + Drop>(
     requires few { length specs.now ≤ MAX_LEAVES }
     requires built { IsTrue (are_built specs.now) }
     ensures made { CanAttach M.tells (M.content machine) → OnOk result.0
-        (OfBlocks name.now (M.content result.1)
-        (IsMadeOn blocks schema.now equation.now specs.now)) }
-    ensures new { CanAttach M.tells (M.content machine) →
-        OnOk result.0 (device_at (M.content machine).now name.now ≡ None) }
-    ensures named { CanAttach M.tells (M.content machine) →
-        OnOk result.0 ((M.content result.1).now.shelf.name ≡ Some name.now) }
+        (IsMadeBy name.now blocks schema.now equation.now specs.now (M.content machine)
+        (M.content result.1)) }
     ensures size { OnOk result.0 (IsSize specs.now blocks) }
     ensures unmade { CanAttach M.tells (M.content machine) → IfErr result.0
         (IsUnmade name.now blocks specs.now (M.content machine)) }
-    ensures untouched { CanAttach M.tells (M.content machine) →
-        IfErr result.0 (λ why. is_untouched why ≡ true →
-        device_at (M.content result.1).now name.now ≡ device_at (M.content machine).now name.now) }
-    ensures there { CanAttach M.tells (M.content machine) →
-        KeepsDevice name.now (M.content machine) (M.content result.1) }
     ensures left { CanAttach M.tells (M.content machine) →
-        device_at (M.content machine).now name.now ≡ None → (blocks : List (List ℕ)) →
-        device_at (M.content result.1).now name.now ≡ Some blocks →
-        IsNoneOrEmpty schema.now equation.now specs.now blocks }
-    ensures begun { CanAttach M.tells (M.content machine) →
-        device_at (M.content machine).now name.now ≡ None → (made : List (List ℕ)) →
-        device_at (M.content result.1).now name.now ≡ Some made → length made ≡ blocks }
+        LeavesMaking name.now blocks schema.now equation.now specs.now (M.content machine)
+        (M.content result.1) result.0 }
     ensures attaches { CanAttach M.tells (M.content machine) →
         Attaches name.now (M.content machine) (M.content result.1) }
     ensures faults { Counted (has_no_fault result.0) (M.faults machine) (M.faults result.1) }
@@ -99,8 +89,13 @@ fn make_attached<M: Machine + Drop>(
     ensures made { IsTrue M.tells → OnOk result.0
         (IsMadeOn (M.size machine) schema.now equation.now specs.now
         (M.content result.1).now.blocks) }
-    ensures left { IsTrue M.tells → ¬ HasMagic (block_of (M.content machine).now 0) →
-        IsNoneOrEmpty schema.now equation.now specs.now (M.content result.1).now.blocks }
+    ensures images { IsTrue M.tells → NonePending (M.content machine) →
+        ¬ HasMagic (M.size machine) (block_of (M.content machine).now 0) →
+        LeavesOnly (IsNewImage schema.now equation.now specs.now
+        (replicate (length specs.now) empty) (M.content machine).now) (M.content machine)
+        (M.content result.1) }
+    ensures sealed { IsTrue M.tells → OnOk result.0
+        (IsSealed (M.content result.1)) }
     ensures blocks { IsTrue M.tells → length (M.content result.1).now.blocks ≡ M.size machine }
     ensures unmade { IfErr result.0 (λ why. IsUnmadeOn specs.now (M.size machine) why) }
     ensures silent { Silent (M.content machine) (M.content result.1) }
@@ -123,13 +118,16 @@ fn make_over<M: Machine + Drop>(
 ) -> (Result<(), Unopened>, M)
     requires room { IsRoomFor (ground_of journal) specs.now }
     ensures settled { IsTrue M.tells → IsSteady journal → (schema equation : List ℕ) →
-        drop 1 (head_blocks journal) ≡ text_blocks schema equation →
+        drop 1 (kept_head journal) ≡ text_blocks schema equation →
         OnOk result.0 (IsSettled schema equation specs.now (replicate (length specs.now) empty)
         (M.content result.1).now.blocks) }
-    ensures left { IsTrue M.tells → IsSteady journal →
-        ¬ HasMagic (slice_index_or (head_blocks journal) 0 []) → (schema equation : List ℕ) →
-        drop 1 (head_blocks journal) ≡ text_blocks schema equation →
-        IsNoneOrEmpty schema equation specs.now (M.content result.1).now.blocks }
+    ensures images { IsTrue M.tells → IsCalm journal (content_of journal) →
+        ¬ HasMagic (M.size (device_of journal)) (slice_index_or (kept_head journal) 0 []) →
+        (schema equation : List ℕ) → drop 1 (kept_head journal) ≡ text_blocks schema equation →
+        LeavesOnly (IsNewImage schema equation specs.now (replicate (length specs.now) empty)
+        (content_of journal).now) (content_of journal) (M.content result.1) }
+    ensures sealed { IsTrue M.tells → IsCalm journal (content_of journal) → OnOk result.0
+        (IsSealed (M.content result.1)) }
     ensures blocks { IsTrue M.tells →
         length (M.content result.1).now.blocks ≡ M.size (device_of journal) }
     ensures unmade { IfErr result.0 (λ why. IsUnlaid why) }
@@ -153,9 +151,11 @@ fn make_leaves<M: Machine + Drop>(
     ensures made { IsTrue M.tells → IsSteady journal → IfOk result (λ j.
         AreMaps (ground_of journal) specs.now (replicate (length specs.now) empty)
         (working_sheets j)) }
-    ensures ground { IfOk result (λ j. ground_of j ≡ ground_of journal) }
-    ensures steady { IfOk result (λ j. IsSteady journal ↔ IsSteady j) }
-    ensures head { IfErr result (λ e. head_told M.tells (M.content e.0) ≡ head_blocks journal) }
+    ensures over { IfOk result (λ j. IsMadeOver journal j) }
+    ensures images { IsTrue M.tells → IsCalm journal (content_of journal) →
+        ¬ HasMagic (M.size (device_of journal)) (slice_index_or (kept_head journal) 0 []) →
+        LeavesOnly (HasNoMagic (content_of journal).now) (content_of journal)
+        (M.content (machine_below result)) }
     ensures blocks { M.size (machine_below result) ≡ M.size (device_of journal) }
     ensures unmade { IfErr result (λ e. IsUnlaid e.1) }
     ensures silent { Silent (content_of journal) (M.content (machine_below result)) }
@@ -180,10 +180,13 @@ fn make_in<M: Machine + Drop>(
         IfOk result (λ j.
         AreMaps (ground_of (journal_of pages)) specs.now (replicate (length specs.now) empty)
         (working_sheets j)) }
-    ensures ground { IfOk result (λ j. ground_of j ≡ ground_of (journal_of pages)) }
-    ensures steady { IfOk result (λ j. IsSteady (journal_of pages) ↔ IsSteady j) }
-    ensures head { IfErr result
-        (λ e. head_told M.tells (M.content e.0) ≡ head_blocks (journal_of pages)) }
+    ensures over { IfOk result (λ j. IsMadeOver (journal_of pages) j) }
+    ensures images { IsTrue M.tells →
+        IsCalm (journal_of pages) (content_of (journal_of pages)) →
+        ¬ HasMagic (M.size (device_of (journal_of pages)))
+        (slice_index_or (kept_head (journal_of pages)) 0 []) →
+        LeavesOnly (HasNoMagic (content_of (journal_of pages)).now)
+        (content_of (journal_of pages)) (M.content (machine_below result)) }
     ensures blocks { M.size (machine_below result) ≡ M.size (device_of (journal_of pages)) }
     ensures unmade { IfErr result (λ e. IsUnlaid e.1) }
     ensures silent { Silent (content_of (journal_of pages)) (M.content (machine_below result)) }
@@ -210,10 +213,16 @@ fn not_made(why: Stop) -> Unopened
 fn publish<M: Machine + Drop>(mut journal: Journal<M>) -> (Result<(), Unopened>, M)
     ensures settled { IsTrue M.tells → IsSteady journal →
         OnOk result.0 (Publishes journal (working_of journal) (M.content result.1).now.blocks) }
-    ensures left { IsTrue M.tells → IsSteady journal →
-        ¬ HasMagic (slice_index_or (head_blocks journal) 0 []) →
-        HasMagic (block_of (M.content result.1).now 0) →
-        Publishes journal (working_of journal) (M.content result.1).now.blocks }
+    ensures images { IsTrue M.tells → IsCalm journal (content_of journal) →
+        ¬ HasMagic (M.size (device_of journal)) (slice_index_or (kept_head journal) 0 []) →
+        (schema equation : List ℕ) (kinds : List LeafSpec) (maps : List LeafMap) →
+        drop 1 (kept_head journal) ≡ text_blocks schema equation →
+        IsRoomFor (ground_of journal) kinds →
+        AreMaps (ground_of journal) kinds maps (working_sheets journal) →
+        LeavesOnly (IsNewImage schema equation kinds maps (content_of journal).now)
+        (content_of journal) (M.content result.1) }
+    ensures sealed { IsTrue M.tells → IsCalm journal (content_of journal) → OnOk result.0
+        (IsSealed (M.content result.1)) }
     ensures blocks { IsTrue M.tells →
         length (M.content result.1).now.blocks ≡ M.size (device_of journal) }
     ensures unmade { IfErr result.0 (λ why. IsUnlaid why) }
@@ -230,10 +239,16 @@ fn publish<M: Machine + Drop>(mut journal: Journal<M>) -> (Result<(), Unopened>,
 // Writes the magic.
 fn seal<M: Machine + Drop>(mut journal: Journal<M>) -> (Result<(), Unopened>, M)
     ensures magic { IsTrue M.tells →
-        OnOk result.0 (HasMagic (block_of (M.content result.1).now 0)) }
+        OnOk result.0 (HasMagic (M.size (device_of journal))
+        (block_of (M.content result.1).now 0)) }
     ensures settled { IsTrue M.tells → IsSteady journal →
-        HasMagic (block_of (M.content result.1).now 0) →
+        HasMagic (M.size (device_of journal)) (block_of (M.content result.1).now 0) →
         Publishes journal (kept_of journal) (M.content result.1).now.blocks }
+    ensures images { IsTrue M.tells → IsCalm journal (content_of journal) →
+        LeavesOnly (IsUnsealed (view_now (kept_of journal) (content_of journal)))
+        (content_of journal) (M.content result.1) }
+    ensures sealed { IsTrue M.tells → IsCalm journal (content_of journal) → OnOk result.0
+        (IsSealed (M.content result.1)) }
     ensures blocks { IsTrue M.tells →
         length (M.content result.1).now.blocks ≡ M.size (device_of journal) }
     ensures unmade { IfErr result.0 (λ why. IsUnlaid why) }

@@ -1,18 +1,19 @@
 // A database's leaves are opened.
-ghost use Rattle.std.specs.Prelude.{◌≡◌, ◌+◌, ◌≤◌, ℕ, List, Some, None, true, length, IsTrue, IfOk, IfErr, OnOk};
+ghost use Rattle.std.specs.Prelude.{◌≡◌, ◌+◌, ◌≤◌, ℕ, List, Some, length, IsTrue, IfOk, IfErr, OnOk};
 ghost use Rattle.gx_device.specs.Content.{device_at, Silent};
 ghost use Rattle.gx_device.specs.Faults.{Counted};
-ghost use Rattle.gx_layout.specs.declared.formatting.TheConstants.{MAX_TEXTS_LEN};
+ghost use Rattle.gx_layout.specs.declared.places.TheConstants.{MAX_TEXTS_LEN};
 ghost use Rattle.gx_ports.specs.LeafMaps.{LeafMap};
 ghost use Rattle.gx_leaves.specs.Kinds.{are_built};
 ghost use Rattle.gx_leaves.specs.Places.{specs_of, places_of, IsRoomFor};
-ghost use Rattle.gx_leaves.specs.Paged.{pages_of, places_in, working_of as maps_in, head_of, IsWhole};
-ghost use Rattle.gx_journal.specs.Journal.{IsCalm, IsSteady, device_of, content_of, working_of, kept_of, head_blocks};
+ghost use Rattle.gx_leaves.specs.Paged.{pages_of, places_in};
+ghost use Rattle.gx_journal.specs.Journal.{IsSteady, device_of, working_of, kept_of, kept_head};
 ghost use Rattle.gx_pages.specs.View.{journal_of};
 ghost use Rattle.gx_pages.specs.Paged.{ground_of, kept_sheets};
-ghost use Rattle.gx_store.specs.Device.{AreMaps, AreTexts, IsHeadOf, IsSettled, ReadAlike, Reopens, ground_on};
-ghost use Rattle.gx_store.specs.Store.{CanAttach, Attaches, OfBlocks, machine_of, HoldsMaps, IsJustOpened, machine_left, goes_on};
-ghost use Rattle.gx_store.specs.Opening.{AreOpened, AreUnopened, AreUnread, HaveDatabase, IsRecoveryOf, IsUnopened, is_untouched};
+ghost use Rattle.gx_store.specs.Device.{AreMaps, AreTexts, Reopens};
+ghost use Rattle.gx_store.specs.Store.{CanAttach, Attaches, HoldsMaps, IsJustOpened, machine_left, goes_on};
+ghost use Rattle.gx_store.specs.Opening.{AreUnopened, AreUnread, IsUnopened};
+ghost use Rattle.gx_store.specs.Opened.{IsStoreOn, IsStoreOf, IsAdopted, IsOnlyRead, LeavesOpened, LeavesNamed};
 ghost use Rattle.gx_ports.specs.declared.kinds.TheConstants.{MAX_LEAVES};
 
 use crate::store::{FRAMES, Store, is_size};
@@ -30,10 +31,10 @@ use std::alloc::Global;
 ///
 /// Otherwise the machine is handed back, in this order: `Missing`, `Size`, `NoDatabase`,
 /// `OtherTexts`. After the first three no block was written. `Fault`: the count of faults rose;
-/// with every other answer it stays. `NoMemory`: there was none. With every answer but `Fault` the
-/// device still reads as it did, so that what opened it opens it again, and no block was written of
-/// one that has another size or no magic; whatever it answers, no block was written but by
-/// recovery, and no device was made.
+/// with every other answer it stays. `NoMemory`: there was none. Whatever it answers, the device
+/// still reads as it did; with every answer but `Fault` one of another size or without the magic
+/// has the same blocks. So what opened it opens it again. No block was written but by recovery, and
+/// no device was made. After Ok, `NoDatabase` and `OtherTexts` nothing is pending on the device.
 pub fn open<M: Machine + Drop>(
     alloc: Global,
     machine: M,
@@ -49,43 +50,15 @@ pub fn open<M: Machine + Drop>(
         (blocks : List (List ℕ)) (maps : List LeafMap) →
         device_at (M.content machine).now name.now ≡ Some blocks →
         Reopens schema.now equation.now specs.now maps blocks → IfOk result (HoldsMaps maps) }
-    ensures just_opened { CanAttach M.tells (M.content machine) → IfOk result IsJustOpened }
-    ensures settled { CanAttach M.tells (M.content machine) → IfOk result (λ s. IsWhole s →
-        IsSettled schema.now equation.now specs.now (maps_in s)
-        (M.content (machine_of s)).now.blocks) }
+    ensures opened { CanAttach M.tells (M.content machine) → IfOk result (λ s.
+        IsStoreOf name.now schema.now equation.now specs.now (M.content machine) s) }
     ensures specs { IfOk result (λ s. specs_of (places_in s) ≡ specs.now) }
-    ensures opened { CanAttach M.tells (M.content machine) → OnOk result
-        (OfBlocks name.now (M.content machine) (AreOpened schema.now equation.now specs.now)) }
     ensures unopened { CanAttach M.tells (M.content machine) → IfErr result
         (λ e. IsUnopened name.now schema.now equation.now specs.now (M.content machine) e.1) }
-    ensures untouched { CanAttach M.tells (M.content machine) →
-        IfErr result (λ e. is_untouched e.1 ≡ true →
-        device_at (M.content e.0).now name.now ≡ device_at (M.content machine).now name.now) }
-    ensures no_database { CanAttach M.tells (M.content machine) → goes_on result ≡ true →
-        (blocks : List (List ℕ)) →
-        device_at (M.content machine).now name.now ≡ Some blocks → ¬ HaveDatabase specs.now blocks →
-        device_at (M.content (machine_left result)).now name.now ≡ Some blocks }
-    ensures absent { CanAttach M.tells (M.content machine) →
-        device_at (M.content machine).now name.now ≡ None →
-        device_at (M.content (machine_left result)).now name.now ≡ None }
-    ensures named { CanAttach M.tells (M.content machine) → IfOk result
-        (λ s. (M.content (machine_of s)).now.shelf.name ≡ Some name.now) }
+    ensures left { CanAttach M.tells (M.content machine) →
+        LeavesNamed name.now specs.now (M.content machine) result }
     ensures attaches { CanAttach M.tells (M.content machine) →
         Attaches name.now (M.content machine) (M.content (machine_left result)) }
-    ensures head { CanAttach M.tells (M.content machine) → IfOk result
-        (λ s. IsHeadOf schema.now equation.now specs.now (head_of s)) }
-    ensures ground { CanAttach M.tells (M.content machine) →
-        IfOk result (λ s. OfBlocks name.now (M.content machine)
-        (λ blocks. ground_of (journal_of (pages_of s)) ≡ ground_on blocks)) }
-    ensures kept { CanAttach M.tells (M.content machine) → goes_on result ≡ true →
-        (blocks : List (List ℕ)) →
-        device_at (M.content machine).now name.now ≡ Some blocks →
-        OfBlocks name.now (M.content (machine_left result)) (ReadAlike blocks) }
-    ensures recovered { CanAttach M.tells (M.content machine) → (blocks : List (List ℕ)) →
-        device_at (M.content machine).now name.now ≡ Some blocks →
-        OfBlocks name.now (M.content (machine_left result)) (IsRecoveryOf blocks) }
-    ensures calm { CanAttach M.tells (M.content machine) → IfOk result (λ s.
-        IsCalm (journal_of (pages_of s)) (content_of (journal_of (pages_of s)))) }
     ensures faults { Counted (goes_on result) (M.faults machine) (M.faults (machine_left result)) }
 {
     let mut machine = machine;
@@ -112,31 +85,13 @@ pub fn open_attached<M: Machine + Drop>(
     ensures holds { IsTrue M.tells → (maps : List LeafMap) →
         Reopens schema.now equation.now specs.now maps (M.content machine).now.blocks →
         IfOk result (HoldsMaps maps) }
-    ensures just_opened { IsTrue M.tells → IfOk result IsJustOpened }
-    ensures settled { IsTrue M.tells → IfOk result (λ s. IsWhole s →
-        IsSettled schema.now equation.now specs.now (maps_in s)
-        (M.content (machine_of s)).now.blocks) }
+    ensures opened { IsTrue M.tells → IfOk result (λ s.
+        IsStoreOn schema.now equation.now specs.now (M.content machine) s) }
     ensures specs { IfOk result (λ s. specs_of (places_in s) ≡ specs.now) }
-    ensures opened { IsTrue M.tells → OnOk result
-        (AreOpened schema.now equation.now specs.now (M.content machine).now.blocks) }
     ensures unopened { IsTrue M.tells → IfErr result (λ e.
         AreUnopened schema.now equation.now specs.now (M.content machine).now.blocks e.1) }
-    ensures untouched { IsTrue M.tells → IfErr result (λ e. is_untouched e.1 ≡ true →
-        (M.content e.0).now.blocks ≡ (M.content machine).now.blocks) }
-    ensures no_database { IsTrue M.tells → goes_on result ≡ true →
-        ¬ HaveDatabase specs.now (M.content machine).now.blocks →
-        (M.content (machine_left result)).now.blocks ≡ (M.content machine).now.blocks }
+    ensures left { IsTrue M.tells → LeavesOpened specs.now (M.content machine) result }
     ensures silent { Silent (M.content machine) (M.content (machine_left result)) }
-    ensures head { IsTrue M.tells → IfOk result
-        (λ s. IsHeadOf schema.now equation.now specs.now (head_of s)) }
-    ensures ground { IsTrue M.tells → IfOk result
-        (λ s. ground_of (journal_of (pages_of s)) ≡ ground_on (M.content machine).now.blocks) }
-    ensures kept { IsTrue M.tells → goes_on result ≡ true →
-        ReadAlike (M.content machine).now.blocks (M.content (machine_left result)).now.blocks }
-    ensures recovered { IsTrue M.tells →
-        IsRecoveryOf (M.content machine).now.blocks (M.content (machine_left result)).now.blocks }
-    ensures calm { IsTrue M.tells → IfOk result (λ s.
-        IsCalm (journal_of (pages_of s)) (content_of (journal_of (pages_of s)))) }
     ensures faults { Counted (goes_on result) (M.faults machine) (M.faults (machine_left result)) }
 {
     if !is_size(specs, machine.blocks()) {
@@ -164,17 +119,12 @@ fn open_journal<M: Machine + Drop>(
         IfOk result (HoldsMaps maps) }
     ensures just_opened { working_of journal ≡ kept_of journal → IsSteady journal →
         IfOk result IsJustOpened }
-    ensures specs { IfOk result (λ s. specs_of (places_in s) ≡ specs.now) }
+    ensures adopted { IfOk result (λ s. IsAdopted specs.now journal s) }
     ensures texts { IsTrue M.tells → OnOk result
-        (AreTexts schema.now equation.now (head_blocks journal)) }
+        (AreTexts schema.now equation.now (kept_head journal)) }
     ensures other { IsTrue M.tells → IfErr result
-        (λ e. AreUnread schema.now equation.now (head_blocks journal) e.1) }
-    ensures silent { Silent (content_of journal) (M.content (machine_left result)) }
-    ensures ground { IfOk result (λ s. ground_of (journal_of (pages_of s)) ≡ ground_of journal) }
-    ensures blocks { (M.content (machine_left result)).now.blocks
-        ≡ (content_of journal).now.blocks }
-    ensures calm { IsCalm journal (content_of journal) → IfOk result (λ s.
-        IsCalm (journal_of (pages_of s)) (content_of (journal_of (pages_of s)))) }
+        (λ e. AreUnread schema.now equation.now (kept_head journal) e.1) }
+    ensures read { IsOnlyRead journal (machine_left result) }
     ensures faults { Counted (goes_on result) (M.faults (device_of journal))
         (M.faults (machine_left result)) }
 {

@@ -7,10 +7,10 @@ ghost use Rattle.gx_store.specs.Store.{machine_of};
 ghost use Rattle.gx_ports.specs.declared.kinds.TheConstants.{MAX_LEAVES};
 
 use gx_device::Machine;
-use gx_layout::{HEAD_BLOCKS, MAX_BLOCKS};
+use gx_layout::{MAX_BLOCKS, head_blocks, table_pages};
 use gx_leaves::PagedLeaves;
 use gx_pages::Paged;
-use gx_ports::{LeafSpec, TABLE_PAGES, root_pages};
+use gx_ports::{LeafSpec, root_pages};
 
 /// How many pages of a device are in memory at once.
 pub const FRAMES: u32 = 64;
@@ -24,7 +24,7 @@ pub fn smallest_device(specs: &[LeafSpec]) -> u32
     requires { length specs.now ≤ MAX_LEAVES }
     ensures { result ≡ smallest_device specs.now }
 {
-    HEAD_BLOCKS + 2 * (TABLE_PAGES + root_pages(specs))
+    head_blocks(0) + 2 * (table_pages(0) + root_pages(specs))
 }
 
 /// Whether a device of so many blocks has room for such leaves, and isn't too large.

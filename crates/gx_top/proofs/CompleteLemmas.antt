@@ -432,7 +432,7 @@ same_blocks device before a b x y = same_Some a b (sym x ∙ y)
 pub had_not_wrong : (device : List ℕ) (t : Task) (before : Content) (wrong : DeviceWhy)
     (blocks : List (List ℕ))
     → device_at before.now device ≡ Some blocks → IsSize t.typing.specs (length blocks)
-    → HasMagic (get_or blocks 0 [])
+    → HasMagic (length blocks) (get_or blocks 0 [])
     → HasTexts (schema_text t.schema) (equation_text t.definitions) blocks
     → IsBefore wrong → IsWrongOn device t before wrong → ⊥
 had_not_wrong device t before device_why.Missing blocks there size magic texts early is =
@@ -442,7 +442,7 @@ had_not_wrong device t before device_why.Size blocks there size magic texts earl
     is.2 (subst (λ b. IsSize t.typing.specs (length b))
     (same_blocks device before blocks is.0 there is.1) size)
 had_not_wrong device t before device_why.NoDatabase blocks there size magic texts early is =
-    is.2.1 (subst (λ (b : List (List ℕ)). HasMagic (get_or b 0 []))
+    is.2.1 (subst (λ (b : List (List ℕ)). HasMagic (length b) (get_or b 0 []))
     (same_blocks device before blocks is.0 there is.1) magic)
 had_not_wrong device t before (device_why.OtherEquation place) blocks there size magic texts early
     is =

@@ -29,6 +29,7 @@ pub unprepared_devices : (device : List ℕ) (old mid new : Content) (s : Status
 unprepared_devices device old mid new s before same = record {
   refused = λ e. record {
     blocks = same.blocks ∙ ap (λ n. n.blocks) before;
+    pending = same.pending ∙ ap (λ n. n.pending) before;
     shelf = same.shelf
         ∙ ap (λ n. n.shelf) before;
   };

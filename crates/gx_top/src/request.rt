@@ -61,9 +61,9 @@ use std::alloc::Global;
 /// After `Done`, `Script`, `Full` and `Memory` of `run` the device is settled with the last state
 /// that the lines kept which were answered; after `Memory` where none was, it may also hold exactly
 /// the states that it held. After `Outside` it is settled with the last state that first lines
-/// kept, of whose answers all was said but perhaps an end of the last one's; or all of their
-/// answers was said, and the next line is a commit. Where no line was answered, it may hold the
-/// states that it held, or nothing was said and no block of it was written but by recovery. After
+/// kept, with a front of whose answers what was said goes; or all of their answers was said, and
+/// the next line is a commit. Where no line was answered, it may hold the states that it held, or
+/// nothing was said and no block of it was written but by recovery. After
 /// `Refused` all devices are as they were. With any status but `Outside` so is one of another size
 /// or with no magic, and one of other texts reads as before, and no block of it was written but by
 /// recovery. Whatever it answers, no device is made, and those of other names are as they were.

@@ -1,12 +1,12 @@
-use Rattle.std.proofs.Common.{rules, None, sym, ap, subst, ◌∙◌, arith}
+use Rattle.std.proofs.Common.{rules, None, [], refl, sym, ap, subst, append-nil, ◌∙◌, arith}
 use Rattle.gx_device.specs.Faults.{Rose}
 use Rattle.gx_memory_leaves.specs.Plain.{kept_of}
 use Rattle.gx_states.specs.Internal.{AreInternal}
 use Rattle.gx_model.specs.States.{State, empty_state}
+use Rattle.gx_model.specs.Play.{start_at}
 use Rattle.gx_play.specs.Plays.{IsPlayedAs}
 use Rattle.gx_states.proofs.StartLemmas.{start_state}
-use Rattle.gx_play.proofs.OverLemmas.{held_as, unheard}
-use Rattle.gx_play.specs.declared.ending.Ending.TheVariants as ending
+use Rattle.gx_play.proofs.OverLemmas.{held_as}
 use Rattle.gx_operations.proofs.play.play_script.Goals as goal
 
 pub returns-in-Ok-clause-answered : goal.returns-in-Ok-clause-answered
@@ -76,7 +76,16 @@ returns-in-Ok-clause-shelf g c =
     ∙ ap (λ m. (g.M.Device.content m).now.shelf) c.in-Ok.ensures.device
 
 pub returns-clause-answered : goal.returns-clause-answered
-returns-clause-answered g c =
-    λ told. unheard c.args.schema c.args.built None (empty_state c.args.schema)
-    (λ s. Unit {0}) _ _ _ 0 0 ending.NoMemory
-    (ap (λ m. (g.M.Device.content m).now.said) (search rules)) tt tt
+returns-clause-answered g c = λ told. record {
+  answers = [];
+  first = record {
+    ran = [];
+    later = _;
+    parts = refl;
+    final = start_at (empty_state c.args.schema);
+    runs = (refl, refl);
+  };
+  said = ap (λ m. (g.M.Device.content m).now.said) (search rules)
+      ∙ sym (append-nil (g.M.Device.content c.args.machine).now.said);
+  holds = tt;
+}

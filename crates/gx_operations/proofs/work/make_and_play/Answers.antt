@@ -2,7 +2,7 @@ use Rattle.std.proofs.Common.{rules, ◌≡◌, ◌∙◌, List, ℕ, Some, None
 use Rattle.std.specs.Prelude.{OnOk, IfErr}
 use Rattle.gx_ports.specs.declared.kinds.LeafSpec.{LeafSpec}
 use Rattle.gx_store.specs.Device.{IsMadeOn, IsSize}
-use Rattle.gx_store.specs.Making.{IsUnmade}
+use Rattle.gx_store.specs.Making.{IsUnmade, IsMadeBy}
 use Rattle.gx_device.specs.Content.{device_at}
 use Rattle.gx_store.specs.Opening.{is_untouched}
 use Rattle.gx_store.specs.Store.{OfBlocks}
@@ -24,20 +24,16 @@ returns-in-Ok-clause-worked g c = λ can.
     let size = subst (λ (ks : List LeafSpec). IsSize ks c.args.blocks) (search rules)
     (subst (λ r. OnOk r (IsSize c.deref.result.now c.args.blocks)) c.in-Ok.is
     c.make-made.ensures.size) in
-    let free = subst (λ r. OnOk r (device_at old.now c.args.device.now ≡ None)) c.in-Ok.is
-    (c.make-made.ensures.new can) in
+    let facts = subst (λ r. OnOk r (IsMadeBy c.args.device.now c.args.blocks c.as_slice.result.now
+    c.as_slice-2.result.now c.deref.result.now old mid)) c.in-Ok.is (c.make-made.ensures.made can) in
+    let free = facts.makes.free in
     let made = subst (λ (ks : List LeafSpec). OfBlocks c.args.device.now mid
     (IsMadeOn c.args.blocks x.schema_text x.equation_text ks)) (search rules)
     (subst (λ (e : List ℕ). OfBlocks c.args.device.now mid
     (IsMadeOn c.args.blocks x.schema_text e c.deref.result.now)) equation
     (subst (λ (s : List ℕ). OfBlocks c.args.device.now mid
-    (IsMadeOn c.args.blocks s c.as_slice-2.result.now c.deref.result.now)) schema
-    (subst (λ r. OnOk r (OfBlocks c.args.device.now mid
-    (IsMadeOn c.args.blocks c.as_slice.result.now c.as_slice-2.result.now c.deref.result.now)))
-    c.in-Ok.is
-    (c.make-made.ensures.made can)))) in
-    let named = subst (λ r. OnOk r (mid.now.shelf.name ≡ Some c.args.device.now)) c.in-Ok.is
-    (c.make-made.ensures.named can) in
+    (IsMadeOn c.args.blocks s c.as_slice-2.result.now c.deref.result.now)) schema facts.is)) in
+    let named = facts.makes.named in
     working_by x c.args.device.now c.args.blocks c.args.records old mid new size free made named
     c.play_made.ensures.silent c.play_made.result.0
     (c.play_made.ensures.count can.told)
@@ -48,8 +44,10 @@ returns-in-Ok-clause-worked g c = λ can.
 pub returns-in-Ok-clause-there : goal.returns-in-Ok-clause-there
 returns-in-Ok-clause-there g c = λ can blocks was.
     let old = g.M.Device.content c.args.machine in
-    let free = subst (λ r. OnOk r (device_at old.now c.args.device.now ≡ None)) c.in-Ok.is
-    (c.make-made.ensures.new can) in
+    let mid = g.M.Device.content c.make-made.result.1 in
+    let facts = subst (λ r. OnOk r (IsMadeBy c.args.device.now c.args.blocks c.as_slice.result.now
+    c.as_slice-2.result.now c.deref.result.now old mid)) c.in-Ok.is (c.make-made.ensures.made can) in
+    let free = facts.makes.free in
     absurd (let wrong : ◌≡◌ {A = _} (Some blocks) None = sym was ∙ free in cc)
 
 pub returns-clause-worked : goal.returns-clause-worked
@@ -70,17 +68,21 @@ returns-clause-worked g c = λ can.
     c.in-Err.is (c.make-made.ensures.unmade can)))
     (subst (λ r. IfErr r (λ why. is_untouched why ≡ true
     → device_at new.now c.args.device.now ≡ device_at old.now c.args.device.now)) c.in-Err.is
-    (c.make-made.ensures.untouched can))
+    (c.make-made.ensures.left can).untouched)
     (λ free blocks there. left_told x c.as_slice.result.now c.as_slice-2.result.now
     c.deref.result.now blocks
-    schema equation (search rules) (c.make-made.ensures.left can free blocks there)))
+    schema equation (search rules) ((c.make-made.ensures.left can).left free blocks there)))
 
 pub returns-in-Ok-clause-attaches : goal.returns-in-Ok-clause-attaches
 returns-in-Ok-clause-attaches g c = λ can.
     let content = g.M.Device.content in
-    let mid = content c.make-made.result.1 in
-    let named = subst (λ r. OnOk r (mid.now.shelf.name ≡ Some c.args.device.now)) c.in-Ok.is
-    (c.make-made.ensures.named can) in
+    let facts = subst (λ r. OnOk r (IsMadeBy c.args.device.now c.args.blocks c.as_slice.result.now
+    c.as_slice-2.result.now c.deref.result.now (content c.args.machine)
+    (content c.make-made.result.1))) c.in-Ok.is (c.make-made.ensures.made can) in
+    let named = facts.makes.named in
     attached_still c.args.device.now (content c.args.machine) (content c.make-made.result.1)
     (content c.play_made.result.1) (c.make-made.ensures.attaches can) named
     c.play_made.ensures.silent
+
+pub returns-clause-there : goal.returns-clause-there
+returns-clause-there g c = λ can. (c.make-made.ensures.left can).there

@@ -42,13 +42,13 @@ returns-in-Ok-clause-worked g c = λ told reopens.
     (start_state x.schema x.built (length x.built.specs)
     (length x.built.specs) c.requires.stored.can_play.0) in
     let head = subst (λ k. IsHeadOf schema equation k (head_of store)) (sym c.in-Ok.ensures.specs)
-    (c.in-Ok.ensures.head told) in
+    (c.in-Ok.ensures.opened told).head in
     let limit = Some (limits_of (ground_of (journal_of (pages_of store))) (places_in store)) in
     played_on x (length blocks) c.args.records after limit
     (λ (k : State). AreInternal work_schema x.built (kept_of left) k × WasWhole left)
     c.play_work-worked.result.0
     (limit_of blocks (ground_of (journal_of (pages_of store))) (places_in store) x.built.specs
-    (c.in-Ok.ensures.ground told) (c.in-Ok.ensures.specs ∙ (search rules)))
+    (c.in-Ok.ensures.opened told).ground (c.in-Ok.ensures.specs ∙ (search rules)))
     (λ k held. told_settled x schema equation specs after k c.as_slice.ensures c.as_slice-2.ensures
     (search rules)
     (subst (λ (ks : List LeafSpec). IsSettledIn x.schema x.built schema equation ks after k)
@@ -80,7 +80,7 @@ returns-clause-worked g c = λ told reopens.
     c.in-Err.why
     c.as_slice.ensures c.as_slice-2.ensures (search rules) (c.in-Err.ensures.unopened told))
     (λ goes. empty_still x blocks (g.M.Device.content c.in-Err.machine).now.blocks
-    (c.in-Err.ensures.kept told goes) reopens))
+    (c.in-Err.ensures.left told).kept reopens))
 
 -- ---- how many blocks there are
 
@@ -93,7 +93,7 @@ returns-in-Ok-clause-count g c = λ told.
     ap (λ m. length (g.M.Device.content m).now.blocks) c.close.ensures.machine
     ∙ sym (g.met.M.Device.sized (machine_of left) told)
     ∙ same_blocks is was c.play_work-worked.ensures.limit
-    ∙ g.met.M.Device.sized (machine_of store) told ∙ (c.in-Ok.ensures.recovered told).count
+    ∙ g.met.M.Device.sized (machine_of store) told ∙ (c.in-Ok.ensures.left told).recovered.count
 
 pub returns-clause-count : goal.returns-clause-count
-returns-clause-count g c = λ told. (c.in-Err.ensures.recovered told).count
+returns-clause-count g c = λ told. (c.in-Err.ensures.left told).recovered.count

@@ -1,16 +1,21 @@
 use Rattle.std.proofs.Common.{◌∙◌, not, length, replicate, sym, ap, subst}
 use Rattle.std.specs.FinMap.{empty}
+use Rattle.gx_device.specs.Crash.{LeavesOnly}
 use Rattle.gx_ports.specs.Sheets.{Ground}
 use Rattle.gx_leaves.specs.Making.{IsAllFree}
-use Rattle.gx_journal.specs.Journal.{device_of}
+use Rattle.gx_leaves.specs.Paged.{pages_of}
+use Rattle.gx_journal.specs.Journal.{content_of, device_of}
 use Rattle.gx_device.specs.Faults.{Counted}
-use Rattle.gx_store.specs.Making.{not_laid}
+use Rattle.gx_store.specs.Making.{IsMadeOver, not_laid}
+use Rattle.gx_store.specs.Crashes.{HasNoMagic}
 use Rattle.gx_store.specs.Store.{is_fault}
 use Rattle.gx_store.proofs.MakeLemmas.{counted_leaves}
 use Rattle.gx_pages.specs.View.{journal_of}
+use Rattle.gx_pages.specs.Laws.{calm_later}
 use Rattle.gx_pages.specs.Paged.{ground_of, working_sheets}
 use Rattle.gx_store.specs.Device.{AreMaps}
 use Rattle.gx_store.proofs.HeldLemmas.{made_maps}
+use Rattle.gx_store.proofs.MadeLemmas.{kept_none}
 use Rattle.gx_store.proofs.making.make_in.Goals as goal
 
 pub returns-in-Ok-clause-made : goal.returns-in-Ok-clause-made
@@ -47,3 +52,38 @@ returns-in-Err-clause-blocks g c =
     ap (λ d. g.M.Device.size d) (c.into_device.ensures
     ∙ ap (λ j. device_of j) c.into_journal-in-Err.ensures)
     ∙ ap (λ (b : Ground). b.blocks) c.in-Err.ensures.keeps.ground
+
+pub returns-in-Ok-clause-over : goal.returns-in-Ok-clause-over
+returns-in-Ok-clause-over g c =
+    let j = journal_of c.args.pages in
+    let keeps = c.in-Ok.ensures.keeps in
+    subst (λ x. IsMadeOver j x)
+    (sym (c.into_journal.ensures ∙ ap (λ p. journal_of p) c.into_pages.ensures))
+    (record {
+      ground = keeps.ground;
+      steady = keeps.steady;
+      calm = λ calm. calm_later (journal_of (pages_of c.in-Ok.leaves)) (content_of j)
+          (keeps.calm (content_of j) calm);
+    })
+
+pub returns-in-Ok-clause-images : goal.returns-in-Ok-clause-images
+returns-in-Ok-clause-images g c = λ told calm none.
+    let j = journal_of c.args.pages in
+    let keeps = c.in-Ok.ensures.keeps in
+    subst (λ x. LeavesOnly (HasNoMagic (content_of j).now) (content_of j) (content_of x))
+    (sym (c.into_journal.ensures ∙ ap (λ p. journal_of p) c.into_pages.ensures))
+    (kept_none j (journal_of (pages_of c.in-Ok.leaves)) told
+    (g.met.M.Device.sized (device_of j) told)
+    (g.met.M.Device.sized (device_of (journal_of (pages_of c.in-Ok.leaves))) told)
+    keeps.ground (keeps.calm (content_of j) calm) keeps.silent none)
+
+pub returns-in-Err-clause-images : goal.returns-in-Err-clause-images
+returns-in-Err-clause-images g c = λ told calm none.
+    let j = journal_of c.args.pages in
+    let keeps = c.in-Err.ensures.keeps in
+    subst (λ d. LeavesOnly (HasNoMagic (content_of j).now) (content_of j) (g.M.Device.content d))
+    (sym (c.into_device.ensures ∙ ap (λ x. device_of x) c.into_journal-in-Err.ensures))
+    (kept_none j (journal_of c.in-Err.pages) told
+    (g.met.M.Device.sized (device_of j) told)
+    (g.met.M.Device.sized (device_of (journal_of c.in-Err.pages)) told)
+    keeps.ground (keeps.calm (content_of j) calm) keeps.silent none)

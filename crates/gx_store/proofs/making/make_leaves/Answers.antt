@@ -1,16 +1,24 @@
-use Rattle.std.proofs.Common.{◌∙◌, length, replicate, sym, ap, subst}
+use Rattle.std.proofs.Common.{◌∙◌, List, ℕ, [], get_or, length, replicate, sym, ap, subst}
 use Rattle.std.specs.Prelude.{IfOk}
 use Rattle.std.specs.FinMap.{empty}
-use Rattle.std.proofs.lemmas.Result.{IfOk-weaker, IfErr-weaker}
+use Rattle.std.proofs.lemmas.Result.{IfOk-weaker}
+use Rattle.gx_device.specs.Crash.{EachImage, LeavesOnly}
+use Rattle.gx_device.proofs.RunLemmas.{joined}
 use Rattle.gx_ports.specs.Sheets.{Ground}
+use Rattle.gx_layout.specs.Head.{HasMagic}
+use Rattle.gx_layout.proofs.BlockLemmas.{silent_twice}
 use Rattle.gx_leaves.specs.Places.{IsRoomFor}
-use Rattle.gx_journal.specs.Journal.{content_of}
+use Rattle.gx_journal.specs.Journal.{content_of, size_of, kept_head}
 use Rattle.gx_pages.specs.Owners.{IsAllFree}
 use Rattle.gx_pages.specs.View.{journal_of}
+use Rattle.gx_pages.specs.Laws.{calm_later}
 use Rattle.gx_pages.specs.Paged.{working_sheets}
 use Rattle.gx_store.specs.Device.{AreMaps}
+use Rattle.gx_store.specs.Making.{machine_below}
+use Rattle.gx_store.specs.Crashes.{HasNoMagic}
 use Rattle.gx_store.proofs.HeldLemmas.{ground_kept}
 use Rattle.gx_store.proofs.CauseLemmas.{counted_after}
+use Rattle.gx_store.proofs.MadeLemmas.{calm_none, none_before}
 use Rattle.gx_store.proofs.making.make_leaves.Goals as goal
 use Rattle.gx_layout.proofs.BlockLemmas.{silent_twice}
 
@@ -32,24 +40,6 @@ returns-in-Ok-clause-made g c = λ told steady.
     (c.make_in.ensures.made told (keeps.steady ∙ steady)
     (subst (λ (b : Ground). IsAllFree b (working_sheets k)) (sym same) (c.in-Ok.ensures.free told)))
 
-pub returns-in-Ok-clause-ground : goal.returns-in-Ok-clause-ground
-returns-in-Ok-clause-ground g c =
-    IfOk-weaker c.make_in.result _ _
-    (λ j is. is ∙ ground_kept c.args.journal (journal_of c.in-Ok.pages) c.in-Ok.ensures.keeps.keeps)
-    c.make_in.ensures.ground
-
-pub returns-in-Ok-clause-steady : goal.returns-in-Ok-clause-steady
-returns-in-Ok-clause-steady g c =
-    let keeps = c.in-Ok.ensures.keeps.keeps in
-    IfOk-weaker c.make_in.result _ _
-    (λ j both. (λ s. both.0 (keeps.steady ∙ s), λ s. sym keeps.steady ∙ both.1 s))
-    c.make_in.ensures.steady
-
-pub returns-in-Ok-clause-head : goal.returns-in-Ok-clause-head
-returns-in-Ok-clause-head g c =
-    IfErr-weaker c.make_in.result _ _ (λ e is. is ∙ c.in-Ok.ensures.keeps.keeps.head)
-    c.make_in.ensures.head
-
 pub returns-in-Ok-clause-silent : goal.returns-in-Ok-clause-silent
 returns-in-Ok-clause-silent g c =
     silent_twice _ (content_of (journal_of c.in-Ok.pages)) _ c.in-Ok.ensures.keeps.silent
@@ -65,3 +55,51 @@ returns-in-Ok-clause-blocks g c = c.make_in.ensures.blocks ∙ c.in-Ok.ensures.k
 pub returns-in-Err-clause-blocks : goal.returns-in-Err-clause-blocks
 returns-in-Err-clause-blocks g c =
     ap (λ d. g.M.Device.size d) c.into_device.ensures ∙ c.in-Err.ensures.keeps.keeps.blocks
+
+pub returns-in-Ok-clause-over : goal.returns-in-Ok-clause-over
+returns-in-Ok-clause-over g c =
+    let j = c.args.journal in
+    let k = journal_of c.in-Ok.pages in
+    let keeps = c.in-Ok.ensures.keeps.keeps in
+    IfOk-weaker c.make_in.result _ _
+    (λ n over. record {
+      ground = over.ground ∙ ground_kept j k keeps;
+      steady = (λ s. over.steady.0 (keeps.steady ∙ s), λ s. sym keeps.steady ∙ over.steady.1 s);
+      calm = λ calm. over.calm (calm_later k (content_of j) (keeps.calm (content_of j) calm));
+    })
+    c.make_in.ensures.over
+
+pub returns-in-Ok-clause-images : goal.returns-in-Ok-clause-images
+returns-in-Ok-clause-images g c = λ told calm none.
+    let j = c.args.journal in
+    let k = journal_of c.in-Ok.pages in
+    let keeps = c.in-Ok.ensures.keeps.keeps in
+    let silent = c.in-Ok.ensures.keeps.silent in
+    let since = keeps.calm (content_of j) calm in
+    let last = g.M.Device.content (machine_below c.make_in.result) in
+    let count = sym (g.met.M.Device.sized k.device told) ∙ keeps.blocks
+    ∙ g.met.M.Device.sized j.device told in
+    joined (EachImage (HasNoMagic (content_of j).now)) (content_of j) (content_of k) last
+    (calm_none g.M.Device.tells k.failed (size_of k) (content_of j) (content_of k) since count
+    keeps.head silent
+    (λ has. none (subst (λ (n : ℕ). HasMagic n (get_or (kept_head j) 0 []))
+    (sym (g.met.M.Device.sized j.device told)) has)))
+    (none_before (content_of j) (content_of k) silent count (content_of k) last
+    (c.make_in.ensures.images told (calm_later k (content_of j) since)
+    (λ has. none (subst (λ (n : ℕ). HasMagic n (get_or (kept_head j) 0 [])) keeps.blocks
+    (subst (λ (h : List (List ℕ)). HasMagic (g.M.Device.size k.device) (get_or h 0 [])) keeps.head
+    has)))))
+
+pub returns-in-Err-clause-images : goal.returns-in-Err-clause-images
+returns-in-Err-clause-images g c = λ told calm none.
+    let j = c.args.journal in
+    let k = c.in-Err.journal in
+    let keeps = c.in-Err.ensures.keeps.keeps in
+    let count = sym (g.met.M.Device.sized k.device told) ∙ keeps.blocks
+    ∙ g.met.M.Device.sized j.device told in
+    subst (λ d. LeavesOnly (HasNoMagic (content_of j).now) (content_of j) (g.M.Device.content d))
+    (sym c.into_device.ensures)
+    (calm_none g.M.Device.tells k.failed (size_of k) (content_of j) (content_of k)
+    (keeps.calm (content_of j) calm) count keeps.head c.in-Err.ensures.keeps.silent
+    (λ has. none (subst (λ (n : ℕ). HasMagic n (get_or (kept_head j) 0 []))
+    (sym (g.met.M.Device.sized j.device told)) has)))

@@ -1,4 +1,5 @@
 use Rattle.std.proofs.Common.{ap, refl, ◌∙◌}
+use Rattle.gx_store.proofs.ShelfLemmas.{may_still}
 use Rattle.gx_store.specs.Store.{CanAttach}
 use Rattle.gx_requests.specs.Words.{inspecting, request_words}
 use Rattle.gx_top.proofs.ExamineLemmas.{unprepared_inspected}
@@ -12,7 +13,8 @@ returns-in-Ok-clause-fulfilled g c = λ can.
     let free : CanAttach g.M.Device.tells (g.M.Device.content c.prepare_stored.new.machine) =
     record {
       told = can.told;
-      free = ap (λ n. n.shelf.name) same.now ∙ can.free;
+      may = may_still (g.M.Device.content c.args.machine)
+          (g.M.Device.content c.prepare_stored.new.machine) same.now can.may;
     } in
     c.inspect_stored.ensures.fulfilled free words (g.M.Device.content c.args.machine) same
     ((c.in-Ok.ensures.prepared can.told).ready words (inspecting c.args.device.now) (tt, refl))

@@ -25,32 +25,33 @@ returns-in-Ok-clause-fulfilled g c = λ can words old same stored.
     let specs = c.deref.result.now in
     let whole = IsWhole store in
     let found = c.examine_store-found.result.0 in
+    let o = c.in-Ok.ensures.opened can in
     let seen = typed_texts words c.args.device.now x old middle stored same
     (IsSeen c.args.device.now x middle opened mid (working_of store) whole found) schema equation
     specs
     c.as_slice.ensures c.as_slice-2.ensures (search rules) (record {
       attaches = c.in-Ok.ensures.attaches can;
-      named = c.in-Ok.ensures.named can;
-      had = c.in-Ok.ensures.opened can;
+      named = o.opens.named;
+      had = (o.opens.middle.now.blocks, o.opens.was, o.is.opened);
       reopens = λ whole blocks there. reopens_before c.args.device.now schema equation specs
-          (working_of store) blocks opened (c.in-Ok.ensures.named can)
-          (c.in-Ok.ensures.kept can refl blocks there) (c.in-Ok.ensures.settled can whole);
+          (working_of store) blocks opened o.opens.named
+          ((c.in-Ok.ensures.left can).kept blocks there) (o.is.settled whole);
       holds = λ blocks others there reopens. let is =
           c.in-Ok.ensures.holds can blocks others there reopens in (is.whole, sym is.working);
-      alike = λ blocks there. c.in-Ok.ensures.kept can refl blocks there;
+      alike = (c.in-Ok.ensures.left can).kept;
       untouched = c.examine_store-found.ensures.untouched can.told
-          (c.in-Ok.ensures.just_opened can).steady;
+          o.is.just_opened.steady;
       silent = c.examine_store-found.ensures.silent;
       examined = c.examine_store-found.ensures.examined can.told
-          (c.in-Ok.ensures.just_opened can).steady;
+          o.is.just_opened.steady;
       settled = λ whole.
           subst (λ (ms : List LeafMap). IsSettled schema equation specs ms mid.now.blocks)
-          (c.in-Ok.ensures.just_opened can).kept_is
+          o.is.just_opened.kept_is
           (subst (λ (k : List LeafSpec). IsSettled schema equation k (kept_of store) mid.now.blocks)
           c.in-Ok.ensures.specs
           (c.examine_store-found.ensures.settled (schema, equation)
           (subst (λ k. IsHeadOf schema equation k (head_of store)) (sym c.in-Ok.ensures.specs)
-          (c.in-Ok.ensures.head can)) ((c.in-Ok.ensures.just_opened can).was_whole whole)));
+          o.is.head) (o.is.just_opened.was_whole whole)));
     }) in
     let row : InspectsOr words old after c.tell-status.result = (
       Request words c.args.device.now x old middle
@@ -90,11 +91,11 @@ returns-in-Err-clause-fulfilled g c = λ can words old same stored.
     let kinds : c.deref.result.now ≡ stored.typing.specs = built ∙ stored.specs_are in
     let tried : IsTried c.args.device.now stored.typing.specs middle mid c.in-Err.why = record {
       attaches = c.in-Err.ensures.attaches can;
-      no_database = λ goes blocks there none. c.in-Err.ensures.no_database can goes blocks there
+      no_database = λ goes blocks there none. (c.in-Err.ensures.left can).no_database goes blocks there
           (subst (λ (ks : List LeafSpec). ¬ HaveDatabase ks blocks) (sym kinds) none);
-      absent = c.in-Err.ensures.absent can;
-      kept = c.in-Err.ensures.kept can;
-      recovered = c.in-Err.ensures.recovered can;
+      absent = (c.in-Err.ensures.left can).absent;
+      kept = λ goes. (c.in-Err.ensures.left can).kept;
+      recovered = (c.in-Err.ensures.left can).recovered;
     } in
     let ended = subst (λ w. IsEnded w mid after c.end-status.result) c.unopened_ending.ensures
     (record { due = c.end-status.ensures.due; words = c.end-status.ensures.words can.told }) in

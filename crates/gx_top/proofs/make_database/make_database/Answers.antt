@@ -1,4 +1,5 @@
 use Rattle.std.proofs.Common.{ap, refl, ◌∙◌}
+use Rattle.gx_store.proofs.ShelfLemmas.{may_still}
 use Rattle.gx_store.specs.Store.{CanAttach}
 use Rattle.gx_play.specs.Endings.{IsEnded}
 use Rattle.gx_requests.specs.Words.{making, request_words}
@@ -21,7 +22,11 @@ returns-in-Ok-clause-fulfilled g c = λ can digits counted.
     let same = c.in-Ok.ensures.fetches.same in
     let stored = (c.in-Ok.ensures.prepared can.told).ready words a ((_, counted), refl) in
     let free : CanAttach g.M.Device.tells mid =
-    record { told = can.told; free = ap (λ n. n.shelf.name) same.now ∙ can.free } in
+    record {
+      told = can.told;
+      may = may_still (g.M.Device.content c.args.machine)
+          (g.M.Device.content c.prepare_stored.new.machine) same.now can.may;
+    } in
     let is = c.make_stored-machine.ensures.made free in
     let attaches = c.make_stored-machine.ensures.attaches free in
     let make = to_make words old.aside.texts c.args.device.now digits c.args.blocks x stored counted

@@ -54,7 +54,7 @@ returns-in-Some-Make-clause-said g c = λ told free.
     (g.M.Device.content c.make_database.result.1)
     c.make_database.result.0) (sym is.2)
     (c.make_database.ensures.fulfilled
-    (record { told = told; free = free (making _ is.0) _ _ tt is.2 }) is.0 is.1).answered.said
+    (record { told = told; may = inl (free (making _ is.0) _ _ tt is.2) }) is.0 is.1).answered.said
 
 pub returns-in-Some-Explain-clause-due : goal.returns-in-Some-Explain-clause-due
 returns-in-Some-Explain-clause-due g c = λ told free.
@@ -68,7 +68,7 @@ returns-in-Some-Make-clause-due g c = λ told free.
     c.in-Some-Make.ensures.some in
     subst (λ w. IsAsDue w (g.M.Device.content c.args.machine) c.make_database.result.0) (sym is.2)
     (c.make_database.ensures.fulfilled
-    (record { told = told; free = free (making _ is.0) _ _ tt is.2 }) is.0 is.1).answered.due
+    (record { told = told; may = inl (free (making _ is.0) _ _ tt is.2) }) is.0 is.1).answered.due
 
 pub returns-in-Some-Run-clause-said : goal.returns-in-Some-Run-clause-said
 returns-in-Some-Run-clause-said g c = λ told free.
@@ -77,7 +77,7 @@ returns-in-Some-Run-clause-said g c = λ told free.
     subst (λ w. IsOutcome w (g.M.Device.content c.args.machine)
     (g.M.Device.content c.run_script.result.1) c.run_script.result.0) (sym is)
     (c.run_script.ensures.fulfilled
-    (record { told = told; free = free (running _) _ _ tt is })).answered.said
+    (record { told = told; may = inl (free (running _) _ _ tt is) })).answered.said
 
 pub returns-in-Some-Run-clause-due : goal.returns-in-Some-Run-clause-due
 returns-in-Some-Run-clause-due g c = λ told free.
@@ -85,7 +85,7 @@ returns-in-Some-Run-clause-due g c = λ told free.
     c.in-Some-Run.ensures.some in
     subst (λ w. IsAsDue w (g.M.Device.content c.args.machine) c.run_script.result.0) (sym is)
     (c.run_script.ensures.fulfilled
-    (record { told = told; free = free (running _) _ _ tt is })).answered.due
+    (record { told = told; may = inl (free (running _) _ _ tt is) })).answered.due
 
 pub returns-in-None-clause-said : goal.returns-in-None-clause-said
 returns-in-None-clause-said g c = λ told free.
@@ -127,7 +127,7 @@ returns-in-Some-Make-clause-made g c = λ told device digits schema equation cou
     made_by_words (texts_of c.args.words.now) _ device is.0 digits _ schema _ equation
     (g.M.Device.content c.args.machine) (g.M.Device.content c.make_database.result.1)
     c.make_database.result.0 is.2 made
-    (c.make_database.ensures.fulfilled (record { told = told; free = free }) is.0 is.1).left
+    (c.make_database.ensures.fulfilled (record { told = told; may = inl free }) is.0 is.1).left
 
 pub returns-in-Some-Run-clause-made : goal.returns-in-Some-Run-clause-made
 returns-in-Some-Run-clause-made g c = λ told.
@@ -177,7 +177,7 @@ returns-in-Some-Run-clause-ran g c = λ told device schema equation too free.
     ran_by_words (texts_of c.args.words.now) _ device _ schema _ equation
     (g.M.Device.content c.args.machine)
     (g.M.Device.content c.run_script.result.1) c.run_script.result.0 is too
-    (c.run_script.ensures.fulfilled (record { told = told; free = free })).left
+    (c.run_script.ensures.fulfilled (record { told = told; may = inl free })).left
 
 pub returns-in-None-clause-ran : goal.returns-in-None-clause-ran
 returns-in-None-clause-ran g c =
@@ -191,7 +191,7 @@ returns-in-Some-Inspect-clause-said g c = λ told free.
     subst (λ w. IsOutcome w (g.M.Device.content c.args.machine)
     (g.M.Device.content c.inspect.result.1) c.inspect.result.0) (sym is)
     (c.inspect.ensures.fulfilled
-    (record { told = told; free = free (inspecting _) _ _ tt is })).answered.said
+    (record { told = told; may = inl (free (inspecting _) _ _ tt is) })).answered.said
 
 pub returns-in-Some-Inspect-clause-due : goal.returns-in-Some-Inspect-clause-due
 returns-in-Some-Inspect-clause-due g c = λ told free.
@@ -199,7 +199,7 @@ returns-in-Some-Inspect-clause-due g c = λ told free.
     c.in-Some-Inspect.ensures.some in
     subst (λ w. IsAsDue w (g.M.Device.content c.args.machine) c.inspect.result.0) (sym is)
     (c.inspect.ensures.fulfilled
-    (record { told = told; free = free (inspecting _) _ _ tt is })).answered.due
+    (record { told = told; may = inl (free (inspecting _) _ _ tt is) })).answered.due
 
 pub returns-in-Some-Inspect-clause-made : goal.returns-in-Some-Inspect-clause-made
 returns-in-Some-Inspect-clause-made g c = λ told.
@@ -222,7 +222,7 @@ returns-in-Some-Inspect-clause-inspected g c = λ told device schema equation to
     inspected_by_words (texts_of c.args.words.now) _ device _ schema _ equation
     (g.M.Device.content c.args.machine) (g.M.Device.content c.inspect.result.1) c.inspect.result.0
     is too
-    (c.inspect.ensures.fulfilled (record { told = told; free = free })).left
+    (c.inspect.ensures.fulfilled (record { told = told; may = inl free })).left
 
 pub returns-in-None-clause-inspected : goal.returns-in-None-clause-inspected
 returns-in-None-clause-inspected g c =
@@ -273,7 +273,7 @@ returns-in-Some-Work-clause-said g c = λ told free.
     subst (λ w. IsOutcome w (g.M.Device.content c.args.machine) (g.M.Device.content c.work.result.1)
     c.work.result.0) (sym is.4)
     (c.work.ensures.fulfilled
-    (record { told = told; free = free (working _ is.0 is.1) [] _ tt is.4 }) is.0 is.1 is.2
+    (record { told = told; may = inl (free (working _ is.0 is.1) [] _ tt is.4) }) is.0 is.1 is.2
     is.3).answered.said
 
 pub returns-in-Some-Work-clause-due : goal.returns-in-Some-Work-clause-due
@@ -282,7 +282,7 @@ returns-in-Some-Work-clause-due g c = λ told free.
     c.in-Some-Work.ensures.some in
     subst (λ w. IsAsDue w (g.M.Device.content c.args.machine) c.work.result.0) (sym is.4)
     (c.work.ensures.fulfilled
-    (record { told = told; free = free (working _ is.0 is.1) [] _ tt is.4 }) is.0 is.1 is.2
+    (record { told = told; may = inl (free (working _ is.0 is.1) [] _ tt is.4) }) is.0 is.1 is.2
     is.3).answered.due
 
 pub returns-in-Some-Work-clause-made : goal.returns-in-Some-Work-clause-made
@@ -318,7 +318,7 @@ returns-in-Some-Work-clause-worked g c =
     equation
     (g.M.Device.content c.args.machine) (g.M.Device.content c.work.result.1) c.work.result.0 is.4
     too
-    (c.work.ensures.fulfilled (record { told = told; free = free }) is.0 is.1 is.2 is.3).left
+    (c.work.ensures.fulfilled (record { told = told; may = inl free }) is.0 is.1 is.2 is.3).left
 
 pub returns-in-None-clause-worked : goal.returns-in-None-clause-worked
 returns-in-None-clause-worked g c =

@@ -30,6 +30,7 @@ returns-in-Ok-clause-fulfilled g c = λ can words old same stored.
     let schema = c.as_slice.result.now in
     let equation = c.as_slice-2.result.now in
     let specs = c.deref.result.now in
+    let o = c.in-Ok.ensures.opened can in
     let limit = limits_of (ground_of (journal_of (pages_of store))) (places_in store) in
     let run =
     device_run words c.args.device.now x old middle stored same opened mid limit
@@ -40,14 +41,14 @@ returns-in-Ok-clause-fulfilled g c = λ can words old same stored.
     c.as_slice-2.ensures (search rules) (record {
       said = (c.in-Ok.ensures.attaches can).said;
       script = (c.in-Ok.ensures.attaches can).script;
-      named = c.in-Ok.ensures.named can;
+      named = o.opens.named;
       shelf = c.play_stored-machine.ensures.shelf;
       begins = c.play_stored-machine.ensures.begins can.told;
-      had = c.in-Ok.ensures.opened can;
+      had = (o.opens.middle.now.blocks, o.opens.was, o.is.opened);
       holds = λ blocks maps there reopens. c.in-Ok.ensures.holds can blocks maps there reopens;
       limit_is = λ blocks there. limit_on c.args.device.now middle blocks
           (ground_of (journal_of (pages_of store))) (places_in store) specs there
-          (c.in-Ok.ensures.ground can) c.in-Ok.ensures.specs;
+          (o.opens.middle.now.blocks, o.opens.was, o.is.ground) c.in-Ok.ensures.specs;
       answered = λ s maps reaches internal.
           subst (λ k. IsPlayedAs x.schema x.built (Some limit) s
           (IsSettledIn x.schema x.built schema equation k mid.now.blocks) opened.script
@@ -56,13 +57,12 @@ returns-in-Ok-clause-fulfilled g c = λ can words old same stored.
           (c.play_stored-machine.ensures.answered can.told s maps reaches internal
           (schema, equation)
           (subst (λ k. IsHeadOf schema equation k (head_of store)) (sym c.in-Ok.ensures.specs)
-          (c.in-Ok.ensures.head can)));
+          o.is.head));
       heard = λ s maps reaches internal ok. c.play_stored-machine.ensures.heard can.told s maps
           reaches internal ok;
     })) (content c.finish-status.new.machine) c.finish-status.result
     c.play_stored-machine.ensures.ending
     (c.finish-status.ensures.finished can.told) c.finish-status.ensures.devices in
-    let had = c.in-Ok.ensures.opened can in
     record {
       answered = record {
         said = run_end words (run_task words old.aside.texts c.args.device.now x stored) old mid
@@ -76,11 +76,12 @@ returns-in-Ok-clause-fulfilled g c = λ can words old same stored.
           played_left words c.args.device.now old middle (content (machine_of c.in-Ok.store))
           (content c.play_stored-machine.result.1) (content c.finish-status.new.machine)
           c.play_stored-machine.result.0 c.finish-status.result
-          same.now had.0 had.1
+          same.now o.opens.middle.now.blocks o.opens.was
           (not_wrong words c.args.device.now c.args.stored old middle stored same
           (opened_told c.args.device.now c.args.stored c.as_slice.result.now c.as_slice-2.result.now
-          c.deref.result.now middle c.as_slice.ensures c.as_slice-2.ensures (search rules) had))
-          (c.in-Ok.ensures.attaches can) (c.in-Ok.ensures.named can)
+          c.deref.result.now middle c.as_slice.ensures c.as_slice-2.ensures (search rules)
+          (o.opens.middle.now.blocks, o.opens.was, o.is.opened)))
+          (c.in-Ok.ensures.attaches can) o.opens.named
           c.play_stored-machine.ensures.shelf
           c.finish-status.ensures.devices c.play_stored-machine.ensures.ending
           (c.finish-status.ensures.finished can.told);
@@ -103,11 +104,11 @@ returns-in-Err-clause-fulfilled g c = λ can words old same stored.
     let kinds : c.deref.result.now ≡ stored.typing.specs = built ∙ stored.specs_are in
     let tried : IsTried c.args.device.now stored.typing.specs middle mid c.in-Err.why = record {
       attaches = c.in-Err.ensures.attaches can;
-      no_database = λ goes blocks there none. c.in-Err.ensures.no_database can goes blocks there
+      no_database = λ goes blocks there none. (c.in-Err.ensures.left can).no_database goes blocks there
           (subst (λ (ks : List LeafSpec). ¬ HaveDatabase ks blocks) (sym kinds) none);
-      absent = c.in-Err.ensures.absent can;
-      kept = c.in-Err.ensures.kept can;
-      recovered = c.in-Err.ensures.recovered can;
+      absent = (c.in-Err.ensures.left can).absent;
+      kept = λ goes. (c.in-Err.ensures.left can).kept;
+      recovered = (c.in-Err.ensures.left can).recovered;
     } in
     let ended : IsEnded c.unopened_ending.result mid after c.end-status.result =
     record { due = c.end-status.ensures.due; words = c.end-status.ensures.words can.told } in

@@ -1,4 +1,5 @@
 use Rattle.std.proofs.Common.{[], ap, refl, ◌∙◌}
+use Rattle.gx_store.proofs.ShelfLemmas.{may_still}
 use Rattle.gx_store.specs.Store.{CanAttach}
 use Rattle.gx_requests.specs.Words.{working, request_words}
 use Rattle.gx_top.proofs.WorkLemmas.{unprepared_worked}
@@ -11,7 +12,8 @@ returns-in-Ok-clause-fulfilled g c = λ can digits number counted recorded.
     let same = c.in-Ok.ensures.fetches.same in
     let free : CanAttach g.M.Device.tells (g.M.Device.content c.prepare_work.new.machine) = record {
       told = can.told;
-      free = ap (λ n. n.shelf.name) same.now ∙ can.free;
+      may = may_still (g.M.Device.content c.args.machine)
+          (g.M.Device.content c.prepare_work.new.machine) same.now can.may;
     } in
     c.work_stored.ensures.fulfilled digits number counted recorded free words
     (g.M.Device.content c.args.machine) same
