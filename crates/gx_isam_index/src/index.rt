@@ -8,7 +8,7 @@ ghost use Rattle.gx_ports.specs.Keyed.{key_cmp};
 ghost use Rattle.gx_isam_index.specs.Index.{IsFitSeparator, HoldsAscending, IsIndexPage, behind_firsts, bucket_count, bucket_of, first_page_of, last_bucket, lent, part_of, separator_bytes, separators_of};
 
 use gx_bytes::{NONE, has_kind, overwrite, record_count, split_u16, split_u32, write_header};
-use gx_order::is_below;
+use gx_order::{compare_bytes, is_below};
 
 /// The byte that an index page begins with.
 pub(crate) const KIND: u8 = 0x58;
@@ -194,5 +194,5 @@ fn part_of<'a>(separator: &'a [u8], key: &[u8], front: bool) -> &'a [u8]
 fn is_at_most(a: &[u8], b: &[u8]) -> bool
     ensures { result ≡ is_le (key_cmp a.now b.now) }
 {
-    a.cmp(b).is_le()
+    compare_bytes(a, b).is_le()
 }

@@ -14,6 +14,20 @@ pub fn compare_bytes(a: &[u8], b: &[u8]) -> Ordering
     let (Some((x, rest)), Some((y, others))) = (split_u64(a), split_u64(b)) else {
         return a.cmp(b);
     };
+    if x != y {
+        x.cmp(&y)
+    } else {
+        compare_front(rest, others)
+    }
+}
+
+// The same, where fewer are equal.
+fn compare_front(a: &[u8], b: &[u8]) -> Ordering
+    ensures { result ≡ slice_cmp nat_cmp a.now b.now }
+{
+    let (Some((x, rest)), Some((y, others))) = (split_u64(a), split_u64(b)) else {
+        return a.cmp(b);
+    };
     if x != y { x.cmp(&y) } else { rest.cmp(others) }
 }
 

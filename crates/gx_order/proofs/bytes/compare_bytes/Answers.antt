@@ -14,6 +14,6 @@ pub returns-else-x-y : goal.returns-else-x-y
 returns-else-x-y c =
     let left = c.in-Some-Some.ensures in
     let right = c.in-Some-Some.ensures' in
-    c.cmp-else-x-y.ensures
+    c.compare_front.ensures
     ∙ by_others _ _ _ _ c.in-Some-Some.rest.now c.in-Some-Some.others.now left.0 right.0 left.1
     right.1 c.if-x-y.false
