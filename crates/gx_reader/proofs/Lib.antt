@@ -1,0 +1,2 @@
+mod ReaderLemmas
+pub mod FoundLemmas
