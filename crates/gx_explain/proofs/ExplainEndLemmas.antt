@@ -1,6 +1,6 @@
 -- From the lines that are explained to what a request to explain says.
-use Rattle.std.proofs.Common.{◌≡◌, ℕ, ◌+◌, ◌<◌, List, [], ◌∷◌, ◌++◌, length, take, map, Bool, false, Result, Ok, Err, Option, Some, None, refl, sym, ap, subst, ◌∙◌, arith, inl, inr}
-use Rattle.std.specs.Prelude.{◌⊎◌, min}
+use Rattle.std.proofs.Common.{◌≡◌, ℕ, ◌+◌, List, [], ◌∷◌, ◌++◌, length, take, map, Bool, Result, Ok, Err, Option, Some, None, refl, sym, ap, subst, ◌∙◌, arith, inl, inr}
+use Rattle.std.specs.Prelude.{min}
 use Rattle.std.proofs.lemmas.List.{append-nil, take-append-le}
 use Rattle.gx_device.specs.Content.{Content}
 use Rattle.gx_ports.specs.declared.stop.Stop.{Stop}
@@ -8,7 +8,7 @@ use Rattle.gx_ports.specs.declared.stop.Stop.TheVariants as stop
 use Rattle.gx_schema.specs.declared.schema.Schema.{Schema}
 use Rattle.gx_schema.specs.Lookups.{file_at}
 use Rattle.gx_commands.specs.declared.command.LineWhy.{LineWhy}
-use Rattle.gx_commands.specs.Lines.{Lines, script_lines, longest_script}
+use Rattle.gx_commands.specs.Lines.{Lines, script_lines}
 use Rattle.gx_equation.specs.Trees.{DefinitionTree}
 use Rattle.gx_stack.specs.declared.node.Node.{Node}
 use Rattle.gx_types.specs.declared.any.AnyMapping.{AnyMapping}
@@ -22,12 +22,10 @@ use Rattle.gx_play.specs.declared.play.PlayEnd.TheVariants as play_end
 use Rattle.gx_play.specs.declared.status.Status.{Status}
 use Rattle.gx_play.specs.declared.status.Status.TheVariants as status
 use Rattle.gx_play.specs.Endings.{ending_line, memory_line, ending_of, IsEnded}
-use Rattle.gx_play.specs.Plays.{IsHeard, HasCause}
 use Rattle.gx_play.specs.Say.{IsCut}
 use Rattle.gx_play.specs.Played.{SaysText, SaysFront}
-use Rattle.gx_explain.specs.Explained.{indexed_fields, IsExplainEnd, IsExplainedTo, AreFirstExplained, IsMemoryExplanation, IsSomeText, IsScriptExplained}
+use Rattle.gx_explain.specs.Explained.{indexed_fields, IsExplainedTo, AreFirstExplained, IsMemoryExplanation, IsSomeText, IsScriptExplained}
 use Rattle.gx_explain.specs.Explaining.{fields_in, SaysPlans}
-use Rattle.gx_play.proofs.OverLemmas.{heard_lines, long_stops}
 use Rattle.gx_explain.proofs.BehindLemmas.{behind, front_behind, taken}
 
 -- the fields that are indexed in nodes are those that are indexed in the terms that they mean
@@ -49,87 +47,6 @@ front_within old new text line is =
     )
 
 module _ (schema : Schema) (indexed : ℕ → List Bool) where
-  -- ---- what was heard of a script
-
-  said_from : (P : List ℕ → Type 0) (old mid new : Content) → mid.now.said ≡ old.now.said
-      → SaysText P mid new → SaysText P old new
-  said_from P old mid new same is = (is.0, is.1, is.2 ∙ ap (λ t. t ++ is.0) same)
-
-  -- nothing was said before
-  pub plans_from : (all : Lines) (old mid new : Content) (result : Result (Unit {0}) PlayEnd)
-      → mid.now.said ≡ old.now.said → SaysPlans schema indexed all mid new result
-      → SaysPlans schema indexed all old new result
-  plans_from all old mid new (Ok x) same is =
-      said_from (IsExplainedTo schema indexed all good) old mid new same is
-  plans_from all old mid new (Err (play_end.Line number why)) same is =
-      said_from (IsExplainedTo schema indexed all (stopped number why)) old mid new same is
-  plans_from all old mid new (Err (play_end.Stop stop.NoMemory)) same is =
-      said_from (AreFirstExplained schema indexed all) old mid new same is
-  plans_from all old mid new (Err (play_end.Stop stop.Fault)) same is =
-      (is.0, is.1, (is.2.0, is.2.1 ∙ ap (λ t. t ++ take is.2.0 is.0) same))
-  plans_from all old mid new (Err (play_end.Stop stop.Full)) same is = absurd is
-  plans_from all old mid new (Err (play_end.Stop (stop.Damaged block))) same is = absurd is
-
-  -- what was heard has the lines of the whole script
-  pub plans_of : (script left heard : List ℕ) (old new : Content)
-      (result : Result (Unit {0}) PlayEnd)
-      → IsHeard script left heard → SaysPlans schema indexed (script_lines heard) old new result
-      → SaysPlans schema indexed (script_lines script) old new result
-  plans_of script left heard old new result is =
-      subst (λ all. SaysPlans schema indexed all old new result) (heard_lines script left heard is)
-
-  none_explained : (all : Lines) → AreFirstExplained schema indexed all []
-  none_explained all = record {
-    ran = [];
-    later = all.lines;
-    parts = refl;
-    inside = false;
-    explained = (refl, refl);
-  }
-
-  -- before a line is explained
-  pub unheard_plans : (all : Lines) (old new : Content) (before now : ℕ) (why : Stop)
-      → new.now.said ≡ old.now.said → HasCause before now why
-      → SaysPlans schema indexed all old new (Err (play_end.Stop why))
-  unheard_plans all old new before now stop.Fault same cause =
-      ([], none_explained all, (0, same ∙ sym (append-nil old.now.said)))
-  unheard_plans all old new before now stop.NoMemory same cause =
-      ([], none_explained all, same ∙ sym (append-nil old.now.said))
-  unheard_plans all old new before now stop.Full same cause = absurd cause
-  unheard_plans all old new before now (stop.Damaged block) same cause = absurd cause
-
-  -- where no line ended it, the whole script was heard
-  all_lines : (all : Lines) (ran : List (List ℕ)) (next : Result (Option (List ℕ)) LineWhy)
-      (inside : Bool)
-      (n : ℕ) → AreFirstLines all ran next → IsExplainEnd schema inside n next good
-      → all.stop ≡ None
-  all_lines all ran (Ok None) inside n first ends = first.1
-  all_lines all ran (Ok (Some line)) inside n first ends = absurd (not_good ends.2)
-    where
-      not_good : ◌≡◌ {A = End} good (stopped (n + 1) ends.0) → ⊥
-      not_good e = cc
-  all_lines all ran (Err why) inside n first ends = absurd (not_good ends)
-    where
-      not_good : ◌≡◌ {A = End} good (stopped (n + 1) why) → ⊥
-      not_good e = cc
-
-  pub heard_whole : (script left heard : List ℕ) (old new : Content)
-      (result : Result (Unit {0}) PlayEnd)
-      → IsHeard script left heard → SaysPlans schema indexed (script_lines heard) old new result
-      → result ≡ Ok tt → left ≡ []
-  unfolding longest_script
-  heard_whole script left heard old new result is said ok = by_end is.end
-    where
-      to : SaysText (IsExplainedTo schema indexed (script_lines heard) good) old new
-      to = subst (SaysPlans schema indexed (script_lines heard) old new) ok said
-
-      by_end : ((left ≡ []) ⊎ (16777216 < length heard)) → left ≡ []
-      by_end (inl none) = none
-      by_end (inr long) =
-          absurd (long_stops heard long
-          (all_lines (script_lines heard) to.1.ran to.1.next to.1.inside
-          (length to.1.ran) to.1.first to.1.ends))
-
   -- ---- behind the plans, the line of the end
 
   pub done_said : (old new : Content)

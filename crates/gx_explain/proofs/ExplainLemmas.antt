@@ -1,6 +1,6 @@
 -- The loop over the lines of a script that is explained.
 use Rattle.std.proofs.Common.{◌≡◌, ℕ, ◌+◌, List, [], ◌∷◌, ◌++◌, length, take, Bool, false, Result, Ok, Err, Option, Some, None, refl, sym, ap, subst, ◌∙◌, arith}
-use Rattle.std.proofs.lemmas.List.{append-nil, append_assoc, length-append}
+use Rattle.std.proofs.lemmas.List.{append-nil, append_assoc, length-append, take_all}
 use Rattle.std.proofs.Math.Seq.{take-append-add}
 use Rattle.gx_device.specs.Content.{Content}
 use Rattle.gx_ports.specs.declared.stop.Stop.{Stop}
@@ -8,7 +8,9 @@ use Rattle.gx_ports.specs.declared.stop.Stop.TheVariants as stop
 use Rattle.gx_schema.specs.declared.schema.Schema.{Schema}
 use Rattle.gx_commands.specs.declared.command.LineWhy.{LineWhy}
 use Rattle.gx_commands.specs.Commands.{inside_after}
-use Rattle.gx_commands.specs.Lines.{Lines, with_line, no_lines, stopped as stopped_lines}
+use Rattle.gx_commands.specs.Lines.{Lines, with_line, no_lines, script_lines, stopped as stopped_lines}
+use Rattle.gx_reader.specs.declared.reader.LineReader.{LineReader}
+use Rattle.gx_reader.specs.Reader.{meant, number_of}
 use Rattle.gx_model.specs.Play.{End, good, stopped}
 use Rattle.gx_model.specs.Runs.{IsBadLine, AreFirstLines}
 use Rattle.gx_explain.specs.declared.explanation.ExplainedLine.{ExplainedLine}
@@ -18,7 +20,7 @@ use Rattle.gx_play.specs.Plays.{IsBadAt, IsLineEnd}
 use Rattle.gx_play.specs.Played.{SaysText, SaysFront}
 use Rattle.gx_play.proofs.PlayLemmas.{parts_more}
 use Rattle.gx_explain.specs.Explained.{command_text, AreExplained, IsExplainEnd, IsExplainedTo, AreFirstExplained}
-use Rattle.gx_explain.specs.Explaining.{IsLineExplained, SaysPlans}
+use Rattle.gx_explain.specs.Explaining.{IsLineExplained, SaysPlans, IsSoFar, HasEndCause}
 
 module _ (schema : Schema) (indexed : ℕ → List Bool) where
   -- ---- lines one behind the other
@@ -50,18 +52,7 @@ module _ (schema : Schema) (indexed : ℕ → List Bool) where
 
   -- ---- so far
 
-  -- what was said of the lines that were read so far, when these are left
-  pub record IsSoFar (all left : Lines) (number : ℕ) (inside : Bool) (old new : Content) : Type 0
-    where
-      pub ran : List (List ℕ)
-      pub many : length ran ≡ number
-      pub lines_are : all.lines ≡ ran ++ left.lines
-      pub stop_is : all.stop ≡ left.stop
-      pub text : List ℕ
-      pub explained : AreExplained schema indexed 1 false ran text inside
-      pub said : new.now.said ≡ old.now.said ++ text
-
-  pub at_start : (all : Lines) (old : Content) → IsSoFar all all 0 false old old
+  pub at_start : (all : Lines) (old : Content) → IsSoFar schema indexed all all 0 false old old
   at_start all old = record {
     ran = [];
     many = refl;
@@ -89,10 +80,10 @@ module _ (schema : Schema) (indexed : ℕ → List Bool) where
   pub after_line : (all before left : Lines) (number : ℕ) (inside : Bool) (line : List ℕ)
       (x : ExplainedLine)
       (old mid new : Content) → before ≡ with_line line left
-      → IsSoFar all before number inside old mid
+      → IsSoFar schema indexed all before number inside old mid
       → IsLineExplained schema indexed inside (number + 1) line x
       → new.now.said ≡ mid.now.said ++ x.text
-      → IsSoFar all left (number + 1) x.inside old new
+      → IsSoFar schema indexed all left (number + 1) x.inside old new
   after_line all before left number inside line x old mid new before_is so is said = record {
     ran = so.ran ++ line ∷ [];
     many = length-append so.ran (line ∷ []) ∙ ap (λ n. n + 1) so.many;
@@ -107,7 +98,7 @@ module _ (schema : Schema) (indexed : ℕ → List Bool) where
 
   ended : (all left : Lines) (number : ℕ) (inside : Bool) (next : Result (Option (List ℕ)) LineWhy)
       (end : End)
-      (old new : Content) → (so : IsSoFar all left number inside old new)
+      (old new : Content) → (so : IsSoFar schema indexed all left number inside old new)
       → AreFirstLines all so.ran next
       → IsExplainEnd schema inside number next end
       → SaysText (IsExplainedTo schema indexed all end) old new
@@ -128,7 +119,8 @@ module _ (schema : Schema) (indexed : ℕ → List Bool) where
   -- no more lines are left
   all_ran : (all left : Lines) (number : ℕ) (inside : Bool) (stop : Option LineWhy)
       (old new : Content)
-      → left ≡ record { lines = []; stop = stop } → (so : IsSoFar all left number inside old new)
+      → left ≡ record { lines = []; stop = stop }
+      → (so : IsSoFar schema indexed all left number inside old new)
       → (all.lines ≡ so.ran) × (all.stop ≡ stop)
   all_ran all left number inside stop old new left_is so = (
     so.lines_are ∙ ap (λ (ls : Lines). so.ran ++ ls.lines) left_is ∙ append-nil so.ran,
@@ -136,7 +128,7 @@ module _ (schema : Schema) (indexed : ℕ → List Bool) where
   )
 
   pub at_end : (all left : Lines) (number : ℕ) (inside : Bool) (old new : Content)
-      → IsSoFar all left number inside old new → left ≡ no_lines
+      → IsSoFar schema indexed all left number inside old new → left ≡ no_lines
       → SaysText (IsExplainedTo schema indexed all good) old new
   at_end all left number inside old new so left_is =
       ended all left number inside (Ok None) good old new so
@@ -144,7 +136,8 @@ module _ (schema : Schema) (indexed : ℕ → List Bool) where
 
   -- where the line behind can't be had
   at_stop : (all left : Lines) (number n : ℕ) (inside : Bool) (reason : LineWhy) (old new : Content)
-      → IsSoFar all left number inside old new → n ≡ number + 1 → left ≡ stopped_lines reason
+      → IsSoFar schema indexed all left number inside old new → n ≡ number + 1
+      → left ≡ stopped_lines reason
       → SaysText (IsExplainedTo schema indexed all (stopped n reason)) old new
   at_stop all left number n inside reason old new so n_is left_is =
       ended all left number inside (Err reason) (stopped n reason) old new so
@@ -153,7 +146,7 @@ module _ (schema : Schema) (indexed : ℕ → List Bool) where
 
   pub at_line_end : (all left : Lines) (number : ℕ) (inside : Bool) (end : PlayEnd)
       (result : Result (Unit {0}) PlayEnd) (old new : Content)
-      → IsSoFar all left number inside old new
+      → IsSoFar schema indexed all left number inside old new
       → result ≡ Err end → IsLineEnd left number end → SaysPlans schema indexed all old new result
   at_line_end all left number inside (play_end.Line n reason) result old new so result_is is =
       subst (λ r. SaysPlans schema indexed all old new r) (sym result_is)
@@ -163,7 +156,8 @@ module _ (schema : Schema) (indexed : ℕ → List Bool) where
   -- at a line that means no command, or one that may not stand there
   at_bad_line : (all before left : Lines) (number : ℕ) (inside : Bool) (line : List ℕ)
       (reason : LineWhy)
-      (old new : Content) → before ≡ with_line line left → IsSoFar all before number inside old new
+      (old new : Content) → before ≡ with_line line left
+      → IsSoFar schema indexed all before number inside old new
       → IsBadLine schema inside line reason
       → SaysText (IsExplainedTo schema indexed all (stopped (number + 1) reason)) old new
   at_bad_line all before left number inside line reason old new before_is so bad =
@@ -172,7 +166,8 @@ module _ (schema : Schema) (indexed : ℕ → List Bool) where
       (reason, bad, refl)
 
   first_so_far : (all left : Lines) (number : ℕ) (inside : Bool) (old new : Content)
-      → (so : IsSoFar all left number inside old new) → AreFirstExplained schema indexed all so.text
+      → (so : IsSoFar schema indexed all left number inside old new)
+      → AreFirstExplained schema indexed all so.text
   first_so_far all left number inside old new
       so = record {
         ran = so.ran;
@@ -186,7 +181,7 @@ module _ (schema : Schema) (indexed : ℕ → List Bool) where
   pub at_line : (all before left : Lines) (number : ℕ) (inside : Bool) (line : List ℕ)
       (end : PlayEnd)
       (result : Result (Unit {0}) PlayEnd) (old new : Content) → before ≡ with_line line left
-      → IsSoFar all before number inside old new → result ≡ Err end
+      → IsSoFar schema indexed all before number inside old new → result ≡ Err end
       → ((n : ℕ) (reason : LineWhy) → end ≡ play_end.Line n reason
       → IsBadAt schema inside (number + 1) line n reason)
       → ((why : Stop) → end ≡ play_end.Stop why → why ≡ stop.NoMemory)
@@ -207,7 +202,7 @@ module _ (schema : Schema) (indexed : ℕ → List Bool) where
   -- where saying the plan of a line failed
   pub at_fault : (all before left : Lines) (number n : ℕ) (inside : Bool) (line piece : List ℕ)
       (x : ExplainedLine) (old mid new : Content) → before ≡ with_line line left
-      → IsSoFar all before number inside old mid
+      → IsSoFar schema indexed all before number inside old mid
       → IsLineExplained schema indexed inside (number + 1) line x
       → piece ≡ x.text → new.now.said ≡ mid.now.said ++ take n piece
       → SaysFront (AreFirstExplained schema indexed all) old new
@@ -229,3 +224,49 @@ module _ (schema : Schema) (indexed : ℕ → List Bool) where
               ∙ ap (λ t. old.now.said ++ t) (sym (take-append-add so.text x.text n)),
         ),
       )
+
+  -- where nothing could be heard
+  pub at_unheard : (all left : Lines) (number : ℕ) (inside : Bool) (old mid new : Content)
+      → IsSoFar schema indexed all left number inside old mid → new.now.said ≡ mid.now.said
+      → SaysFront (AreFirstExplained schema indexed all) old new
+  at_unheard all left number inside old mid new so same = (
+    so.text,
+    first_so_far all left number inside old mid so,
+    (
+      length so.text,
+      same ∙ so.said ∙ ap (λ t. old.now.said ++ t) (sym (take_all (length so.text) so.text
+          (omega arith))),
+    ),
+  )
+
+  -- to hear says nothing
+  pub still_so : (all left : Lines) (number : ℕ) (inside : Bool) (old mid new : Content)
+      → IsSoFar schema indexed all left number inside old mid → new.now.said ≡ mid.now.said
+      → IsSoFar schema indexed all left number inside old new
+  still_so all left number inside old mid new so same = record {
+    ran = so.ran;
+    many = so.many;
+    lines_are = so.lines_are;
+    stop_is = so.stop_is;
+    text = so.text;
+    explained = so.explained;
+    said = same ∙ so.said;
+  }
+
+  -- a new reader stands before the first line
+  pub at_new : (script : List ℕ) (reader : LineReader) (old : Content)
+      → ((t : List ℕ) → meant reader t ≡ script_lines t) → number_of reader ≡ 0
+      → IsSoFar schema indexed (script_lines script) (meant reader script) (number_of reader) false
+      old old
+  at_new script reader old lines number =
+      subst
+      (λ n. IsSoFar schema indexed (script_lines script) (meant reader script) n false old old)
+      (sym number)
+      (subst (λ ls. IsSoFar schema indexed (script_lines script) ls 0 false old old)
+      (sym (lines script)) (at_start (script_lines script) old))
+
+-- a limit that is passed needs no cause
+pub end_cause : (lines : Lines) (number : ℕ) (end : PlayEnd) (before now : ℕ)
+    → IsLineEnd lines number end → HasEndCause before now end
+end_cause lines number (play_end.Line n why) before now is = tt
+end_cause lines number (play_end.Stop why) before now is = absurd is

@@ -1,8 +1,8 @@
 // What is said of a script that is explained: how each `find` looks for its records.
-ghost use Rattle.std.specs.Prelude.{◌≡◌, ◌≤◌, ◌<◌, ◌^◌, ℕ, Err, length, false, IsTrue, IfOk, IfErr};
+ghost use Rattle.std.specs.Prelude.{◌≡◌, ◌≤◌, ◌<◌, ◌^◌, ℕ, Err, length, false, IsTrue, IfOk, IfErr, OnOk};
 ghost use Rattle.gx_schema.specs.WellFormed.{IsWellFormed};
 ghost use Rattle.gx_commands.specs.Commands.{IsOfSchema, IsFindOf, conds_of, inside_after};
-ghost use Rattle.gx_commands.specs.Lines.{longest_line, script_lines};
+ghost use Rattle.gx_commands.specs.Lines.{longest_line};
 ghost use Rattle.gx_types.specs.Nodes.{AreNodes};
 ghost use Rattle.gx_planner.specs.Plans.{least_plan};
 ghost use Rattle.gx_planner.specs.Texts.{plan_text};
@@ -10,14 +10,17 @@ ghost use Rattle.gx_commands.specs.declared.command.LineWhy.{LineWhy};
 ghost use Rattle.gx_play.specs.Plays.{IsBadAt, is_play_fault};
 ghost use Rattle.gx_play.specs.Say.{OnlySays, SameDevices};
 ghost use Rattle.gx_explain.specs.Explained.{command_text};
-ghost use Rattle.gx_explain.specs.Explaining.{fields_in, IsLineExplained, HasEndCause, SaysPlans};
+ghost use Rattle.gx_reader.specs.Reader.{IsOpen};
+ghost use Rattle.gx_reader.specs.Pieces.{IsTaken};
+ghost use Rattle.gx_explain.specs.Explaining.{fields_in, IsLineExplained, HasEndCause, ExplainsPiece, ExplainsLast, ExplainsLine};
 
-use gx_commands::{Command, Find, ScriptLines};
+use gx_commands::{Command, Find};
 use gx_device::Device;
 use gx_finds::indexed_fields;
 use gx_planner::{plan, plan_line};
 use gx_play::{PlayEnd, next_line, placed_command, say_all};
 use gx_ports::Stop;
+use gx_reader::LineReader;
 use gx_schema::Schema;
 use gx_states::{file_def, file_node};
 use gx_types::Built;
@@ -31,23 +34,67 @@ struct ExplainedLine {
     inside: bool,
 }
 
-/// Says the plan of each `find` of a script of the schema, whose files are stored in these nodes,
-/// up to the script's end or the line that ends it. No line is carried out, and each plan is said
-/// whole before the next line is read. On a device that tells its content: after `Ok` and `Line`
-/// exactly the plans up to there were said; after `Stop` those of the first lines, and after
-/// `Stop(Fault)` a front of them. Of a stop, `Fault` comes only where the count of faults rose, and
-/// the other one is `NoMemory`. No block is written.
-pub fn explain_lines<D: Device>(
+/// Says the plan of each `find` of the lines that end in a piece of a script of the schema, whose
+/// files are stored in these nodes, up to the piece's end or the line that ends it, and answers
+/// whether a transaction is open behind them, as is told of before them. No line is carried out,
+/// and each plan is said whole before the next line is read. On a device that tells its content:
+/// after `Ok` and `Line` exactly the plans up to there were said; after `Stop` those of the first
+/// lines, and after `Stop(Fault)` a front of them. Of a stop, `Fault` comes only where the count of
+/// faults rose, and the other one is `NoMemory`. No block is written.
+pub fn explain_piece<D: Device>(
     alloc: Global,
     schema: &Schema,
     built: &Built,
-    script: &[u8],
+    piece: &[u8],
+    inside: bool,
+    reader: &mut LineReader,
+    device: &mut D,
+) -> Result<bool, PlayEnd>
+    requires well_formed { IsWellFormed schema.now }
+    requires nodes { AreNodes schema.now built.now.files (length built.now.specs) }
+    requires open { IsOpen reader.old }
+    ensures said { IsTrue D.tells →
+        ExplainsPiece schema.now (fields_in schema.now built.now.files) piece.now inside reader.old
+        reader.new (D.content device.old) (D.content device.new) result }
+    ensures taken { OnOk result (IsTaken (length piece.now) reader.old reader.new) }
+    ensures cause { IfErr result (HasEndCause (D.faults device.old) (D.faults device.new)) }
+    ensures counted { is_play_fault result ≡ false → D.faults device.new ≡ D.faults device.old }
+    ensures later { D.faults device.old ≤ D.faults device.new }
+    ensures rest { OnlySays (D.content device.old) (D.content device.new) }
+    ensures devices { SameDevices (D.content device.old) (D.content device.new) }
+{
+    let mut rest = piece;
+    let mut open = inside;
+    while let Some(count) = next_line(reader, rest)? {
+        rest = &rest[count..];
+        open = explain_line(
+            alloc,
+            schema,
+            built,
+            open,
+            reader.number(),
+            reader.line(),
+            device,
+        )?;
+    }
+    Ok(open)
+}
+
+/// Says the plan of the last line of a script that ended, where it has no LF, as of
+/// `explain_piece`.
+pub fn explain_last<D: Device>(
+    alloc: Global,
+    schema: &Schema,
+    built: &Built,
+    inside: bool,
+    reader: &mut LineReader,
     device: &mut D,
 ) -> Result<(), PlayEnd>
     requires well_formed { IsWellFormed schema.now }
     requires nodes { AreNodes schema.now built.now.files (length built.now.specs) }
+    requires open { IsOpen reader.old }
     ensures said { IsTrue D.tells →
-        SaysPlans schema.now (fields_in schema.now built.now.files) (script_lines script.now)
+        ExplainsLast schema.now (fields_in schema.now built.now.files) inside reader.old
         (D.content device.old) (D.content device.new) result }
     ensures cause { IfErr result (HasEndCause (D.faults device.old) (D.faults device.new)) }
     ensures counted { is_play_fault result ≡ false → D.faults device.new ≡ D.faults device.old }
@@ -55,18 +102,41 @@ pub fn explain_lines<D: Device>(
     ensures rest { OnlySays (D.content device.old) (D.content device.new) }
     ensures devices { SameDevices (D.content device.old) (D.content device.new) }
 {
-    let mut lines = ScriptLines::new(script);
-    let mut number = 0u32;
-    let mut inside = false;
-    while let Some(line) = next_line(&mut lines, number)? {
-        number += 1;
-        let explained = explained_line(alloc, schema, built, inside, number, line)?;
-        let Ok(()) = say_all(device, explained.text.as_slice()) else {
-            return Err(PlayEnd::Stop(Stop::Fault));
-        };
-        inside = explained.inside;
+    if !reader.last_line() {
+        return Ok(());
     }
+    let number = reader.number();
+    explain_line(alloc, schema, built, inside, number, reader.line(), device)?;
     Ok(())
+}
+
+// Says the plan of the line of this number, and answers whether a transaction is open behind it.
+fn explain_line<D: Device>(
+    alloc: Global,
+    schema: &Schema,
+    built: &Built,
+    inside: bool,
+    number: u32,
+    line: &[u8],
+    device: &mut D,
+) -> Result<bool, PlayEnd>
+    requires well_formed { IsWellFormed schema.now }
+    requires nodes { AreNodes schema.now built.now.files (length built.now.specs) }
+    requires short { length line.now ≤ longest_line }
+    ensures said { IsTrue D.tells →
+        ExplainsLine schema.now (fields_in schema.now built.now.files) line.now number inside
+        (D.content device.old) (D.content device.new) result }
+    ensures cause { IfErr result (HasEndCause (D.faults device.old) (D.faults device.new)) }
+    ensures counted { is_play_fault result ≡ false → D.faults device.new ≡ D.faults device.old }
+    ensures later { D.faults device.old ≤ D.faults device.new }
+    ensures rest { OnlySays (D.content device.old) (D.content device.new) }
+    ensures devices { SameDevices (D.content device.old) (D.content device.new) }
+{
+    let explained = explained_line(alloc, schema, built, inside, number, line)?;
+    let Ok(()) = say_all(device, explained.text.as_slice()) else {
+        return Err(PlayEnd::Stop(Stop::Fault));
+    };
+    Ok(explained.inside)
 }
 
 // What is said of the line of this number, which stands inside a transaction or outside, as is

@@ -8,16 +8,18 @@ ghost use Rattle.gx_play.specs.Plays.{is_play_fault};
 ghost use Rattle.gx_explain.specs.Explained.{IsScriptExplained};
 ghost use Rattle.gx_explain.specs.Explaining.{fields_in, HasEndCause, SaysPlans};
 
-use crate::explanation::explain_lines;
+use crate::explanation::{explain_last, explain_piece};
 use gx_device::Machine;
-use gx_play::{Ending, PlayEnd, Status, end, hear_all};
+use gx_play::{Ending, PIECE_LEN, PlayEnd, Status, end};
+use gx_ports::Stop;
+use gx_reader::LineReader;
 use gx_schema::Schema;
 use gx_types::Built;
 use std::alloc::Global;
 
-/// Hears the script of a schema whose files are stored in these nodes and says the plan of each
-/// `find`, and why it ends early. No line is carried out, no block is written, and no device is
-/// attached.
+/// Hears the script of a schema in pieces, whose files are stored in these nodes, and says the plan
+/// of each `find`, and why it ends early. The plan of a line is said before more is heard. No line
+/// is carried out, no block is written, and no device is attached.
 pub fn explain_script<M: Machine>(
     alloc: Global,
     schema: &Schema,
@@ -40,7 +42,7 @@ pub fn explain_script<M: Machine>(
     }
 }
 
-// Hears the script and explains its lines.
+// Hears the script in pieces and explains its lines.
 fn explain_heard<M: Machine>(
     alloc: Global,
     schema: &Schema,
@@ -60,6 +62,17 @@ fn explain_heard<M: Machine>(
     ensures counted { is_play_fault result ≡ false → M.faults machine.new ≡ M.faults machine.old }
     ensures later { M.faults machine.old ≤ M.faults machine.new }
 {
-    let script = hear_all(alloc, machine)?;
-    explain_lines(alloc, schema, built, &script, machine)
+    let mut reader = LineReader::new();
+    let mut piece = [0u8; PIECE_LEN];
+    let mut inside = false;
+    loop {
+        let Ok(count) = machine.hear(&mut piece) else {
+            return Err(PlayEnd::Stop(Stop::Fault));
+        };
+        if count == 0 {
+            return explain_last(alloc, schema, built, inside, &mut reader, machine);
+        }
+        let heard = &piece[..count];
+        inside = explain_piece(alloc, schema, built, heard, inside, &mut reader, machine)?;
+    }
 }

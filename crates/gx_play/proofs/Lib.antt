@@ -1,5 +1,6 @@
 mod SayLemmas
 mod LineLemmas
+mod PieceLemmas
 pub mod AnsweringLemmas
 pub mod PlayLemmas
 mod HoldingLemmas

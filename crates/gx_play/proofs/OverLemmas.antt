@@ -1,22 +1,16 @@
--- From the play of lines to the play of what was heard, over leaves, and how a request ends there.
-use Rattle.std.proofs.Common.{◌≡◌, ℕ, ◌+◌, ◌<◌, ◌≤◌, List, [], ◌∷◌, ◌++◌, length, take, Bool, true, false, Result, Ok, Err, Option, Some, None, refl, sym, ap, subst, ◌∙◌, arith, inl, inr}
-use Rattle.std.specs.Prelude.{◌⊎◌, ◌≢◌, nat_lt, if◌then◌else◌, IfErr, IsErrOf}
-use Rattle.std.proofs.lemmas.Bool.Decides.{nat_tests}
-use Rattle.std.proofs.lemmas.List.{append-nil, take-append-le}
+-- From the play of lines to the play of a script over leaves, and how a request ends there.
+use Rattle.std.proofs.Common.{◌≡◌, ℕ, ◌≤◌, List, ◌++◌, false, Result, Ok, Err, Option, refl, sym, ap, subst, ◌∙◌, arith, inl, inr}
+use Rattle.std.specs.Prelude.{◌⊎◌, ◌≢◌, IfErr, IsErrOf}
 use Rattle.gx_device.specs.Faults.{Rose}
 use Rattle.gx_ports.specs.LeafMaps.{Limits}
 use Rattle.gx_ports.specs.declared.stop.Stop.{Stop}
 use Rattle.gx_ports.specs.declared.stop.Stop.TheVariants as stop
 use Rattle.gx_ports.specs.declared.view.View.{Ghosts}
 use Rattle.gx_schema.specs.declared.schema.Schema.{Schema}
-use Rattle.gx_commands.specs.declared.command.LineWhy.{LineWhy}
-use Rattle.gx_commands.specs.declared.command.LineWhy.TheVariants as why
-use Rattle.gx_commands.specs.Lines.{Lines, parts_of, up_to_limit, with_line, without_cr, last_line, lines_within, longest_line, script_lines, longest_script, stopped as stopped_lines}
-use Rattle.gx_commands.proofs.LineLaws.{enough_lines}
+use Rattle.gx_commands.specs.Lines.{script_lines}
 use Rattle.gx_types.specs.declared.built.Built.{Built}
 use Rattle.gx_model.specs.States.{State}
-use Rattle.gx_model.specs.Play.{Playing, End, good, stopped, start_at}
-use Rattle.gx_model.specs.Runs.{IsEnd, AreFirstLines, IsPlayFrom}
+use Rattle.gx_model.specs.Play.{End, good, stopped, start_at}
 use Rattle.gx_engine.specs.declared.engine.Engine.{Engine}
 use Rattle.gx_engine.specs.Steps.{IsAt, schema_of, built_of, leaves_of}
 use Rattle.gx_play.specs.declared.ending.DeviceWhy.{DeviceWhy}
@@ -25,63 +19,40 @@ use Rattle.gx_play.specs.declared.ending.Ending.{Ending}
 use Rattle.gx_play.specs.declared.ending.Ending.TheVariants as ending
 use Rattle.gx_play.specs.declared.play.PlayEnd.{PlayEnd}
 use Rattle.gx_play.specs.declared.play.PlayEnd.TheVariants as play_end
-use Rattle.gx_play.specs.Endings.{ending_of, is_fault, IsOutside, IsPlayEnding}
+use Rattle.gx_play.specs.Endings.{ending_of, is_fault, IsPlayEnding}
 use Rattle.gx_play.specs.Played.{AreFirst}
-use Rattle.gx_play.specs.Plays.{AreSaidUpTo, IsPlayedUp, IsPlayedPart, IsPlayedTo, IsPlayedOut, IsPlayedFirst, IsPlayedFull, IsPlayedFront, IsPlayedAs, IsEndingOf, IsCommitLine, KeepsState, IsHeard, is_play_fault}
+use Rattle.gx_play.specs.Plays.{AreSaidUpTo, IsPlayedUp, IsPlayedPart, IsPlayedTo, IsPlayedOut, IsPlayedFirst, IsPlayedFull, IsPlayedFront, IsPlayedAs, IsEndingOf, IsCommitLine, KeepsState, is_play_fault}
 use Rattle.gx_play.proofs.PlayLemmas.{kept_at}
 
--- what was heard has the lines of the whole script
-heard_long : (heard left : List ℕ) → 16777216 < length heard
-    → script_lines heard ≡ script_lines (heard ++ left)
-unfolding longest_script
-heard_long heard left long =
-    sym (enough_lines longest_script heard) ∙ ap script_lines
-    (sym (take-append-le (longest_script + 1) heard left (omega arith)))
-    ∙ enough_lines longest_script (heard ++ left)
-
-heard_by_end : (script left heard : List ℕ) → script ≡ heard ++ left
-    → ((left ≡ []) ⊎ (16777216 < length heard))
-    → script_lines heard ≡ script_lines script
-heard_by_end script left heard front (inl none) =
-    ap script_lines (sym (append-nil heard) ∙ ap (λ t. heard ++ t) (sym none) ∙ sym front)
-heard_by_end script left heard front (inr long) = heard_long heard left long
-    ∙ ap script_lines (sym front)
-
-pub heard_lines : (script left heard : List ℕ) → IsHeard script left heard
-    → script_lines heard ≡ script_lines script
-heard_lines script left heard is = heard_by_end script left heard is.front is.end
-
--- the play of what was heard is the play of the script
-module _ {S : Type 0} (g : Ghosts S) (start : State) (script left heard before : List ℕ)
+-- the play of a script
+module _ {S : Type 0} (g : Ghosts S) (start : State) (script before : List ℕ)
     (e f : Engine S)
     (unsaid : (g.content (leaves_of e)).now.said ≡ before) (schema_is : schema_of f ≡ schema_of e)
-    (built_is : built_of f ≡ built_of e) (is : IsHeard script left heard) where
+    (built_is : built_of f ≡ built_of e) where
   abbrev Kept : State → Type 0
   Kept = KeepsState g (schema_of e) (built_of e) (leaves_of f)
 
   abbrev Spoken : List ℕ
   Spoken = (g.content (leaves_of f)).now.said
 
-  played_out : (end : End) → IsPlayedUp g (start_at start) (script_lines heard) e f end
+  played_out : (end : End) → IsPlayedUp g (start_at start) (script_lines script) e f end
       → IsPlayedOut (schema_of e) start Kept script before Spoken end
   played_out end played = record {
     answers = played.text;
     final = played.final;
-    play = subst (λ ls. IsPlayFrom (schema_of e) (start_at start) ls played.text played.final end)
-        (heard_lines script left heard is) played.played;
+    play = played.played;
     said = played.said ∙ ap (λ t. t ++ played.text) unsaid;
     holds = kept_at g played.final e f schema_is built_is played.at;
   }
 
   -- the same of the first lines
   parts_of_script : (why : Stop)
-      → (part : IsPlayedPart g (start_at start) (script_lines heard) e f why)
+      → (part : IsPlayedPart g (start_at start) (script_lines script) e f why)
       → (script_lines script).lines ≡ part.ran ++ part.later
-  parts_of_script why part = ap (λ (ls : Lines). ls.lines) (sym (heard_lines script left heard is))
-      ∙ part.parts
+  parts_of_script why part = part.parts
 
   abbrev first_answers : (why : Stop)
-      → (part : IsPlayedPart g (start_at start) (script_lines heard) e f why)
+      → (part : IsPlayedPart g (start_at start) (script_lines script) e f why)
       → AreFirst (schema_of e) start script part.text
   first_answers why part = record {
     ran = part.ran;
@@ -92,7 +63,7 @@ module _ {S : Type 0} (g : Ghosts S) (start : State) (script left heard before :
   }
 
   first_whole : (why : Stop) → why ≢ stop.Fault
-      → IsPlayedPart g (start_at start) (script_lines heard) e f why
+      → IsPlayedPart g (start_at start) (script_lines script) e f why
       → IsPlayedFirst (schema_of e) start Kept script before Spoken
   first_whole why other part = record {
     answers = part.text;
@@ -101,7 +72,7 @@ module _ {S : Type 0} (g : Ghosts S) (start : State) (script left heard before :
     holds = part.kept other;
   }
 
-  first_full : IsPlayedPart g (start_at start) (script_lines heard) e f stop.Full
+  first_full : IsPlayedPart g (start_at start) (script_lines script) e f stop.Full
       → IsPlayedFull (schema_of e) (built_of e) (g.limit (leaves_of e)) start Kept script before
       Spoken
   first_full part = record {
@@ -118,7 +89,7 @@ module _ {S : Type 0} (g : Ghosts S) (start : State) (script left heard before :
     holds = part.kept (λ f. cc);
   }
 
-  first_front : IsPlayedPart g (start_at start) (script_lines heard) e f stop.Fault
+  first_front : IsPlayedPart g (start_at start) (script_lines script) e f stop.Fault
       → IsPlayedFront (schema_of e) start Kept script before Spoken
   first_front part = record {
     answers = part.text;
@@ -144,7 +115,7 @@ module _ {S : Type 0} (g : Ghosts S) (start : State) (script left heard before :
   pub played_as : (played : Result (Unit {0}) PlayEnd) (result : Result (Unit {0}) Ending)
       → IsEndingOf played result
       → ((block : ℕ) → played ≡ Err (play_end.Stop (stop.Damaged block)) → ⊥)
-      → IsPlayedTo g (start_at start) (script_lines heard) e f played → As result
+      → IsPlayedTo g (start_at start) (script_lines script) e f played → As result
   played_as (Ok x) result result_is sound to = subst As (sym result_is) (played_out good to)
   played_as (Err (play_end.Line number why)) result result_is sound to =
       subst As (sym result_is) (played_out (stopped number why) to)
@@ -249,148 +220,17 @@ held_as schema built limit start Holds Other script before now (Err (ending.Devi
 held_as schema built limit start Holds Other script before now (Err (ending.Made blocks pages))
     other is = is
 
--- before a line is played
-abbrev none_played : (schema : Schema) (start : State) (script : List ℕ)
-    → AreFirst schema start script []
-none_played schema start script = record {
-  ran = [];
-  later = (script_lines script).lines;
-  parts = refl;
-  final = start_at start;
-  runs = (refl, refl);
-}
-
-pub unheard : (schema : Schema) (built : Built) (limit : Option Limits) (start : State)
-    (Holds : State → Type 0)
-    (script before said : List ℕ) (low high : ℕ) (why : Ending) → said ≡ before
-    → IsOutside low high why
-    → Holds start → IsPlayedAs schema built limit start Holds script before said (Err why)
-unheard schema built limit start Holds script before said low high ending.Fault unsaid is
-    holds = record {
-      answers = [];
-      first = none_played schema start script;
-      up_to = record {
-        first = [];
-        last = [];
-        one = omega arith;
-        ran_are = refl;
-        whole = [];
-        cut = [];
-        text_is = refl;
-        middle = start_at start;
-        runs = (none_played schema start script).runs;
-        count = 0;
-        said = unsaid ∙ sym (append-nil before);
-      };
-      holds = inl holds;
-    }
-unheard schema built limit start Holds script before said low high ending.NoMemory unsaid is
-    holds = record {
-      answers = [];
-      first = none_played schema start script;
-      said = unsaid
-          ∙ sym (append-nil before);
-      holds = holds;
-    }
-unheard schema built limit start Holds script before said low high ending.Words unsaid is holds = is
-unheard schema built limit start Holds script before said low high (ending.Missing name) unsaid is
-    holds = is
-unheard schema built limit start Holds script before said low high (ending.TooLong name) unsaid is
-    holds = is
-unheard schema built limit start Holds script before said low high (ending.Schema line why) unsaid
-    is holds = is
-unheard schema built limit start Holds script before said low high (ending.Equation line why) unsaid
-    is holds = is
-unheard schema built limit start Holds script before said low high (ending.Type line why) unsaid is
-    holds = is
-unheard schema built limit start Holds script before said low high ending.TextsTooLong unsaid is
-    holds = is
-unheard schema built limit start Holds script before said low high (ending.Accepted summary) unsaid
-    is holds = is
-unheard schema built limit start Holds script before said low high ending.Full unsaid is holds =
-    absurd is
-unheard schema built limit start Holds script before said low high (ending.Device wrong) unsaid is
-    holds = is
-unheard schema built limit start Holds script before said low high (ending.Made blocks pages) unsaid
-    is holds = is
-unheard schema built limit start Holds script before said low high (ending.Line number why) unsaid
-    is holds = absurd is
-
--- ---- a play that ends at no line had all lines, and the whole script was heard
-
-good_lines : (schema : Schema) (final : Playing) (all : Lines) (ran : List (List ℕ))
-    (next : Result (Option (List ℕ)) LineWhy) (n : ℕ) → AreFirstLines all ran next
-    → IsEnd schema final n next good → all.stop ≡ None
-good_lines schema final all ran (Ok None) n first ends = first.1
-good_lines schema final all ran (Ok (Some line)) n first ends = absurd (not_good ends.2)
-  where
-    not_good : ◌≡◌ {A = End} good (stopped (n + 1) ends.0) → ⊥
-    not_good e = cc
-good_lines schema final all ran (Err why) n first ends = absurd (not_good ends)
-  where
-    not_good : ◌≡◌ {A = End} good (stopped (n + 1) why) → ⊥
-    not_good e = cc
-
-stop_or : (t : Bool) (a c : Lines) → a.stop ≢ None → c.stop ≢ None
-    → (if t then a else c).stop ≢ None
-stop_or true a c x y = x
-stop_or false a c x y = y
-
-some_stop : (why : LineWhy) → ◌≡◌ {A = Option LineWhy} (Some why) None → ⊥
-some_stop why e = cc
-
-longer_stops : (ended : List (List ℕ)) (rest : List ℕ) → (up_to_limit ended rest true).stop ≢ None
-longer_stops [] rest =
-    stop_or (nat_lt longest_line (length rest)) (stopped_lines why.TooLong) (last_line rest true)
-    (some_stop why.TooLong) (some_stop why.ScriptTooLong)
-longer_stops (line ∷ lines) rest =
-    stop_or (nat_lt longest_line (length line)) (stopped_lines why.TooLong)
-    (with_line (without_cr line) (up_to_limit lines rest true)) (some_stop why.TooLong)
-    (longer_stops lines rest)
-
-pub long_stops : (script : List ℕ) → longest_script < length script
-    → (script_lines script).stop ≢ None
-unfolding lines_within
-long_stops script long =
-    subst (λ b. (up_to_limit (parts_of (take longest_script script)).ended
-    (parts_of (take longest_script script)).rest b).stop ≢ None)
-    (is_longer longest_script (length script) long)
-    (longer_stops (parts_of (take longest_script script)).ended
-    (parts_of (take longest_script script)).rest)
-  where
-    is_longer : (a b : ℕ) → a < b → true ≡ nat_lt a b
-    is_longer a b lt = grind (arith, nat_tests)
-
-heard_all : {S : Type 0} (g : Ghosts S) (start : State) (e f : Engine S)
-    (script left heard : List ℕ)
-    → IsHeard script left heard → IsPlayedUp g (start_at start) (script_lines heard) e f good
-    → left ≡ []
-unfolding longest_script
-heard_all g start e f script left heard is played = by_end is.end
-  where
-    by_end : ((left ≡ []) ⊎ (16777216 < length heard)) → left ≡ []
-    by_end (inl none) = none
-    by_end (inr long) =
-        absurd (long_stops heard long (good_lines (schema_of e) played.final
-        (script_lines heard) played.played.ran played.played.next (length played.played.ran)
-        played.played.first played.played.ends))
-
 not_ok : (result : Result (Unit {0}) Ending) (why : Ending) → result ≡ Err why → result ≡ Ok tt → ⊥
 not_ok result why is e = never (sym is ∙ e)
   where
     never : ◌≡◌ {A = Result (Unit {0}) Ending} (Err why) (Ok tt) → ⊥
     never f = cc
 
-pub heard_to_end : {S : Type 0} (g : Ghosts S) (start : State) (e f : Engine S)
-    (script left heard : List ℕ)
-    (played : Result (Unit {0}) PlayEnd) (result : Result (Unit {0}) Ending)
-    → IsHeard script left heard
-    → IsEndingOf played result → IsPlayedTo g (start_at start) (script_lines heard) e f played
-    → result ≡ Ok tt → left ≡ []
-heard_to_end g start e f script left heard (Ok x) result is result_is to ok =
-    heard_all g start e f script left heard is to
-heard_to_end g start e f script left heard (Err end) result is result_is to ok =
-    absurd (not_ok result (ending_of end) result_is ok)
+-- a request that ends well ends the play well
+pub ended_well : (played : Result (Unit {0}) PlayEnd) (result : Result (Unit {0}) Ending)
+    → IsEndingOf played result → result ≡ Ok tt → played ≡ Ok tt
+ended_well (Ok tt) result result_is ok = refl
+ended_well (Err end) result result_is ok = absurd (not_ok result (ending_of end) result_is ok)
 
 -- ---- how a play ends for the request
 
@@ -407,22 +247,6 @@ play_ending (Ok x) result is =
     subst (λ (r : Result (Unit {0}) Ending). IfErr r IsPlayEnding) (sym is) tt
 play_ending (Err end) result is =
     subst (λ (r : Result (Unit {0}) Ending). IfErr r IsPlayEnding) (sym is) (is_play_ending end)
-
-pub outside_ending : (before now : ℕ) (why : Ending) → IsOutside before now why → IsPlayEnding why
-outside_ending before now ending.Fault is = tt
-outside_ending before now ending.NoMemory is = tt
-outside_ending before now ending.Words is = is
-outside_ending before now (ending.Missing name) is = is
-outside_ending before now (ending.TooLong name) is = is
-outside_ending before now (ending.Schema line why) is = is
-outside_ending before now (ending.Equation line why) is = is
-outside_ending before now (ending.Type line why) is = is
-outside_ending before now ending.TextsTooLong is = is
-outside_ending before now (ending.Accepted summary) is = is
-outside_ending before now ending.Full is = absurd is
-outside_ending before now (ending.Device wrong) is = absurd is
-outside_ending before now (ending.Made blocks pages) is = is
-outside_ending before now (ending.Line number why) is = absurd is
 
 -- the stop that an ending comes from
 stop_is : (end : PlayEnd) (why : Ending) (given : Stop) → ending_of end ≡ why

@@ -1,5 +1,5 @@
 -- The loop over the lines of a script.
-use Rattle.std.proofs.Common.{◌≡◌, ℕ, ◌+◌, ◌≤◌, List, [], ◌∷◌, ◌++◌, length, take, Bool, false, IsTrue, Result, Ok, Err, Option, Some, None, refl, sym, ap, subst, ◌∙◌, arith, inl, inr}
+use Rattle.std.proofs.Common.{◌≡◌, ℕ, ◌+◌, ◌≤◌, List, [], ◌∷◌, ◌++◌, take, Bool, false, IsTrue, Result, Ok, Err, Option, Some, None, refl, sym, ap, subst, ◌∙◌, arith, inl, inr}
 use Rattle.std.specs.Prelude.{◌≢◌, ◌⊎◌, IsErrAnd, IsSome}
 use Rattle.std.proofs.lemmas.List.{append-nil, append_assoc, length-append}
 use Rattle.gx_device.specs.Faults.{Rose}
@@ -7,7 +7,6 @@ use Rattle.gx_schema.specs.declared.schema.Schema.{Schema}
 use Rattle.gx_commands.specs.declared.command.Command.{Command}
 use Rattle.gx_commands.specs.declared.command.Command.TheVariants as command
 use Rattle.gx_commands.specs.declared.command.LineWhy.{LineWhy}
-use Rattle.gx_commands.specs.declared.command.LineWhy.TheVariants as why
 use Rattle.gx_commands.specs.Commands.{place_reason}
 use Rattle.gx_commands.specs.Lines.{Lines, with_line, no_lines, stopped as stopped_lines}
 use Rattle.gx_script.specs.Grammar.{IsLineOf}
@@ -223,7 +222,7 @@ short_at g p before left line old e schema_is built_is limit_is before_is ready 
     })))
 
 -- the answers of the lines before it
-part_before : {S : Type 0} (g : Ghosts S) (start : Playing) (all before : Lines) (number : ℕ)
+pub part_before : {S : Type 0} (g : Ghosts S) (start : Playing) (all before : Lines) (number : ℕ)
     (old e new : Engine S) (why : Stop) → (so : IsSoFar g start all before number old e)
     → (g.content (leaves_of new)).now.said ≡ (g.content (leaves_of e)).now.said
     → (why ≢ stop.Fault → KeepsState g (schema_of old) (built_of old) (leaves_of new) so.now.kept)
@@ -259,7 +258,7 @@ part_before g start all before number old e new why so unsaid kept failed short 
   short = short;
 }
 
-fault_not_full : {A : Type 0} → stop.Fault ≡ stop.Full → A
+pub fault_not_full : {A : Type 0} → stop.Fault ≡ stop.Full → A
 fault_not_full e = absurd (never e)
   where
     never : stop.Fault ≡ stop.Full → ⊥

@@ -5,3 +5,4 @@ pub mod Endings
 pub mod Played
 pub mod Plays
 pub mod Answering
+pub mod Pieces

@@ -1,10 +1,9 @@
 -- What the play of a script on an engine says, line by line.
-use Rattle.std.specs.Prelude.{◌≡◌, ◌≢◌, ◌⊎◌, ℕ, ◌+◌, ◌<◌, ◌≤◌, List, [], ◌∷◌, ◌++◌, length, take, Bool, true, false, IsTrue, Option, None, IsSome, Result, Ok, Err}
+use Rattle.std.specs.Prelude.{◌≡◌, ◌≢◌, ◌⊎◌, ℕ, ◌+◌, ◌≤◌, List, ◌∷◌, ◌++◌, length, take, Bool, true, false, IsTrue, Option, None, IsSome, Result, Ok, Err}
 use Rattle.gx_device.specs.Content.{Silent}
 use Rattle.gx_device.specs.Quiet.{IsPrefix}
 use Rattle.gx_device.specs.Faults.{Rose}
 use Rattle.gx_schema.specs.declared.schema.Schema.{Schema}
-use Rattle.gx_commands.specs.declared.lines.TheConstants.{LONGEST_SCRIPT}
 use Rattle.gx_commands.specs.declared.command.Command.{Command}
 use Rattle.gx_commands.specs.declared.command.Command.TheVariants as command
 use Rattle.gx_commands.specs.declared.command.LineWhy.{LineWhy}
@@ -316,8 +315,3 @@ IsPlayedAs schema built limit start Holds script before now (Err _) = ⊥
 abbrev pub IsEndingOf : Result (Unit {0}) PlayEnd → Result (Unit {0}) Ending → Type 0
 IsEndingOf (Ok x) result = result ≡ Ok tt
 IsEndingOf (Err end) result = result ≡ Err (ending_of end)
-
--- the bytes that were heard of a script: all of them, or so many that it is too long
-pub record IsHeard (script left heard : List ℕ) : Type 0 where
-  pub front : script ≡ heard ++ left
-  pub end : (left ≡ []) ⊎ (LONGEST_SCRIPT < length heard)

@@ -10,9 +10,10 @@ pub record OnlySays (old new : Content) : Type 0 where
   pub script : new.script ≡ old.script
   pub aside : new.aside ≡ old.aside
 
--- the blocks and the other devices are as they were
+-- the blocks, which of them a crash may spoil, and the other devices are as they were
 pub record SameDevices (old new : Content) : Type 0 where
   pub blocks : new.now.blocks ≡ old.now.blocks
+  pub pending : new.now.pending ≡ old.now.pending
   pub shelf : new.now.shelf ≡ old.now.shelf
 
 -- all of the piece, or after a failure a front of it

@@ -2,19 +2,16 @@
 #![tactic(auto)]
 
 mod ending;
-mod hearing;
 mod lines;
 mod over_leaves;
 mod play;
 mod say;
-mod script;
 mod status;
 mod summary;
 
 pub use ending::{DeviceWhy, Ending, end};
 pub use gx_engine::Engine;
-pub use hearing::hear_all;
-pub use lines::{next_line, placed_command};
+pub use lines::{PIECE_LEN, next_line, placed_command};
 pub use over_leaves::play_over;
 pub use play::{Answers, PlayEnd, play_script};
 pub use say::say_all;

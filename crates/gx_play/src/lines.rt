@@ -1,33 +1,41 @@
-// The lines of a script, one after the other, and the commands that they mean.
-ghost use Rattle.std.specs.Prelude.{◌≡◌, ◌^◌, ◌<◌, ◌≤◌, ◌-◌, ℕ, None, Ok, Err, length, IfOk, IfErr, IfSome, option_map};
+// The lines of a script that comes in pieces, one after the other, and the commands that they mean.
+ghost use Rattle.std.specs.Prelude.{◌≡◌, ◌^◌, ◌<◌, ◌≤◌, ◌++◌, ℕ, List, None, Ok, Err, length, IfOk, IfErr, IfSome};
 ghost use Rattle.gx_schema.specs.WellFormed.{IsWellFormed};
 ghost use Rattle.gx_commands.specs.Commands.{IsOfSchema, conds_of, place_reason};
 ghost use Rattle.gx_script.specs.Grammar.{IsLineOf};
-ghost use Rattle.gx_commands.specs.Lines.{longest_line, IsNext};
+ghost use Rattle.gx_commands.specs.Lines.{longest_line};
+ghost use Rattle.gx_reader.specs.Reader.{meant, number_of, IsOpen};
 ghost use Rattle.gx_play.specs.Plays.{IsBadAt, IsLineEnd};
+ghost use Rattle.gx_reader.specs.Pieces.{IsNextIn, Passes, taken_of, lines_of};
 
 use crate::play::PlayEnd;
-use gx_commands::{Command, LineWhy, NoCommand, ScriptLines, allowed};
+use gx_commands::{Command, LineWhy, NoCommand, allowed};
 use gx_ports::Stop;
+use gx_reader::LineReader;
 use gx_schema::Schema;
 use gx_script::read_command;
 use std::alloc::Global;
 
-/// The line behind the line of this number, and none where there are no more. `Line`: it can't be
-/// had, for a limit of lines or of scripts.
-pub fn next_line<'a>(lines: &mut ScriptLines<'a>, number: u32) -> Result<Option<&'a [u8]>, PlayEnd>
-    requires { number < 2 ^ 32 - 1 }
-    ensures next { IfOk result
-        (λ line. IsNext lines.old lines.new (Ok (option_map (λ bytes. bytes.now) line))) }
-    ensures short { IfOk result
-        (λ line. IfSome line (λ bytes. length bytes.now ≤ longest_line)) }
-    ensures shorter { IfOk result
-        (λ line. IfSome line (λ _. length lines.new.lines < length lines.old.lines)) }
-    ensures none { IfErr result (IsLineEnd lines.old number) }
+/// How many bytes of a script are asked for at once.
+pub const PIECE_LEN: usize = 4096;
+
+/// Takes bytes of a piece up to the end of the next line, and answers how many. `None`: no line
+/// ends in the piece, and all of it was taken. `Line`: the next line can't be had, for a limit of
+/// lines or of scripts.
+pub fn next_line(reader: &mut LineReader, piece: &[u8]) -> Result<Option<usize>, PlayEnd>
+    requires open { IsOpen reader.old }
+    ensures next { (rest : List ℕ) → IfOk result
+        (λ found. IsNextIn found piece.now rest reader.old reader.new) }
+    ensures none { (rest : List ℕ) → IfErr result
+        (IsLineEnd (meant reader.old (piece.now ++ rest)) (number_of reader.old)) }
+    ensures passes { IfOk result (λ found. Passes reader.old reader.new
+        (taken_of found (length piece.now)) (lines_of found)) }
+    ensures within { IfOk result (λ found. IfSome found
+        (λ count. (0 < count) × (count ≤ length piece.now))) }
 {
-    match lines.next_line() {
-        Ok(line) => Ok(line),
-        Err(why) => Err(PlayEnd::Line(number + 1, why)),
+    match reader.next_line(piece) {
+        Ok(found) => Ok(found),
+        Err(why) => Err(PlayEnd::Line(reader.number(), why)),
     }
 }
 

@@ -1,4 +1,4 @@
-// Hearing a script and playing it over leaves.
+// A script that is heard and played over leaves.
 ghost use Rattle.std.specs.Prelude.{◌≡◌, [], Ok, length, IsTrue, IfErr};
 ghost use Rattle.gx_schema.specs.WellFormed.{IsWellFormed};
 ghost use Rattle.gx_model.specs.States.{State};
@@ -7,8 +7,7 @@ ghost use Rattle.gx_play.specs.Endings.{IsPlayEnding, CountsFault};
 ghost use Rattle.gx_play.specs.Plays.{IsHolding, KeepsState, KeepsOver, IsPlayedAs, IsEndingOf};
 
 use crate::ending::Ending;
-use crate::play::{Answers, PlayEnd, play_script};
-use crate::script::hear_script;
+use crate::play::{PlayEnd, play_heard};
 use gx_engine::Engine;
 use gx_ports::Leaves;
 use gx_schema::Schema;
@@ -16,7 +15,8 @@ use gx_types::Built;
 use gx_values::Octets;
 use std::alloc::Global;
 
-/// Hears the script and plays it over leaves, which are handed back. On leaves that hold a state,
+/// Hears the script in pieces and plays it over leaves, which are handed back. The answer of each
+/// line is said before more is heard. On leaves that hold a state,
 /// of a device that tells its content, exactly the answers of the play from that state were said,
 /// up to the line that ends it, and the last kept state is in the kept leaves; after a stop the
 /// answers of the first lines, and their last kept state. After `Fault` a front of the answers of
@@ -42,14 +42,9 @@ pub fn play_over<'a, B: Leaves + Drop>(
     ensures keeps { KeepsOver B.View leaves result.1 }
     ensures failures { CountsFault (B.faults leaves) (B.faults result.1) result.0 }
 {
-    let mut leaves = leaves;
-    let script = match hear_script(alloc, &mut leaves) {
-        Ok(script) => script,
-        Err(ending) => return (Err(ending), leaves),
-    };
     let mut engine = Engine::start(schema, built, leaves);
     let mut answer = Octets(Vec::new(alloc));
-    let played = play_script(alloc, &script, Answers::Said, &mut engine, &mut answer);
+    let played = play_heard(alloc, &mut engine, &mut answer);
     (ended(played), engine.into_leaves())
 }
 

@@ -1,5 +1,5 @@
 // Playing a script on an engine, line by line.
-ghost use Rattle.std.specs.Prelude.{◌≡◌, ◌<◌, ◌≤◌, ◌+◌, ℕ, None, Ok, Err, false, length, IsTrue, IfOk, OnOk, OnErr, ◌-◌};
+ghost use Rattle.std.specs.Prelude.{◌≡◌, ◌<◌, ◌≤◌, ◌+◌, ℕ, [], None, Ok, Err, false, length, IsTrue, IfOk, OnOk, OnErr, ◌-◌};
 ghost use Rattle.gx_schema.specs.WellFormed.{IsWellFormed};
 ghost use Rattle.gx_ports.specs.Stops.{is_fault, HasStopCause};
 ghost use Rattle.gx_ports.specs.Calls.{Keeps};
@@ -9,12 +9,16 @@ ghost use Rattle.gx_commands.specs.Lines.{longest_line, script_lines};
 ghost use Rattle.gx_script.specs.Grammar.{IsLineOf};
 ghost use Rattle.gx_play.specs.Answering.{are_told, beside, with_answers};
 ghost use Rattle.gx_play.specs.Plays.{IsLinePlayed, IsCommandPlayed, IsGivenUp, IsCommandGivenUp, HasPlayCause, KeepsPlayed, CountsFailed, IsBadAt, IsPlayedTo, is_play_fault};
+ghost use Rattle.gx_reader.specs.Reader.{IsOpen};
+ghost use Rattle.gx_play.specs.Pieces.{PlaysPiece, PlaysLast, PlaysRest, GoesOn, KeepsHeard};
+ghost use Rattle.gx_reader.specs.Pieces.{IsTaken};
 
-use crate::lines::{next_line, placed_command};
+use crate::lines::{PIECE_LEN, next_line, placed_command};
 use crate::say::answer_all;
-use gx_commands::{Command, LineWhy, ScriptLines};
+use gx_commands::{Command, LineWhy};
 use gx_engine::{Engine, StepStop};
 use gx_ports::{Leaves, Stop};
+use gx_reader::LineReader;
 use gx_values::Octets;
 use std::alloc::Global;
 
@@ -170,6 +174,104 @@ fn step<B: Leaves + Drop>(
     }
 }
 
+// Plays the lines that end in a piece of a script. Each answer is said whole before the next line
+// is carried out, or all of them are kept.
+fn play_piece<B: Leaves + Drop>(
+    alloc: Global,
+    piece: &[u8],
+    answers: Answers,
+    reader: &mut LineReader,
+    engine: &mut Engine<B>,
+    out: &mut Octets,
+) -> Result<(), PlayEnd>
+    requires ready { IsReady B.View engine.old }
+    requires well_formed { IsWellFormed (schema_of engine.old) }
+    requires going { stop_of engine.old ≡ None }
+    requires open { IsOpen reader.old }
+    ensures played { IsTrue (are_told B.tells answers) →
+        PlaysPiece (beside B.View answers) piece.now reader.old reader.new
+        (with_answers engine.old out.old) (with_answers engine.new out.new) result }
+    ensures stands { OnOk result (GoesOn B.View engine.old engine.new) }
+    ensures cause { (p : Playing) → IsAt B.View p engine.old → (stop : Stop) →
+        result ≡ Err (PlayEnd.Stop stop) →
+        HasPlayCause (B.limit (leaves_of engine.old)) (B.faults (leaves_of engine.old))
+        (B.faults (leaves_of engine.new)) stop }
+    ensures keeps { KeepsPlayed B.View answers engine.old engine.new }
+    ensures going { OnOk result (stop_of engine.new ≡ None) }
+    ensures counts { CountsFailed (B.faults (leaves_of engine.old))
+        (B.faults (leaves_of engine.new)) (is_play_fault result) }
+    ensures taken { OnOk result (IsTaken (length piece.now) reader.old reader.new) }
+{
+    let mut rest = piece;
+    while let Some(count) = next_line(reader, rest)? {
+        rest = &rest[count..];
+        play_line(alloc, reader.number(), reader.line(), answers, engine, out)?;
+    }
+    Ok(())
+}
+
+// Plays the last line of a script, where it has no LF.
+fn play_last<B: Leaves + Drop>(
+    alloc: Global,
+    answers: Answers,
+    reader: &mut LineReader,
+    engine: &mut Engine<B>,
+    out: &mut Octets,
+) -> Result<(), PlayEnd>
+    requires ready { IsReady B.View engine.old }
+    requires well_formed { IsWellFormed (schema_of engine.old) }
+    requires going { stop_of engine.old ≡ None }
+    requires open { IsOpen reader.old }
+    ensures played { IsTrue (are_told B.tells answers) →
+        PlaysLast (beside B.View answers) reader.old reader.new
+        (with_answers engine.old out.old) (with_answers engine.new out.new) result }
+    ensures stands { OnOk result (GoesOn B.View engine.old engine.new) }
+    ensures cause { (p : Playing) → IsAt B.View p engine.old → (stop : Stop) →
+        result ≡ Err (PlayEnd.Stop stop) →
+        HasPlayCause (B.limit (leaves_of engine.old)) (B.faults (leaves_of engine.old))
+        (B.faults (leaves_of engine.new)) stop }
+    ensures keeps { KeepsPlayed B.View answers engine.old engine.new }
+    ensures going { OnOk result (stop_of engine.new ≡ None) }
+    ensures counts { CountsFailed (B.faults (leaves_of engine.old))
+        (B.faults (leaves_of engine.new)) (is_play_fault result) }
+{
+    if !reader.last_line() {
+        return Ok(());
+    }
+    play_line(alloc, reader.number(), reader.line(), answers, engine, out)
+}
+
+// Plays what is left of a script whose last byte was fed, and ends there.
+fn play_rest<B: Leaves + Drop>(
+    alloc: Global,
+    answers: Answers,
+    reader: &mut LineReader,
+    engine: &mut Engine<B>,
+    out: &mut Octets,
+) -> Result<(), PlayEnd>
+    requires ready { IsReady B.View engine.old }
+    requires well_formed { IsWellFormed (schema_of engine.old) }
+    requires going { stop_of engine.old ≡ None }
+    requires open { IsOpen reader.old }
+    ensures played { IsTrue (are_told B.tells answers) →
+        PlaysRest (beside B.View answers) reader.old
+        (with_answers engine.old out.old) (with_answers engine.new out.new) result }
+    ensures cause { (p : Playing) → IsAt B.View p engine.old → (stop : Stop) →
+        result ≡ Err (PlayEnd.Stop stop) →
+        HasPlayCause (B.limit (leaves_of engine.old)) (B.faults (leaves_of engine.old))
+        (B.faults (leaves_of engine.new)) stop }
+    ensures keeps { KeepsPlayed B.View answers engine.old engine.new }
+    ensures going { OnOk result (stop_of engine.new ≡ None) }
+    ensures counts { CountsFailed (B.faults (leaves_of engine.old))
+        (B.faults (leaves_of engine.new)) (is_play_fault result) }
+{
+    play_last(alloc, answers, reader, engine, out)?;
+    if engine.inside() {
+        return Err(PlayEnd::Line(reader.number(), LineWhy::OpenTransaction));
+    }
+    Ok(())
+}
+
 /// Plays a script line by line, up to its end or the line that ends it. Each answer is said whole
 /// before the next line is carried out, and `out` is the room for it; or all of them are appended
 /// to `out`, and nothing is said. Where they are kept, or said on a device that tells its content:
@@ -203,14 +305,48 @@ pub fn play_script<B: Leaves + Drop>(
     ensures counts { CountsFailed (B.faults (leaves_of engine.old))
         (B.faults (leaves_of engine.new)) (is_play_fault result) }
 {
-    let mut lines = ScriptLines::new(script);
-    let mut number = 0u32;
-    while let Some(line) = next_line(&mut lines, number)? {
-        number += 1;
-        play_line(alloc, number, line, answers, engine, out)?;
+    let mut reader = LineReader::new();
+    play_piece(alloc, script, answers, &mut reader, engine, out)?;
+    play_rest(alloc, answers, &mut reader, engine, out)
+}
+
+/// Hears a script in pieces and plays it, up to its end or the line that ends it. The answer of
+/// each line is said whole before the next line is carried out, and before more is heard; `out` is
+/// the room for it. On a device that tells its content it is the play of the script, as of
+/// `play_script`, and after `Ok` the script was heard to its end. `Fault` comes also where the
+/// script can't be heard, behind whole answers.
+pub fn play_heard<B: Leaves + Drop>(
+    alloc: Global,
+    engine: &mut Engine<B>,
+    out: &mut Octets,
+) -> Result<(), PlayEnd>
+    requires ready { IsReady B.View engine.old }
+    requires well_formed { IsWellFormed (schema_of engine.old) }
+    requires going { stop_of engine.old ≡ None }
+    ensures played { IsTrue B.tells → (p : Playing) → IsAt B.View p engine.old →
+        IsPlayedTo (beside B.View Answers.Said) p
+        (script_lines (B.content (leaves_of engine.old)).script)
+        (with_answers engine.old out.old) (with_answers engine.new out.new) result }
+    ensures heard { IsTrue B.tells → result ≡ Ok tt →
+        (B.content (leaves_of engine.new)).script ≡ [] }
+    ensures cause { (p : Playing) → IsAt B.View p engine.old → (stop : Stop) →
+        result ≡ Err (PlayEnd.Stop stop) →
+        HasPlayCause (B.limit (leaves_of engine.old)) (B.faults (leaves_of engine.old))
+        (B.faults (leaves_of engine.new)) stop }
+    ensures keeps { KeepsHeard B.View engine.old engine.new }
+    ensures counts { CountsFailed (B.faults (leaves_of engine.old))
+        (B.faults (leaves_of engine.new)) (is_play_fault result) }
+{
+    let mut reader = LineReader::new();
+    let mut piece = [0u8; PIECE_LEN];
+    loop {
+        let Ok(count) = engine.hear(&mut piece) else {
+            return Err(PlayEnd::Stop(Stop::Fault));
+        };
+        if count == 0 {
+            return play_rest(alloc, Answers::Said, &mut reader, engine, out);
+        }
+        let heard = &piece[..count];
+        play_piece(alloc, heard, Answers::Said, &mut reader, engine, out)?;
     }
-    if engine.inside() {
-        return Err(PlayEnd::Line(number, LineWhy::OpenTransaction));
-    }
-    Ok(())
 }

@@ -1,52 +1,53 @@
-use Rattle.std.proofs.Common.{ap, sym, subst, ◌∙◌}
+use Rattle.std.proofs.Common.{◌++◌, take, refl, sym, ap, subst}
 use Rattle.gx_commands.specs.Lines.{script_lines}
-use Rattle.gx_play.specs.Plays.{IsHeard}
-use Rattle.gx_play.specs.declared.play.PlayEnd.TheVariants as play_end
+use Rattle.gx_reader.specs.Reader.{meant, number_of}
 use Rattle.gx_play.proofs.PlayLemmas.{is_err}
-use Rattle.gx_explain.specs.Explaining.{fields_in, SaysPlans}
-use Rattle.gx_explain.proofs.ExplainEndLemmas.{plans_from, plans_of, unheard_plans, heard_whole}
+use Rattle.gx_explain.specs.Explaining.{fields_in, IsSoFar, SaysPlans}
+use Rattle.gx_explain.proofs.ExplainLemmas.{at_new, at_unheard, still_so}
 use Rattle.gx_explain.proofs.script.explain_heard.Goals as goal
 
-pub returns-clause-said : goal.returns-clause-said
-returns-clause-said g c = λ told.
+pub loop-count-init : goal.loop-count-init
+loop-count-init g c =
     let content = g.M.Device.content in
-    let schema = c.args.schema.now in
-    let indexed = fields_in c.args.schema.now c.args.built.now.files in
-    let heard = subst (λ t. IsHeard (content c.args.machine.now).script
-    (content c.hear_all.new.device).script t) (sym c.deref.ensures.value)
-    (c.in_ok-script.ensures.heard told) in
-    plans_of schema indexed (content c.args.machine.now).script
-    (content c.hear_all.new.device).script
-    c.deref.result.now (content c.args.machine.now) (content c.explain_lines.new.device)
-    c.explain_lines.result heard
-    (plans_from schema indexed (script_lines c.deref.result.now) (content c.args.machine.now)
-    (content c.hear_all.new.device) (content c.explain_lines.new.device) c.explain_lines.result
-    (ap (λ n. n.said) c.in_ok-script.ensures.rest.now) (c.explain_lines.ensures.said told))
+    record {
+      stays_open = c.new-reader.ensures.open;
+      so_far = λ told. at_new c.args.schema.now
+          (fields_in c.args.schema.now c.args.built.now.files) (content c.args.machine.now).script
+          c.new-reader.result (content c.args.machine.now) c.new-reader.ensures.lines
+          c.new-reader.ensures.number;
+      blocks = refl;
+      shelf = refl;
+      counted = refl;
+    }
 
-pub returns-clause-heard : goal.returns-clause-heard
-returns-clause-heard g c = λ told ok.
+-- where the script can't be heard
+pub returns-in_default-clause-said : goal.returns-in_default-clause-said
+returns-in_default-clause-said g c = λ told.
     let content = g.M.Device.content in
-    let schema = c.args.schema.now in
-    let indexed = fields_in c.args.schema.now c.args.built.now.files in
-    let heard = subst (λ t. IsHeard (content c.args.machine.now).script
-    (content c.hear_all.new.device).script t) (sym c.deref.ensures.value)
-    (c.in_ok-script.ensures.heard told) in
-    c.explain_lines.ensures.rest.script
-    ∙ heard_whole schema indexed (content c.args.machine.now).script
-    (content c.hear_all.new.device).script c.deref.result.now (content c.hear_all.new.device)
-    (content c.explain_lines.new.device) c.explain_lines.result heard
-    (c.explain_lines.ensures.said told) ok
+    at_unheard c.args.schema.now (fields_in c.args.schema.now c.args.built.now.files)
+    (script_lines (content c.args.machine.now).script)
+    (meant c.loop-count.reader (content c.loop-count.machine).script)
+    (number_of c.loop-count.reader) c.loop-count.inside (content c.args.machine.now)
+    (content c.loop-count.machine) (content c.hear.new.self) (c.loop-count.invariant.so_far told)
+    (ap (λ m. m.said) c.hear.ensures.rest.now)
 
-pub returns-in_err-script-clause-said : goal.returns-in_err-script-clause-said
-returns-in_err-script-clause-said g c = λ told.
+-- what was heard comes before what is still to be heard
+pub returns-in_err-inside-clause-said : goal.returns-in_err-inside-clause-said
+returns-in_err-inside-clause-said g c = λ told.
     let content = g.M.Device.content in
     let schema = c.args.schema.now in
-    let indexed = fields_in c.args.schema.now c.args.built.now.files in
-    let all = script_lines (content c.args.machine.now).script in
-    subst (λ r. SaysPlans schema indexed all (content c.args.machine.now)
-    (content c.hear_all.new.device) r)
-    (sym (is_err c.from_residual.result (play_end.Stop c.in_err-script.field-0.0)
-    c.from_residual.ensures.1))
-    (unheard_plans schema indexed all (content c.args.machine.now)
-    (content c.hear_all.new.device) _ _ c.in_err-script.field-0.0
-    (ap (λ n. n.said) c.in_err-script.ensures.rest.now) c.in_err-script.ensures.unheard)
+    let indexed = fields_in schema c.args.built.now.files in
+    let start = content c.args.machine.now in
+    let all = script_lines start.script in
+    let more = (content c.hear.new.self).script in
+    subst (SaysPlans schema indexed all start (content c.explain_piece.new.device))
+    (sym (is_err _ _ c.from_residual.ensures.1))
+    (c.in_err-inside.ensures.said told all more start
+    (still_so schema indexed all
+    (meant c.loop-count.reader (take c.in-Ok.count c.hear.new.into ++ more))
+    (number_of c.loop-count.reader) c.loop-count.inside start (content c.loop-count.machine)
+    (content c.hear.new.self)
+    (subst (λ s. IsSoFar schema indexed all (meant c.loop-count.reader s)
+    (number_of c.loop-count.reader) c.loop-count.inside start (content c.loop-count.machine))
+    (c.in-Ok.ensures.heard told).heard (c.loop-count.invariant.so_far told))
+    (ap (λ m. m.said) c.hear.ensures.rest.now)))

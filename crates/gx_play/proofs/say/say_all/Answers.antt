@@ -14,6 +14,7 @@ loop-rest-preserved g c = record {
   script = c.say.ensures.rest.script ∙ c.loop-rest.invariant.script;
   aside = c.say.ensures.rest.aside ∙ c.loop-rest.invariant.aside;
   blocks = c.say.ensures.rest.blocks ∙ c.loop-rest.invariant.blocks;
+  pending = c.say.ensures.rest.pending ∙ c.loop-rest.invariant.pending;
   shelf = c.say.ensures.rest.shelf ∙ c.loop-rest.invariant.shelf;
   counted = c.in_ok-count.ensures.counted (omega arith) ∙ c.loop-rest.invariant.counted;
 }

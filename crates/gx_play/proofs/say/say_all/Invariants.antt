@@ -12,6 +12,7 @@ invariant-loop-rest g l =
       script : (content l.device).script ≡ (content l.fn.device).script;
       aside : (content l.device).aside ≡ (content l.fn.device).aside;
       blocks : (content l.device).now.blocks ≡ (content l.fn.device).now.blocks;
+      pending : (content l.device).now.pending ≡ (content l.fn.device).now.pending;
       shelf : (content l.device).now.shelf ≡ (content l.fn.device).now.shelf;
       counted : g.D.Device.faults l.device ≡ g.D.Device.faults l.fn.device;
     }

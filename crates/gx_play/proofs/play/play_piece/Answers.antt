@@ -1,0 +1,147 @@
+use Rattle.std.proofs.Common.{◌≡◌, ◌-◌, ◌++◌, ◌∙◌, List, ℕ, Err, [], length, take, drop, refl, sym, ap, subst, arith}
+use Rattle.std.proofs.lemmas.List.{take_all, length-drop}
+use Rattle.gx_commands.specs.Lines.{with_line}
+use Rattle.gx_reader.specs.Reader.{meant, number_of}
+use Rattle.gx_play.specs.Answering.{beside, with_answers}
+use Rattle.gx_play.specs.Pieces.{IsGoing}
+use Rattle.gx_play.specs.Plays.{IsBadAt}
+use Rattle.gx_engine.specs.Steps.{schema_of, is_open}
+use Rattle.gx_play.proofs.PlayLemmas.{is_err, no_stop}
+use Rattle.gx_play.proofs.PieceLemmas.{going_line, going_bad, going_end, line_counts}
+use Rattle.gx_reader.proofs.FoundLemmas.{found_line, found_passes, found_none, found_within, none_passes}
+use Rattle.gx_play.proofs.AnsweringLemmas.{at_alone, keeps_same, keeps_then}
+use Rattle.gx_play.proofs.play.play_piece.Goals as goal
+
+pub loop-count-init : goal.loop-count-init
+loop-count-init g c = record {
+  keeps = keeps_same g.B.View c.args.answers c.args.engine.now c.requires.ready;
+  going = c.requires.going;
+  stays_open = c.requires.open;
+  taken = refl;
+  played = λ told p all rest start going. going;
+  stands = λ p at. (p, at);
+  counted = refl;
+}
+
+pub loop-count-preserved : goal.loop-count-preserved
+loop-count-preserved g c =
+    let b = beside g.B.View c.args.answers in
+    let old = c.loop-count.rest.now in
+    let reader = c.next_line.new.reader in
+    let count = c.in-Some.count in
+    let passes = found_passes c.in_ok-count.field-0 count (length old) c.loop-count.reader reader
+    c.in-Some.is c.in_ok-count.ensures.passes in
+    let keeps = c.play_line.ensures.keeps in
+    let left : take (length old - count) (drop count old) ≡ drop count old =
+    take_all (length old - count) (drop count old) (omega (arith, length-drop count old)) in
+    record {
+      keeps = keeps_then g.B.View c.args.answers c.args.engine.now c.loop-count.engine
+          c.play_line.new.engine c.loop-count.invariant.keeps keeps;
+      going = c.in_ok-play_line.ensures.going;
+      stays_open = passes.stays_open;
+      taken = omega (
+        arith,
+        passes.left,
+        c.loop-count.invariant.taken,
+        (found_within c.in_ok-count.field-0 count (length old) c.in-Some.is
+            c.in_ok-count.ensures.within).1,
+        ap (λ (l : List ℕ). length l) left,
+        length-drop count old,
+      );
+      played = λ told p all rest start going.
+          let now = c.loop-count.invariant.played told p all rest start going in
+          subst (λ (l : List ℕ). IsGoing b p all (meant reader (l ++ rest)) (number_of reader) start
+          (with_answers c.play_line.new.engine c.play_line.new.out)) (sym left)
+          (going_line b p all (meant c.loop-count.reader (old ++ rest))
+          (meant reader (drop count old ++ rest)) (number_of c.loop-count.reader)
+          (number_of reader) c.line.result.now start
+          (with_answers c.loop-count.engine c.loop-count.out)
+          (with_answers c.play_line.new.engine c.play_line.new.out)
+          (found_line c.in_ok-count.field-0 count old rest c.loop-count.reader reader c.in-Some.is
+          (c.in_ok-count.ensures.next rest)
+          ∙ ap (λ (l : List ℕ). with_line l (meant reader (drop count old ++ rest)))
+          (sym c.line.ensures.line)) passes.number told keeps.schema keeps.built keeps.limit now
+          (c.in_ok-play_line.ensures.played now.so_far.now
+          (at_alone g.B.View c.args.answers now.so_far.now c.loop-count.engine c.loop-count.out
+          now.so_far.at)));
+      stands = λ p at.
+          let now = c.loop-count.invariant.stands p at in
+          let played = c.in_ok-play_line.ensures.played now.0 now.1 in (
+            _,
+            at_alone g.B.View c.args.answers _ c.play_line.new.engine c.play_line.new.out
+                played.played.at,
+          );
+      counted = c.in_ok-play_line.ensures.counts.counted refl ∙ c.loop-count.invariant.counted;
+    }
+
+pub returns-in_err-count-clause-played : goal.returns-in_err-count-clause-played
+returns-in_err-count-clause-played g c = λ told p all rest start going.
+    let b = beside g.B.View c.args.answers in
+    let reader = c.next_line.new.reader in
+    going_end b p all (meant c.loop-count.reader (c.loop-count.rest.now ++ rest))
+    (meant reader rest) (number_of c.loop-count.reader) (number_of reader)
+    c.in_err-count.field-0.0
+    c.from_residual.result start (with_answers c.loop-count.engine c.loop-count.out)
+    (c.loop-count.invariant.played told p all rest start going)
+    (is_err _ _ c.from_residual.ensures.1) (c.in_err-count.ensures.none rest)
+
+pub returns-in_err-count-clause-cause : goal.returns-in_err-count-clause-cause
+returns-in_err-count-clause-cause g c = λ p at stop e.
+    absurd (no_stop _ _ c.from_residual.result c.in_err-count.field-0.0 stop
+    (c.in_err-count.ensures.none []) (is_err _ _ c.from_residual.ensures.1) e)
+
+pub returns-in_err-count-clause-counts : goal.returns-in_err-count-clause-counts
+returns-in_err-count-clause-counts g c =
+    line_counts _ _ c.in_err-count.field-0.0 c.from_residual.result _ _
+    (c.in_err-count.ensures.none []) (is_err _ _ c.from_residual.ensures.1)
+    c.loop-count.invariant.counted
+
+pub returns-in_err-play_line-clause-played : goal.returns-in_err-play_line-clause-played
+returns-in_err-play_line-clause-played g c = λ told p all rest start going.
+    let b = beside g.B.View c.args.answers in
+    let old = c.loop-count.rest.now in
+    let reader = c.next_line.new.reader in
+    let count = c.in-Some.count in
+    let passes = found_passes c.in_ok-count.field-0 count (length old) c.loop-count.reader reader
+    c.in-Some.is c.in_ok-count.ensures.passes in
+    let now = c.loop-count.invariant.played told p all rest start going in
+    let at = at_alone g.B.View c.args.answers now.so_far.now c.loop-count.engine c.loop-count.out
+    now.so_far.at in
+    going_bad b p all (meant c.loop-count.reader (old ++ rest))
+    (meant reader (drop count old ++ rest)) (meant reader rest)
+    (number_of c.loop-count.reader) (number_of reader) (number_of reader) c.line.result.now
+    c.in_err-play_line.field-0.0 c.from_residual-in_err-play_line.result start
+    (with_answers c.loop-count.engine c.loop-count.out)
+    (with_answers c.play_line.new.engine c.play_line.new.out)
+    (found_line c.in_ok-count.field-0 count old rest c.loop-count.reader reader c.in-Some.is
+    (c.in_ok-count.ensures.next rest)
+    ∙ ap (λ (l : List ℕ). with_line l (meant reader (drop count old ++ rest)))
+    (sym c.line.ensures.line)) passes.number c.loop-count.invariant.keeps.ready
+    now (is_err _ _ c.from_residual-in_err-play_line.ensures.1)
+    (λ n why e. (
+      subst (λ k. IsBadAt (schema_of c.loop-count.engine) (is_open c.loop-count.engine) k
+          c.line.result.now n why) c.number.ensures
+          (c.in_err-play_line.ensures.bad n why (ap Err e)),
+      c.in_err-play_line.ensures.stays n why (ap Err e),
+    ))
+    (λ why e. c.in_err-play_line.ensures.given_up told now.so_far.now at why (ap Err e))
+
+pub returns-in_err-play_line-clause-keeps : goal.returns-in_err-play_line-clause-keeps
+returns-in_err-play_line-clause-keeps g c =
+    keeps_then g.B.View c.args.answers c.args.engine.now c.loop-count.engine
+    c.play_line.new.engine c.loop-count.invariant.keeps c.play_line.ensures.keeps
+
+pub returns-clause-played : goal.returns-clause-played
+returns-clause-played g c = λ told p all rest start going.
+    let b = beside g.B.View c.args.answers in
+    let old = c.loop-count.rest.now in
+    let reader = c.next_line.new.reader in
+    let e = with_answers c.loop-count.engine c.loop-count.out in
+    let passes = none_passes c.in_ok-count.field-0 (length old) c.loop-count.reader reader
+    c.in_default.is c.in_ok-count.ensures.passes in
+    let number : number_of c.loop-count.reader ≡ number_of reader = omega (arith, passes.number) in
+    subst (λ n. IsGoing b p all (meant reader rest) n start e) number
+    (subst (λ ls. IsGoing b p all ls (number_of c.loop-count.reader) start e)
+    (found_none c.in_ok-count.field-0 old rest c.loop-count.reader reader c.in_default.is
+    (c.in_ok-count.ensures.next rest))
+    (c.loop-count.invariant.played told p all rest start going))

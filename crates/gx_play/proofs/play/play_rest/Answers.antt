@@ -1,0 +1,30 @@
+use Rattle.std.proofs.Common.{rules, true, false, refl, sym, subst}
+use Rattle.gx_commands.specs.Lines.{no_lines}
+use Rattle.gx_reader.specs.Reader.{number_of}
+use Rattle.gx_model.specs.Play.{end_at}
+use Rattle.gx_play.specs.Answering.{beside, with_answers}
+use Rattle.gx_play.specs.Plays.{IsPlayedTo, IsPlayedUp}
+use Rattle.gx_play.proofs.PlayLemmas.{is_err}
+use Rattle.gx_play.proofs.PieceLemmas.{going_out}
+use Rattle.gx_play.proofs.play.play_rest.Goals as goal
+
+pub returns-in_err-play_last-clause-played : goal.returns-in_err-play_last-clause-played
+returns-in_err-play_last-clause-played g c = λ told p all start going.
+    subst (IsPlayedTo (beside g.B.View c.args.answers) p all start
+    (with_answers c.play_last.new.engine c.play_last.new.out))
+    (sym (is_err _ _ c.from_residual.ensures.1))
+    (c.in_err-play_last.ensures.played told p all start going)
+
+pub returns-then-inside-clause-played : goal.returns-then-inside-clause-played
+returns-then-inside-clause-played g c = λ told p all start going.
+    let b = beside g.B.View c.args.answers in
+    let f = with_answers c.play_last.new.engine c.play_last.new.out in
+    subst (λ n. IsPlayedUp b p all start f (end_at n true)) (sym c.number.ensures)
+    (going_out b p all no_lines (number_of c.play_last.new.reader) true start f
+    (c.in_ok-play_last.ensures.played told p all start going) refl (search rules))
+
+pub returns-clause-played : goal.returns-clause-played
+returns-clause-played g c = λ told p all start going.
+    going_out (beside g.B.View c.args.answers) p all no_lines (number_of c.play_last.new.reader)
+    false start (with_answers c.play_last.new.engine c.play_last.new.out)
+    (c.in_ok-play_last.ensures.played told p all start going) refl (search rules)
