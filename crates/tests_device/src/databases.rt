@@ -1,15 +1,10 @@
 // Databases of one heap under a key of one int.
-ghost use Rattle.std.specs.Prelude.{◌≡◌, ◌≤◌, IsTrue};
+ghost use Rattle.std.specs.Prelude.{◌≤◌, IsTrue};
 ghost use Rattle.gx_leaves.specs.Kinds.{are_built};
-ghost use Rattle.gx_ports.specs.Roots.{root_pages};
 
-use crate::shelf::Shelf;
-use gx_device::Device;
-use gx_journal::Journal;
-use gx_leaves::PagedLeaves;
+use crate::bounded::leaves_on;
 use gx_memory_machine::MemoryMachine;
-use gx_pages::Paged;
-use gx_ports::{Entries, LeafKind, LeafSpec, Leaves, Pages, Stop};
+use gx_ports::{Entries, LeafKind, LeafSpec, Leaves, Stop};
 use gx_store::{Store, Unopened, make, open};
 use gx_values::{KeyBuf, Kind, Span};
 use std::alloc::Global;
@@ -21,7 +16,6 @@ pub(crate) const EQUATION: &[u8] = b"f = actual(heap)\n";
 
 fn heap() -> [LeafSpec; 1]
     ensures built { IsTrue (are_built result) }
-    ensures one { root_pages result ≡ 1 }
 {
     [LeafSpec {
         kind: LeafKind::Heap,
@@ -31,19 +25,19 @@ fn heap() -> [LeafSpec; 1]
 }
 
 /// A machine without a device, with room for its calls.
-pub(crate) fn machine(alloc: Global) -> Result<Shelf, Fail> {
+pub(crate) fn machine(alloc: Global) -> Result<MemoryMachine, Fail> {
     let mut machine = MemoryMachine::new(alloc)?;
     machine.reserve(alloc, 1000, 1_000_000)?;
-    Ok(Shelf { machine })
+    Ok(machine)
 }
 
 /// Makes an empty database on a new device.
 pub(crate) fn make_on(
     alloc: Global,
-    machine: Shelf,
+    machine: MemoryMachine,
     blocks: u32,
     (schema, equation): (&[u8], &[u8]),
-) -> (Result<(), Unopened>, Shelf) {
+) -> (Result<(), Unopened>, MemoryMachine) {
     let schema = &schema[..schema.len().min(8190)];
     let equation = &equation[..equation.len().min(8190)];
     make(alloc, machine, "d", blocks, schema, equation, &heap())
@@ -52,42 +46,30 @@ pub(crate) fn make_on(
 /// Opens the database on the device.
 pub(crate) fn open_on(
     alloc: Global,
-    machine: Shelf,
+    machine: MemoryMachine,
     (schema, equation): (&[u8], &[u8]),
-) -> Result<Store<Shelf>, (Shelf, Unopened)> {
+) -> Result<Store<MemoryMachine>, (MemoryMachine, Unopened)> {
     let schema = &schema[..schema.len().min(8190)];
     let equation = &equation[..equation.len().min(8190)];
     open(alloc, machine, "d", schema, equation, &heap())
 }
 
 /// The database on the device that is attached, with so many pages in memory.
-pub(crate) fn adopted(alloc: Global, machine: Shelf, frames: u32) -> Result<Store<Shelf>, Fail>
+pub(crate) fn adopted(
+    alloc: Global,
+    machine: MemoryMachine,
+    frames: u32,
+) -> Result<Store<MemoryMachine>, Fail>
     requires least { 8 ≤ frames }
     requires most { frames ≤ 1024 }
 {
-    if machine.blocks() < 7 || machine.blocks() > 65543 {
-        return Err("the device has another size".into());
-    }
-    match Journal::recover(alloc, machine, frames) {
-        Ok(journal) => adopted_over(alloc, Paged::adopt(journal)),
-        Err((_, why)) => Err(why)?,
-    }
-}
-
-fn adopted_over(alloc: Global, pages: Paged<Shelf>) -> Result<Store<Shelf>, Fail> {
-    if pages.pages() < 17 {
-        return Err("there are too few pages".into());
-    }
-    match PagedLeaves::adopt(alloc, pages, &heap()) {
-        Ok(store) => Ok(store),
-        Err((_, why)) => Err(why)?,
-    }
+    leaves_on(alloc, machine, &heap(), frames)
 }
 
 /// Sets the pair at a key below 128, and commits.
 pub(crate) fn put(
     alloc: Global,
-    store: &mut Store<Shelf>,
+    store: &mut Store<MemoryMachine>,
     key: u8,
     body: &[u8],
 ) -> Result<(), Stop> {
@@ -101,7 +83,7 @@ pub(crate) fn put(
 }
 
 /// How many entries there are.
-pub(crate) fn count(alloc: Global, store: &mut Store<Shelf>) -> Result<usize, Stop> {
+pub(crate) fn count(alloc: Global, store: &mut Store<MemoryMachine>) -> Result<usize, Stop> {
     if store.leaves() == 0 {
         return Err(Stop::Damaged(0));
     }
@@ -114,7 +96,7 @@ pub(crate) fn count(alloc: Global, store: &mut Store<Shelf>) -> Result<usize, St
     Ok(found.len())
 }
 
-fn block_of(machine: &mut Shelf, n: u32) -> Result<[u8; 4096], Fail> {
+fn block_of(machine: &mut MemoryMachine, n: u32) -> Result<[u8; 4096], Fail> {
     let mut bytes = [0; 4096];
     if n < machine.blocks() {
         machine.read_block(n, &mut bytes)?;
@@ -123,7 +105,10 @@ fn block_of(machine: &mut Shelf, n: u32) -> Result<[u8; 4096], Fail> {
 }
 
 /// All blocks of the device.
-pub(crate) fn blocks_of(alloc: Global, machine: &mut Shelf) -> Result<Vec<[u8; 4096]>, Fail> {
+pub(crate) fn blocks_of(
+    alloc: Global,
+    machine: &mut MemoryMachine,
+) -> Result<Vec<[u8; 4096]>, Fail> {
     let mut blocks = Vec::new(alloc);
     for n in 0..machine.blocks() {
         blocks.push(block_of(machine, n)?)?;

@@ -1,6 +1,7 @@
 // Each call of the device is refused once: what is opened then is the database before or after.
 use crate::databases::{EQUATION, SCHEMA, count, machine, make_on, open_on, put};
-use crate::shelf::Shelf;
+use gx_device::Device;
+use gx_memory_machine::MemoryMachine;
 use gx_ports::Stop;
 use gx_store::{Store, Unopened, close};
 use std::alloc::Global;
@@ -21,7 +22,7 @@ enum Reached {
 }
 
 // Adds an entry.
-fn put_entry(rt: &impl Abort, alloc: Global, store: &mut Store<Shelf>) -> Reached {
+fn put_entry(rt: &impl Abort, alloc: Global, store: &mut Store<MemoryMachine>) -> Reached {
     match put(alloc, store, 7, b"ann") {
         Ok(()) => Reached::Committed,
         Err(stop) => {
@@ -32,7 +33,7 @@ fn put_entry(rt: &impl Abort, alloc: Global, store: &mut Store<Shelf>) -> Reache
 }
 
 // Opens the database, and adds an entry.
-fn add(rt: &impl Abort, alloc: Global, machine: Shelf) -> (Reached, Shelf) {
+fn add(rt: &impl Abort, alloc: Global, machine: MemoryMachine) -> (Reached, MemoryMachine) {
     match open_on(alloc, machine, TEXTS) {
         Ok(mut store) => (put_entry(rt, alloc, &mut store), close(store)),
         Err((machine, why)) => {
@@ -43,14 +44,18 @@ fn add(rt: &impl Abort, alloc: Global, machine: Shelf) -> (Reached, Shelf) {
 }
 
 // A machine of which this call fails.
-fn failing_machine(alloc: Global, call: u32) -> Result<Shelf, Fail> {
-    let mut shelf = machine(alloc)?;
-    shelf.machine.fail_at(alloc, call)?;
-    Ok(shelf)
+fn failing_machine(alloc: Global, call: u32) -> Result<MemoryMachine, Fail> {
+    let mut machine = machine(alloc)?;
+    machine.fail_at(alloc, call)?;
+    Ok(machine)
 }
 
 // Makes a database and adds an entry.
-fn make_and_add(rt: &impl Abort, alloc: Global, machine: Shelf) -> (Reached, Shelf) {
+fn make_and_add(
+    rt: &impl Abort,
+    alloc: Global,
+    machine: MemoryMachine,
+) -> (Reached, MemoryMachine) {
     let (answer, machine) = make_on(alloc, machine, 101, TEXTS);
     match answer {
         Ok(()) => add(rt, alloc, machine),
@@ -62,15 +67,19 @@ fn make_and_add(rt: &impl Abort, alloc: Global, machine: Shelf) -> (Reached, She
 }
 
 // How many entries there are, where they are found.
-fn entries(alloc: Global, store: &mut Store<Shelf>) -> Result<usize, Unopened> {
+fn entries(alloc: Global, store: &mut Store<MemoryMachine>) -> Result<usize, Unopened> {
     match count(alloc, store) {
         Ok(count) => Ok(count),
         Err(_) => Err(Unopened::Fault),
     }
 }
 
-// How many entries `open` finds, where it finds a database.
-fn look(alloc: Global, machine: Shelf) -> (Result<usize, Unopened>, Shelf) {
+// How many entries `open` finds, where it finds a database. What is pending is synced before, since
+// the device is attached again.
+fn look(alloc: Global, mut machine: MemoryMachine) -> (Result<usize, Unopened>, MemoryMachine) {
+    if machine.sync().is_err() {
+        return (Err(Unopened::Fault), machine);
+    }
     match open_on(alloc, machine, TEXTS) {
         Ok(mut store) => (entries(alloc, &mut store), close(store)),
         Err((machine, why)) => (Err(why), machine),
@@ -78,7 +87,7 @@ fn look(alloc: Global, machine: Shelf) -> (Result<usize, Unopened>, Shelf) {
 }
 
 /// The same. Where the call that fails is one of this `open`, the device is opened again.
-fn found(alloc: Global, machine: Shelf) -> Result<usize, Unopened> {
+fn found(alloc: Global, machine: MemoryMachine) -> Result<usize, Unopened> {
     match look(alloc, machine) {
         (Err(Unopened::Fault), machine) => look(alloc, machine).0,
         (found, _) => found,

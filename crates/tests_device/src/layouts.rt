@@ -3,8 +3,8 @@ ghost use Rattle.std.specs.Prelude.{◌≤◌};
 
 use crate::databases::{EQUATION, SCHEMA, adopted, blocks_of, count, machine, make_on, put};
 use crate::refusals::is_filled;
-use crate::shelf::Shelf;
 use gx_device::Device;
+use gx_memory_machine::MemoryMachine;
 use gx_ports::{LeafKind, LeafSpec, Stop};
 use gx_store::{Store, Unopened, close, smallest_device};
 use gx_values::Kind;
@@ -22,12 +22,12 @@ const TEXTS: &[u8] = b"\x00\x19\x00\x11file f (k int, t text 5)\nf = actual(heap
 const EMPTY_PAGE: [u8; 8] = [0x44, 0, 0, 0, 0xFF, 0xFF, 0xFF, 0xFF];
 
 /// An entry page with one entry: the key 7, and the text "ann".
-const PAGE_OF_ANN: [u8; 24] = [
+pub(crate) const PAGE_OF_ANN: [u8; 24] = [
     0x44, 0x00, 0x00, 0x01, 0xFF, 0xFF, 0xFF, 0xFF, 0x00, 0x08, 0x00, 0x04, 0x80, 0x00, 0x00, 0x00,
     0x00, 0x00, 0x00, 0x07, 0x03, 0x61, 0x6E, 0x6E,
 ];
 
-fn made(rt: &impl Abort, alloc: Global) -> Result<Shelf, Fail> {
+fn made(rt: &impl Abort, alloc: Global) -> Result<MemoryMachine, Fail> {
     let (answer, machine) = make_on(alloc, machine(alloc)?, BLOCKS, (SCHEMA, EQUATION));
     assert!(rt; answer.is_ok());
     assert!(rt; machine.blocks() == BLOCKS);
@@ -35,7 +35,7 @@ fn made(rt: &impl Abort, alloc: Global) -> Result<Shelf, Fail> {
 }
 
 /// Whether a block begins so.
-fn begins(blocks: &[[u8; 4096]], n: usize, front: &[u8]) -> bool {
+pub(crate) fn begins(blocks: &[[u8; 4096]], n: usize, front: &[u8]) -> bool {
     match blocks.get(n) {
         Some(block) => block.starts_with(front),
         None => false,
@@ -94,7 +94,12 @@ fn expect_change(rt: &impl Abort, before: &[[u8; 4096]], after: &[[u8; 4096]]) {
 }
 
 // The device after an entry is committed.
-fn with_entry(rt: &impl Abort, alloc: Global, machine: Shelf, frames: u32) -> Result<Shelf, Fail>
+fn with_entry(
+    rt: &impl Abort,
+    alloc: Global,
+    machine: MemoryMachine,
+    frames: u32,
+) -> Result<MemoryMachine, Fail>
     requires least { 8 ≤ frames }
     requires most { frames ≤ 1024 }
 {
@@ -108,7 +113,7 @@ fn with_entry(rt: &impl Abort, alloc: Global, machine: Shelf, frames: u32) -> Re
 fn expect_entries(
     rt: &impl Abort,
     alloc: Global,
-    machine: Shelf,
+    machine: MemoryMachine,
     frames: u32,
     entries: usize,
 ) -> Result<(), Fail>
@@ -124,9 +129,9 @@ fn expect_entries(
 fn with_entry_alone(
     rt: &impl Abort,
     alloc: Global,
-    machine: Shelf,
+    machine: MemoryMachine,
     frames: u32,
-) -> Result<Shelf, Fail>
+) -> Result<MemoryMachine, Fail>
     requires least { 8 ≤ frames }
     requires most { frames ≤ 1024 }
 {
@@ -156,7 +161,7 @@ fn an_entry_is_committed_by_eight_frames_and_by_more(rt: HostRuntime) -> Result<
 const LONG: (&[u8], &[u8]) = (b"file f (k int, t text 200)\n", EQUATION);
 
 // Puts 19 entries, and one for which there is no room.
-fn fill(alloc: Global, store: &mut Store<Shelf>) -> bool {
+fn fill(alloc: Global, store: &mut Store<MemoryMachine>) -> bool {
     let mut body = [b'x'; 201];
     body[0] = 200;
     let mut all = true;
@@ -205,7 +210,7 @@ fn the_smallest_device_counts_root_pages(rt: HostRuntime) -> Result<(), Fail> {
 }
 
 // Whether no device of so many blocks is made.
-fn is_unmade(alloc: Global, machine: Shelf, blocks: u32) -> bool {
+fn is_unmade(alloc: Global, machine: MemoryMachine, blocks: u32) -> bool {
     let (answer, machine) = make_on(alloc, machine, blocks, LONG);
     answer == Err(Unopened::Size) && machine.blocks() == 0
 }

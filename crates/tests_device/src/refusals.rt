@@ -1,7 +1,7 @@
 // Devices that aren't opened, and of which no block is written then.
 use crate::databases::{blocks_of, machine, make_on, open_on};
-use crate::shelf::Shelf;
 use gx_device::Machine;
+use gx_memory_machine::MemoryMachine;
 use gx_store::{Unopened, close};
 use std::alloc::Global;
 use std::process::Abort;
@@ -72,34 +72,44 @@ const CASES: [Case; 5] = [
 ];
 
 // Makes a database, and expects this answer.
-fn make_again(rt: &impl Abort, alloc: Global, shelf: Shelf, want: Result<(), Unopened>) -> Shelf {
-    let (answer, shelf) = make_on(alloc, shelf, 101, (SCHEMA, HEAP));
+fn make_again(
+    rt: &impl Abort,
+    alloc: Global,
+    machine: MemoryMachine,
+    want: Result<(), Unopened>,
+) -> MemoryMachine {
+    let (answer, machine) = make_on(alloc, machine, 101, (SCHEMA, HEAP));
     assert!(rt; answer == want);
-    shelf
+    machine
 }
 
-fn shelf_of(rt: &impl Abort, alloc: Global, before: Before) -> Result<Shelf, Fail> {
-    let mut shelf = machine(alloc)?;
+fn machine_of(rt: &impl Abort, alloc: Global, before: Before) -> Result<MemoryMachine, Fail> {
+    let mut new = machine(alloc)?;
     match before {
-        Before::Database => Ok(make_again(rt, alloc, shelf, Ok(()))),
+        Before::Database => Ok(make_again(rt, alloc, new, Ok(()))),
         Before::Zeros(blocks) => {
-            assert!(rt; shelf.attach(alloc, "d", Some(blocks)).is_ok());
-            Ok(shelf)
+            assert!(rt; new.attach(alloc, "d", Some(blocks)).is_ok());
+            Ok(new)
         }
-        Before::Nothing => Ok(shelf),
+        Before::Nothing => Ok(new),
     }
 }
 
 // Opens the device under the texts, which is refused for this reason.
-fn expect_unopened(rt: &impl Abort, alloc: Global, shelf: Shelf, case: Case) -> Shelf {
-    match open_on(alloc, shelf, (case.schema, case.equation)) {
+fn expect_unopened(
+    rt: &impl Abort,
+    alloc: Global,
+    machine: MemoryMachine,
+    case: Case,
+) -> MemoryMachine {
+    match open_on(alloc, machine, (case.schema, case.equation)) {
         Ok(store) => {
             assert!(rt; false, "the device was opened");
             close(store)
         }
-        Err((shelf, why)) => {
+        Err((machine, why)) => {
             assert!(rt; why == case.why);
-            shelf
+            machine
         }
     }
 }
@@ -108,35 +118,40 @@ fn expect_unopened(rt: &impl Abort, alloc: Global, shelf: Shelf, case: Case) -> 
 fn expect_blocks(
     rt: &impl Abort,
     alloc: Global,
-    shelf: &mut Shelf,
+    machine: &mut MemoryMachine,
     blocks: &[[u8; 4096]],
 ) -> Result<(), Fail> {
-    let found = blocks_of(alloc, shelf)?;
+    let found = blocks_of(alloc, machine)?;
     assert!(rt; found.as_slice() == blocks);
     Ok(())
 }
 
 // Expects the refusal, and that nothing is written.
-fn expect_refusal(rt: &impl Abort, alloc: Global, shelf: Shelf, case: Case) -> Result<(), Fail> {
-    let mut shelf = shelf;
-    let blocks = blocks_of(alloc, &mut shelf)?;
-    let mut shelf = expect_unopened(rt, alloc, shelf, case);
-    expect_blocks(rt, alloc, &mut shelf, blocks.as_slice())
+fn expect_refusal(
+    rt: &impl Abort,
+    alloc: Global,
+    machine: MemoryMachine,
+    case: Case,
+) -> Result<(), Fail> {
+    let mut machine = machine;
+    let blocks = blocks_of(alloc, &mut machine)?;
+    let mut machine = expect_unopened(rt, alloc, machine, case);
+    expect_blocks(rt, alloc, &mut machine, blocks.as_slice())
 }
 
 #[test]
 fn databases_are_refused(rt: HostRuntime) -> Result<(), Fail> {
     for case in CASES {
-        let shelf = shelf_of(&rt, rt.alloc(), case.before)?;
-        expect_refusal(&rt, rt.alloc(), shelf, case)?;
+        let machine = machine_of(&rt, rt.alloc(), case.before)?;
+        expect_refusal(&rt, rt.alloc(), machine, case)?;
     }
     Ok(())
 }
 
 #[test]
 fn a_name_with_a_device_is_not_made(rt: HostRuntime) -> Result<(), Fail> {
-    let mut shelf = shelf_of(&rt, rt.alloc(), Before::Database)?;
-    let blocks = blocks_of(rt.alloc(), &mut shelf)?;
-    let mut shelf = make_again(&rt, rt.alloc(), shelf, Err(Unopened::Exists));
-    expect_blocks(&rt, rt.alloc(), &mut shelf, blocks.as_slice())
+    let mut machine = machine_of(&rt, rt.alloc(), Before::Database)?;
+    let blocks = blocks_of(rt.alloc(), &mut machine)?;
+    let mut machine = make_again(&rt, rt.alloc(), machine, Err(Unopened::Exists));
+    expect_blocks(&rt, rt.alloc(), &mut machine, blocks.as_slice())
 }

@@ -171,6 +171,44 @@ fn spans_select_in_order(rt: HostRuntime) -> Result<(), Fail> {
     Ok(())
 }
 
+// The keys and bodies that are inserted, in this order, and whether the key was absent.
+const INSERTS: [(&str, &str, bool); 5] = [
+    ("ab", "1", true),
+    ("a", "2", true),
+    ("a", "3", false),
+    ("ab", "4", false),
+    ("b", "5", true),
+];
+
+// The two ends of a span, a limit, and how many entries are counted then.
+const COUNTS: [((&str, &str), u32, u32); 6] = [
+    (("", ""), 9, 3),
+    (("", ""), 3, 3),
+    (("", ""), 2, 2),
+    (("a", "a"), 9, 2),
+    (("b", "a"), 9, 0),
+    (("", ""), 0, 0),
+];
+
+#[test]
+fn absent_keys_are_inserted_and_counted(rt: HostRuntime) -> Result<(), Fail> {
+    let alloc = rt.alloc();
+    let mut leaves = made(alloc, MemoryMachine::new(alloc)?)?;
+    for (key, body, absent) in INSERTS {
+        assert!(rt; leaves.leaves() == 2);
+        let (key, body) = (key.as_bytes(), body.as_bytes());
+        let (key, body) = (&key[..key.len().min(2)], &body[..body.len().min(1)]);
+        assert!(rt; leaves.insert(alloc, 0, key, body)? == absent);
+    }
+    assert!(rt; has_entries(alloc, &mut leaves, 0, ("", ""), "a2 ab1 b5 ")?);
+    for ((lo, hi), limit, count) in COUNTS {
+        assert!(rt; leaves.leaves() == 2);
+        let inside = span(lo.as_bytes(), hi.as_bytes());
+        assert!(rt; leaves.count(alloc, 0, &inside, limit)? == count);
+    }
+    Ok(())
+}
+
 // A machine with a script, and room to say four bytes.
 fn heard_machine(alloc: Global) -> Result<MemoryMachine, Fail> {
     let mut machine = MemoryMachine::new(alloc)?;

@@ -1,14 +1,21 @@
-//! Tests of pages, byte for byte, of the frames that hold them, and of their owners on a device, by
-//! their public calls. There is no code here beside them.
+//! Tests of pages, byte for byte, of the frames that hold them, of their owners on a device, and of
+//! a commit with a crash at each of its moments, by their public calls. There is no code here beside
+//! them.
 #![tactic(auto)]
 
 #[cfg(test)]
 mod bytes;
 #[cfg(test)]
+mod crashes;
+#[cfg(test)]
 mod entry_pages;
+#[cfg(test)]
+mod few_frames;
 #[cfg(test)]
 mod frames;
 #[cfg(test)]
 mod inner_pages;
+#[cfg(test)]
+mod journals;
 #[cfg(test)]
 mod owned_pages;

@@ -36,7 +36,7 @@ enum Step {
 fn is_past(pages: &Paged<MemoryMachine>, page: u32) -> bool
     ensures { IsTrue result → IsPast (ground_of (journal_of pages.now)) page }
 {
-    16 <= page && page < pages.pages()
+    pages.tables() <= page && page < pages.pages()
 }
 
 fn is_owner(owner: u16) -> bool
@@ -169,6 +169,8 @@ fn kept_pages_are_adopted(rt: HostRuntime) -> Result<(), Fail> {
     assert!(rt; pages.pages() == 20);
     assert!(rt; pages.read(16, &mut page).is_ok());
     assert!(rt; page.iter().all(|byte| *byte == 0x5A));
+    let first = pages.look(16)?[0];
+    assert!(rt; first == 0x5A);
     assert!(rt; take(&mut pages, Claim(1, Some(17))));
     Ok(())
 }

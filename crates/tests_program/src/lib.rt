@@ -2,6 +2,10 @@
 #![tactic(auto)]
 
 #[cfg(test)]
+mod bounded;
+#[cfg(test)]
+mod partner;
+#[cfg(test)]
 mod requests;
 #[cfg(test)]
 mod row;

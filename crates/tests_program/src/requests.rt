@@ -34,7 +34,7 @@ fn machine(alloc: Global, script: &[u8]) -> Result<MemoryMachine, Fail> {
     Ok(machine)
 }
 
-fn words(alloc: Global, line: &str) -> Result<Vec<String>, Fail> {
+pub(crate) fn words(alloc: Global, line: &str) -> Result<Vec<String>, Fail> {
     let mut words = Vec::new(alloc);
     for word in line.split(' ') {
         words.push(String::from_str(alloc, word)?)?;
@@ -43,7 +43,11 @@ fn words(alloc: Global, line: &str) -> Result<Vec<String>, Fail> {
 }
 
 // What a request answers on a machine, beside what it says.
-fn ask(alloc: Global, line: &str, machine: MemoryMachine) -> Result<(Status, MemoryMachine), Fail> {
+pub(crate) fn ask(
+    alloc: Global,
+    line: &str,
+    machine: MemoryMachine,
+) -> Result<(Status, MemoryMachine), Fail> {
     Ok(top(alloc, &words(alloc, line)?, machine))
 }
 
@@ -287,14 +291,15 @@ fn failing_machine(alloc: Global, call: u32) -> Result<MemoryMachine, Fail> {
 // A call of the machine that fails ends the play, and what was said before stays.
 #[test]
 fn calls_fail(rt: HostRuntime) -> Result<(), Fail> {
-    // two texts are fetched, and the script is heard in two calls
+    // two texts are fetched, the script is heard, five answers are said, and its end is heard
     for (call, row, said) in [
         (0, "call 0", ""),
         (1, "call 1", ""),
         (2, "call 2", ""),
         (3, "call 3", ""),
-        (4, "call 4", ""),
-        (5, "call 5", "begun\n"),
+        (4, "call 4", "begun\n"),
+        (5, "call 5", "begun\nok\n"),
+        (8, "call 8", SAID),
     ] {
         let machine = failing_machine(rt.alloc(), call)?;
         expect(
