@@ -3,6 +3,7 @@ ghost use Rattle.std.specs.Prelude.{◌≤◌, IsTrue};
 ghost use Rattle.gx_leaves.specs.Kinds.{are_built};
 
 use crate::bounded::leaves_on;
+use gx_device::Device;
 use gx_memory_machine::MemoryMachine;
 use gx_ports::{Entries, LeafKind, LeafSpec, Leaves, Stop};
 use gx_store::{Store, Unopened, make, open};
