@@ -105,10 +105,10 @@ fn filled(rt: &impl Abort, alloc: Global) -> Result<MemoryMachine, Fail> {
 // How many of the first 4,092 pages belong to the leaf.
 fn count_pages(rt: &impl Abort, alloc: Global, machine: MemoryMachine) -> Result<u32, Fail> {
     let mut pages = pages_on(alloc, machine, 64)?;
-    let mut count = 0;
+    let mut count: u32 = 0;
     for page in 0..4092 {
         if page < pages.pages() && pages.owner(page) == Ok(1) {
-            count += 1;
+            count = count.saturating_add(1);
         }
     }
     assert!(rt; pages.pages() == 4092);
