@@ -2,6 +2,7 @@
 blocks, pages and entries of a device. It goes by docs/FORMATS.md alone, and has nothing of the program."""
 
 import collections
+import itertools
 import os
 import re
 import struct
@@ -20,10 +21,13 @@ KEY_LIMIT, ENTRY_LIMIT, MEMBERS_LIMIT = 400, 1000, 500
 class Wrong(Exception):
     """What is wrong with an input, in one line."""
 
+    status = 1
+
 
 def run(name, main):
-    """Ends with the status of a tool's main: 1 where an input is wrong, and 3 where a file can't be had or
-    the output is closed, each with a line on standard error."""
+    """Ends with the status of a tool's main: 1 where an input is wrong, that of the program where it ended
+    otherwise than with 0, and 3 where a file can't be had or the output is closed, each with a line on
+    standard error."""
     if sys.stdout is None:
         print(f"{name}: the output is closed", file=sys.stderr)
         sys.exit(3)
@@ -31,7 +35,7 @@ def run(name, main):
         status = main()
         sys.stdout.flush()
     except Wrong as it:
-        status = 1
+        status = it.status
         print(f"{name}: {it}", file=sys.stderr)
     except OSError as it:
         status = 3
@@ -406,6 +410,57 @@ def shown(value):
 def spaced(octets):
     """Bytes as docs/FORMATS.md writes them."""
     return octets.hex(" ").upper()
+
+
+# Scripts
+
+# The most bytes of a script, and of a line of it that may be made a comment.
+SCRIPT_LIMIT = 16777216
+UNSURE = "# unsure: "
+LINE_LIMIT = 4096 - len(UNSURE)
+VALUE = re.compile(r'"(?:[^"]|"")*"|-?[0-9]+')
+
+
+def record_commands(file, words):
+    """The commands that make a record of these values as they stand in a script: an insert, or where its line would
+    be too long, one of defaults, and an update for each field."""
+    line = " ".join(["insert", file.name, *words])
+    if len(line) <= LINE_LIMIT:
+        return [line]
+    defaults = ["0" if it.kind == "int" else '""' for it in file.fields[1:]]
+    updates = [f"update {file.name} {words[0]} {it.name} {word}" for it, word in zip(file.fields[1:], words[1:])]
+    return [" ".join(["insert", file.name, words[0], *defaults]), *updates]
+
+
+def transactions(lines, rows):
+    """The lines of a script in transactions of so many lines, each a text. Where there are comments alone they stay
+    so."""
+    lines = iter(lines)
+    while part := list(itertools.islice(lines, rows)):
+        is_empty = all(it.startswith("#") for it in part)
+        yield "".join(f"{it}\n" for it in (part if is_empty else ["begin", *part, "commit"]))
+
+
+def scripts(pieces, limit=SCRIPT_LIMIT):
+    """Texts put together to scripts of at most so many bytes each."""
+    script, size = [], 0
+    for piece in pieces:
+        if script and size + len(piece) > limit:
+            yield "".join(script)
+            script, size = [], 0
+        script.append(piece)
+        size += len(piece)
+    yield "".join(script)
+
+
+def write_scripts(pieces, folder):
+    """Writes the scripts into files of the folder, which is made, and prints their names."""
+    os.makedirs(folder)
+    for number, text in enumerate(scripts(pieces), 1):
+        name = f"{folder}/part{number:03}.script"
+        with open(name, "x", encoding="latin-1") as it:
+            it.write(text)
+        print(name)
 
 
 # Devices
