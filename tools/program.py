@@ -56,7 +56,7 @@ class Play:
         if kind is None:
             self.close()
         else:
-            self.child.kill()
+            self.child.terminate()
             self.child.wait()
 
     def start(self):
