@@ -1,13 +1,14 @@
 """What the tools share that ask the program: a run of it on a device that goes on from command to command, and
 what is told meanwhile at a terminal."""
 
+import argparse
 import os
 import re
 import subprocess
 import sys
 import time
 
-from formats import SCRIPT_LIMIT, VALUE, Wrong
+from formats import SCRIPT_LIMIT, VALUE, Wrong, read_schema, text_of
 
 TOP = os.path.dirname(os.path.dirname(os.path.realpath(__file__)))
 # Less than a pipe holds, so that a program that waits to be read never waits for one that waits to write.
@@ -154,3 +155,48 @@ class Progress:
             rate = counts[0] / max(now - self.start, 0.001)
             text = f"{', '.join(parts)}, {rate:,.0f} {self.units[0]} a second"
             print(f"\r{text:<78}", end="\n" if is_last else "", file=sys.stderr, flush=True)
+
+
+def owners_of(play, link):
+    """For each member's key of a link its owner's, both as they stand in a script."""
+    keys = [values(line)[0] for answer in play.listed([f"find {link.owner.name}"]) for line in answer]
+    found = {}
+    for owner, answer in zip(keys, play.listed(f"members {link.name} {it}" for it in keys)):
+        found |= {values(line)[0]: owner for line in answer}
+    return found
+
+
+def rows_of(program, texts, name):
+    """The names of the columns of a file, which are its fields and for each link of its records LINK.owner; and then its
+    rows, in which a value is an int or a text, and none where a record has no owner."""
+    schema = read_schema(text_of(texts[0]), texts[0])
+    file = next((it for it in schema.files if it.name == name), None)
+    if file is None:
+        raise Wrong(f"{texts[0]} has no file {name}")
+    links = [it for it in schema.links if it.member == file]
+    with Play(program, texts) as play:
+        owners = [owners_of(play, it) for it in links]
+        yield [it.name for it in file.fields] + [f"{it.name}.owner" for it in links]
+        for answer in play.listed([f"find {name}"]):
+            for line in answer:
+                words = values(line)
+                yield [plain(it) for it in words + [it.get(words[0]) for it in owners]]
+
+
+def plain(word):
+    """The value that a word of a script is."""
+    if word is None:
+        return None
+    return word[1:-1].replace('""', '"') if word.startswith('"') else int(word)
+
+
+def table_main(name, what, write):
+    """The main of a tool that writes the table of a file of a device."""
+    words = argparse.ArgumentParser(prog=name, description=what)
+    add_program(words)
+    for word in ("SCHEMA", "EQUATION", "DEVICE", "FILE"):
+        words.add_argument(word.lower(), metavar=word)
+    given = words.parse_args()
+    rows = rows_of(given.program, [given.schema, given.equation, given.device], given.file)
+    write(next(rows), rows)
+    return 0
