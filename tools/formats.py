@@ -68,14 +68,14 @@ TOKEN = re.compile(r'(?P<word>[a-z_][a-z0-9_]*)|(?P<number>-?[0-9]+)'
 
 
 def tokens(text, what):
-    """The tokens of a text, each with its line, and a last one of the kind `end`."""
+    """The tokens of a text, each with its line, and a last one of the kind `end` in the line of the last byte."""
     found, at, line = [], 0, 1
     while True:
         blanks = BLANKS.match(text, at)
         line += text.count("\n", at, blanks.end())
         at = blanks.end()
         if at == len(text):
-            found.append(Token("end", "the end", line))
+            found.append(Token("end", "the end", 1 + text.count("\n", 0, len(text) - 1) if text else 1))
             return found
         match = TOKEN.match(text, at)
         kind = match.lastgroup if match else None
@@ -260,7 +260,11 @@ def read_term(words, depth):
     words.sign("(")
     if head in ("encode", "segment", "partition", "index"):
         own.append(words.take("word").text)
-        while head != "index" and not words.is_sign(","):
+        if head == "encode":
+            if words.peek().text not in ("pack", "rle"):
+                words.fail("pack or rle is due")
+            own.append(words.take("word").text)
+        while head == "partition" and len(own) == 1 or head in ("segment", "partition") and not words.is_sign(","):
             if head == "partition":
                 is_number = words.peek().kind == "number"
                 own.append(words.number(-1 << 63, (1 << 63) - 1) if is_number else value_of(words.take("quoted")))
@@ -270,15 +274,13 @@ def read_term(words, depth):
     elif head == "divide":
         own.append(words.number(1, 16000))
         words.sign(",")
+    count = {"segment": 2, "index": 2, "actual": 1, "encode": 1, "divide": 1, **LINKSETS}.get(head)
     while True:
         terms.append(read_term(words, depth + 1))
-        if not words.is_sign(","):
+        if len(terms) == count or count is None and not words.is_sign(","):
             break
         words.sign(",")
     words.sign(")")
-    count = {"segment": 2, "index": 2, "actual": 1, "encode": 1, "divide": 1, **LINKSETS}.get(head, len(terms))
-    if len(terms) != count or head == "encode" and own[1:] not in (["pack"], ["rle"]):
-        words.fail(f"a {head} of another form is due")
     return Term(head, own, terms, token.line)
 
 
