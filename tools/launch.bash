@@ -141,7 +141,8 @@ launch() {
         trapped=
         wait "$child" 2>/dev/null
         got=$?
-        ((got == 127)) || status=$got
+        # (where the program ended between, there is nothing to wait for any more)
+        ((got < 0 || got == 127)) || status=$got
         [[ $trapped ]]
     do :; done
     [[ $status != 3 ]] || explain_outside "${@:2}"
