@@ -64,7 +64,7 @@ is_full() {
 
 # The causes of status 3 that can be seen from outside, for the words of a request, a line each.
 causes() {
-    local request=$1 texts=("${@:2:2}") device= name folder
+    local request=$1 texts=("${@:2:2}") device='' name folder
     case $request in
     make | run | inspect) device=$4 ;;
     work) texts=("$2") device=$3 ;;
@@ -77,7 +77,8 @@ causes() {
         if [[ -f $device ]]; then
             [[ -r $device && -w $device ]] || echo "can't read and write $device"
             ! is_locked "$device" ||
-                echo "another program has $device, or one that was killed hasn't let go of it yet: flock $device true waits for that"
+                echo "another program has $device, or one that was killed hasn't let go of it yet:" \
+                    "flock $device true waits for that"
             [[ $request != run ]] || ! is_full "$device" || echo "the disk of $device has no room"
         fi
         ;;
@@ -124,9 +125,12 @@ explain_outside() {
 
 # launch PROGRAM WORD..: runs the program, hands each signal on to it, and ends as it does. After status 3 it says why.
 launch() {
-    local child status=0 got signal trapped has_input= has_output=
+    local child='' status=0 got signal trapped='' has_input='' has_output=''
     { : 9<&0; } 2>/dev/null && has_input=1
     { : 9>&1; } 2>/dev/null && has_output=1
+    for signal in HUP INT QUIT TERM USR1 USR2 ALRM; do
+        trap "trapped=$signal; [[ ! \$child ]] || kill -s $signal \"\$child\" 2>/dev/null" "$signal"
+    done
     # (a shell lets what it starts beside itself ignore two signals, and read nothing)
     if [[ $has_input ]]; then
         (trap - INT QUIT && exec "$@") <&0 &
@@ -134,9 +138,7 @@ launch() {
         (trap - INT QUIT && exec "$@") <&- &
     fi
     child=$!
-    for signal in HUP INT QUIT TERM USR1 USR2 ALRM; do
-        trap "trapped=1; kill -s $signal $child 2>/dev/null" "$signal"
-    done
+    [[ ! $trapped ]] || kill -s "$trapped" "$child"
     while
         trapped=
         wait "$child" 2>/dev/null
