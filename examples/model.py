@@ -1,5 +1,5 @@
-"""The play of a script on an abstract database, as docs/FORMATS.md tells it: what `try`, `run` and `explain` say. It
-shares no code with the program, and knows nothing of leaves."""
+"""The play of a script on an abstract database, as docs/FORMATS.md tells it: what `try`, `run` and
+`explain` say. It shares no code with the program, and knows nothing of leaves."""
 
 import re
 import sys
@@ -27,7 +27,8 @@ class Refused(Exception):
 
 
 def lines_of(script):
-    """The lines of a script, without their ends, and after them what is wrong with a script that is too long."""
+    """The lines of a script, without their ends, and after them what is wrong with a script that is
+    too long."""
     for number, line in enumerate(script.split(b"\n"), 1):
         before = sum(len(it) + 1 for it in script.split(b"\n")[:number - 1]) if len(script) > SCRIPT_LIMIT else 0
         is_last = number == script.count(b"\n") + 1
@@ -182,7 +183,8 @@ class Model:
         self.owners = {it.name: {} for it in schema.links}
 
     def play(self, script):
-        """What is said of a script, and the status. Where it stops, what wasn't committed is given up."""
+        """What is said of a script, and the status. Where it stops, what wasn't committed is given
+        up."""
         said, number, self.commits, kept = [], 0, 0, None
         try:
             for number, line in enumerate(lines_of(script), 1):

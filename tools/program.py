@@ -1,5 +1,5 @@
-"""What the tools share that ask the program: a run of it on a device that goes on from command to command, and
-what is told meanwhile at a terminal."""
+"""What the tools share that ask the program: a run of it on a device that goes on from command to
+command, and what is told meanwhile at a terminal."""
 
 import argparse
 import os
@@ -43,11 +43,11 @@ def said_by(program, words, script=b""):
 
 
 class Play:
-    """A run of the program on a device, which has the device until it is closed. Where a script would be too long
-    another run goes on, and `begun` is how many lines the runs before it were told."""
+    """A run of the program on a device, which has the device until it is closed. Where a script
+    would be too long another run goes on."""
 
     def __init__(self, program, texts):
-        self.words, self.told, self.begun = [program, "run", *texts], 0, 0
+        self.words = [program, "run", *texts]
         self.start()
 
     def __enter__(self):
@@ -61,7 +61,7 @@ class Play:
             self.child.wait()
 
     def start(self):
-        self.written, self.begun = 0, self.told
+        self.written = 0
         self.child = subprocess.Popen(self.words, stdin=subprocess.PIPE, stdout=subprocess.PIPE)
 
     def close(self, said=""):
@@ -87,7 +87,6 @@ class Play:
         """Tells the program lines, of which each has its end."""
         text = b"".join(lines)
         self.written += len(text)
-        self.told += len(lines)
         try:
             self.child.stdin.write(text)
             self.child.stdin.flush()
@@ -95,7 +94,8 @@ class Play:
             pass
 
     def hear(self):
-        """The next line of an answer. Where the program ended instead, with whatever status, this is Ended."""
+        """The next line of an answer. Where the program ended instead, with whatever status, this
+        is Ended."""
         line = self.child.stdout.readline().decode("latin-1")
         if not line or ENDS.match(line):
             self.close(line)
@@ -103,9 +103,9 @@ class Play:
         return line[:-1]
 
     def listed(self, commands):
-        """For each command that lists records the lines of its answer but the last one, `found N`. Each is played in a
-        transaction that is given up, so that `begun` and `dropped` stand around it, whatever its records are. The lines
-        have to be taken before the next answer is."""
+        """For each command that lists records the lines of its answer but the last one, `found N`.
+        Each is played in a transaction that is given up, so that `begun` and `dropped` stand around
+        it, whatever its records are. The lines have to be taken before the next answer is."""
         for batch in batches(f"begin\n{it}\nabort\n".encode("latin-1") for it in commands):
             self.make_room(sum(map(len, batch)))
             self.tell([b"%s\n" % it for part in batch for it in part.splitlines()])
@@ -167,8 +167,9 @@ def owners_of(play, link):
 
 
 def rows_of(program, texts, name):
-    """The names of the columns of a file, which are its fields and for each link of its records LINK.owner; and then its
-    rows, in which a value is an int or a text, and none where a record has no owner."""
+    """The names of the columns of a file, which are its fields and for each link of its records
+    LINK.owner; and then its rows, in which a value is an int or a text, and none where a record has
+    no owner."""
     schema = read_schema(text_of(texts[0]), texts[0])
     file = next((it for it in schema.files if it.name == name), None)
     if file is None:
