@@ -2,6 +2,7 @@
 command, and what is told meanwhile at a terminal."""
 
 import argparse
+import itertools
 import os
 import re
 import subprocess
@@ -177,11 +178,13 @@ def rows_of(program, texts, name):
     links = [it for it in schema.links if it.member == file]
     with Play(program, texts) as play:
         owners = [owners_of(play, it) for it in links]
+        lines = (line for answer in play.listed([f"find {name}"]) for line in answer)
+        # (so nothing is written where the device can't be had)
+        first = next(lines, None)
         yield [it.name for it in file.fields] + [f"{it.name}.owner" for it in links]
-        for answer in play.listed([f"find {name}"]):
-            for line in answer:
-                words = values(line)
-                yield [plain(it) for it in words + [it.get(words[0]) for it in owners]]
+        for line in [] if first is None else itertools.chain([first], lines):
+            words = values(line)
+            yield [plain(it) for it in words + [it.get(words[0]) for it in owners]]
 
 
 def plain(word):
