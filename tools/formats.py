@@ -458,11 +458,16 @@ def scripts(pieces, limit=SCRIPT_LIMIT):
 def write_scripts(pieces, folder):
     """Writes the scripts into files of the folder, which is made, and prints their names."""
     os.makedirs(folder)
-    for number, text in enumerate(scripts(pieces), 1):
-        name = f"{folder}/part{number:03}.script"
-        with open(name, "x", encoding="latin-1") as it:
-            it.write(text)
-        print(name)
+    try:
+        for number, text in enumerate(scripts(pieces), 1):
+            name = f"{folder}/part{number:03}.script"
+            with open(name, "x", encoding="latin-1") as it:
+                it.write(text)
+            print(name)
+    except BaseException:
+        if not os.listdir(folder):
+            os.rmdir(folder)
+        raise
 
 
 # Devices
