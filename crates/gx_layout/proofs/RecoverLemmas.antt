@@ -363,7 +363,7 @@ unwritten_read a b c s r =
     }
 
 pub recovers_none : (v : View) (a b : Content) → Syncs a b → Recovers v a b
-recovers_none v a b s = inl (unwritten_sync a b s)
+recovers_none v a b s = inl (unwritten_sync a b s, s.time)
 
 -- the magic was read after a sync
 module _ (v : View) (a b c : Content) (s : Syncs a b) (r : OnlyTime b c)
@@ -380,6 +380,7 @@ module _ (v : View) (a b c : Content) (s : Syncs a b) (r : OnlyTime b c)
   pub recovers_read : Recovers v a c
   recovers_read = inr (record {
     mid = b;
+    time = s.time;
     first = synced (IsImage a.now) a b s (λ image is. is);
     none_pending = none;
     then = magic_images;
@@ -389,6 +390,7 @@ module _ (v : View) (a b c : Content) (s : Syncs a b) (r : OnlyTime b c)
       → (NonePending c → ReadsAs c.now v → LeavesOnly (StandsFor v) c d) → Recovers v a d
   recovers_settled d settled = inr (record {
     mid = b;
+    time = s.time;
     first = synced (IsImage a.now) a b s (λ image is. is);
     none_pending = none;
     then = joined (EachImage (StandsFor v)) b c d magic_images (settled (still_none b c r none)

@@ -1,7 +1,7 @@
 -- The pages that recovery finds, what a crash may leave while it works, and what it writes.
 use Rattle.std.specs.Prelude.{◌≡◌, ◌⊎◌, ℕ, true, List, [], get_or, length, map}
 use Rattle.std.specs.List.{range_with_len}
-use Rattle.gx_device.specs.Content.{Content, NonePending}
+use Rattle.gx_device.specs.Content.{Content, NonePending, Ticks}
 use Rattle.gx_device.specs.Crash.{IsImage, LeavesOnly}
 use Rattle.gx_layout.specs.Layout.{View, StandsFor, IsIn, flags, has_bit_on, is_open, head_of, home, pages_of, replayed}
 
@@ -24,6 +24,7 @@ view_now pages c =
 -- after the first sync nothing is pending, and each image stands for the view
 pub record AfterSync (v : View) (old new : Content) : Type 0 where
   pub mid : Content
+  pub time : Ticks old mid
   pub first : LeavesOnly (IsImage old.now) old mid
   pub none_pending : NonePending mid
   pub then : LeavesOnly (StandsFor v) mid new
@@ -34,9 +35,9 @@ pub record IsUnwritten (old new : Content) : Type 0 where
   pub blocks : new.now.blocks ≡ old.now.blocks
   pub images : LeavesOnly (IsImage old.now) old new
 
--- the first sync failed, or it didn't
+-- The first sync failed, and nothing followed; or it didn't.
 abbrev pub Recovers : View → Content → Content → Type 0
-Recovers v old new = IsUnwritten old new ⊎ AfterSync v old new
+Recovers v old new = (IsUnwritten old new × Ticks old new) ⊎ AfterSync v old new
 
 -- a block that recovery may write: where the gate is open, the gate and the homes of the pages that
 -- the bitmap names

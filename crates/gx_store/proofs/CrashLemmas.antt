@@ -1,14 +1,14 @@
 -- What a crash leaves while a device is opened.
-use Rattle.std.proofs.Common.{◌≡◌, ◌∙◌, inl, inr, ℕ, Bool, List, [], ◌∷◌, length, Some, refl, sym, ap, subst}
+use Rattle.std.proofs.Common.{◌≡◌, ◌∙◌, ◌⊎◌, inl, inr, ℕ, Bool, List, [], ◌∷◌, ◌++◌, length, Some, refl, sym, ap, subst, append_assoc}
 use Rattle.std.proofs.lemmas.List.{append-nil}
 use Rattle.std.proofs.lemmas.List.Elements.{All-nil, All-cons}
 use Rattle.gx_device.specs.declared.device.Device as device
-use Rattle.gx_device.specs.Content.{Moment, Content, Ticks, Silent, SameContent}
-use Rattle.gx_device.specs.Crash.{Image, IsImage, EachImage, LeavesOnly}
+use Rattle.gx_device.specs.Content.{Moment, Content, NonePending, Ticks, Silent, SameContent, is_pending}
+use Rattle.gx_device.specs.Crash.{Image, IsImage, EachImage, Through, LeavesOnly}
 use Rattle.gx_device.specs.Quiet.{IsPrefix, IsQuiet}
 use Rattle.gx_device.proofs.RunLemmas.{started, ticked, joined, weakened}
 use Rattle.gx_layout.specs.Layout.{View, StandsFor, Shows, Replays, head_of}
-use Rattle.gx_layout.specs.Recovered.{Recovers, replayed_pages, view_now}
+use Rattle.gx_layout.specs.Recovered.{AfterSync, Recovers, replayed_pages, view_now}
 use Rattle.gx_journal.specs.State.{head_told, homes_told, CalmSince}
 use Rattle.gx_journal.specs.StateLaws.{calm_shows}
 use Rattle.gx_journal.specs.declared.journal.Journal.{Journal}
@@ -18,7 +18,7 @@ use Rattle.gx_ports.proofs.ImageLemmas.{prefix_both, quiet_images}
 use Rattle.gx_store.specs.Device.{ReadAlike}
 use Rattle.gx_store.specs.Store.{Attaches}
 use Rattle.gx_store.specs.Opened.{IsOnlyRead}
-use Rattle.gx_store.specs.Crashes.{Unattached, Attached, IsReplayed, IsOpeningImage}
+use Rattle.gx_store.specs.Crashes.{Unattached, Attached, IsAsBefore, IsFirstOf, IsReached, IsReplayed, IsOpeningImage}
 
 -- the blocks as they read are one of the images
 pub reads_image : (m : Moment)
@@ -49,6 +49,45 @@ attached_now name old middle (inr same) named rest = record {
   named = named;
   rest = rest;
 }
+
+-- ---- the first moment
+
+-- one call that leaves the blocks, or that is none
+pub reached_once : (old new : Content) → Ticks old new → IsReached old new
+reached_once old new (inl on) = inl (inr ([], on))
+reached_once old new (inr same) =
+    inr (subst (λ (c : Content). Through (IsAsBefore old.now) old c) (sym same)
+    (started (IsAsBefore old.now) old (record { blocks = refl; pending = refl })))
+
+-- a sync that leaves nothing pending
+first_sync : (old mid : Content) → Ticks old mid → NonePending mid → IsFirstOf old mid
+first_sync old mid (inl on) none = inr ([], on)
+first_sync old mid (inr same) none =
+    inl (λ n. sym (ap (λ (c : Content). is_pending c.now n) same) ∙ none n)
+
+-- and so it is whatever follows
+pub first_on : (old mid new : Content) → IsFirstOf old mid → (between : List Moment)
+    → new.past ≡ mid.past ++ between → IsFirstOf old new
+first_on old mid new (inl none) between past = inl none
+first_on old mid new (inr at) between past =
+    inr (
+      at.0 ++ between,
+      past ∙ ap (λ (p : List Moment). p ++ between) at.1
+          ∙ append_assoc old.past (old.now ∷ at.0) between,
+    )
+
+-- what was reached stays so where something follows that touches no block
+pub reached_later : (start mid new : Content) → IsReached start mid
+    → Through (IsAsBefore mid.now) mid new → IsReached start new
+reached_later start mid new (inl first) run =
+    inl (first_on start mid new first run.between run.past)
+reached_later start mid new (inr same) run =
+    inr (joined (IsAsBefore start.now) start mid new same
+    (weakened (IsAsBefore mid.now) (IsAsBefore start.now)
+    (λ m x. record {
+      blocks = x.blocks ∙ same.now.blocks;
+      pending = x.pending ∙ same.now.pending;
+    }) mid new run))
 
 -- ---- recovery
 
@@ -89,7 +128,7 @@ module _ (old : Content) where
 
   pub opening_images : (new : Content) → Recovers view_old old new
       → LeavesOnly (IsOpeningImage old.now) old new
-  opening_images new (inl before) = opening_first old new before.images
+  opening_images new (inl before) = opening_first old new before.0.images
   opening_images new (inr after) =
       joined (EachImage (IsOpeningImage old.now)) old after.mid new
       (opening_first old after.mid after.first)
@@ -99,10 +138,28 @@ module _ (old : Content) where
   pub recovers_alike : (new : Content) → Recovers view_old old new
       → ReadAlike old.now.blocks new.now.blocks
   recovers_alike new (inl before) =
-      subst (λ (bs : List (List ℕ)). ReadAlike old.now.blocks bs) (sym before.blocks)
+      subst (λ (bs : List (List ℕ)). ReadAlike old.now.blocks bs) (sym before.0.blocks)
       (record { count = refl; head = refl; pages = refl })
   recovers_alike new (inr after) =
       (replayed_by old _ (after.then.now _ (reads_image new.now))).alike
+
+  -- what stood before is the first moment
+  recovers_first : (new : Content) → AfterSync view_old old new → IsFirstOf old new
+  recovers_first new after =
+      first_on old after.mid new (first_sync old after.mid after.time after.none_pending)
+      after.then.between after.then.past
+
+  pub recovers_reached : (new : Content) → Recovers view_old old new → IsReached old new
+  recovers_reached new (inl before) = reached_once old new before.1
+  recovers_reached new (inr after) = inl (recovers_first new after)
+
+  -- and so it stays where nothing was pending then
+  pub recovered_then : (mid new : Content) → Recovers view_old old mid → NonePending mid
+      → (between : List Moment) → new.past ≡ mid.past ++ between → IsFirstOf old new
+  recovered_then mid new (inl before) none between past =
+      first_on old mid new (first_sync old mid before.1 none) between past
+  recovered_then mid new (inr after) none between past =
+      first_on old mid new (recovers_first mid after) between past
 
   -- where the machine isn't called
   pub opening_none : LeavesOnly (IsOpeningImage old.now) old old

@@ -299,8 +299,8 @@ module _ (name : List ℕ) (size : ℕ) (schema equation : List ℕ) (specs : Li
       unmade_same unopened.Fault = tt
       unmade_same unopened.NoMemory = tt
 
-  module _ (mid new : Content) (m : IsMade size name old mid) (time : Ticks old mid)
-      (silent : Silent mid new)
+  module _ (mid new : Content) (m : IsMade size name old mid) (fits : IsSize specs size)
+      (time : Ticks old mid) (silent : Silent mid new)
       (images : LeavesOnly
       (IsNewImage schema equation specs (replicate (length specs) empty) mid.now) mid new) where
     new_at : device_at new.now name ≡ Some new.now.blocks
@@ -311,8 +311,10 @@ module _ (name : List ℕ) (size : ℕ) (schema equation : List ℕ) (specs : Li
       middle = mid;
       attached = attached_now name old mid time m.attached.named
           (attached_rest name (zero_blocks size) old mid mid m.attached (silent_itself mid));
+      fits = fits;
       free = m.free;
       count = new_count name size old mid m;
+      none_pending = m.none_pending;
       named = attached_named name (zero_blocks size) old mid new m.attached silent;
       images = images;
     }
@@ -335,9 +337,9 @@ module _ (name : List ℕ) (size : ℕ) (schema equation : List ℕ) (specs : Li
     }
 
     pub left_making : (r : Result (Unit {0}) Unopened) (many : ℕ) → many ≡ length mid.now.blocks
-        → IsSize specs size → IfErr r (λ why. IsUnmadeOn specs many why)
+        → IfErr r (λ why. IsUnmadeOn specs many why)
         → LeavesMaking name size schema equation specs old new r
-    left_making r many sized fits un =
+    left_making r many sized un =
         let reads = reads_new schema equation specs (replicate (length specs) empty) mid.now mid new
         images in
         let count = sized ∙ new_count name size old mid m in

@@ -13,7 +13,7 @@ use Rattle.gx_leaves.specs.declared.paged.PagedLeaves.{PagedLeaves}
 use Rattle.gx_store.specs.Causes.{not_attached}
 use Rattle.gx_store.specs.Device.{ReadAlike}
 use Rattle.gx_store.specs.Opening.{AreUnopened, HaveDatabase, IsRecoveryOf, is_untouched}
-use Rattle.gx_store.specs.Crashes.{Unattached, Opens, IsOpeningImage, IsLeftBy, RefusesBy}
+use Rattle.gx_store.specs.Crashes.{Unattached, Opens, IsReached, IsOpeningImage, IsLeftBy, RefusesBy}
 use Rattle.gx_store.specs.Opened.{IsStoreOn, IsStoreOf, LeavesOpened, LeavesNamed}
 use Rattle.gx_store.specs.Store.{machine_left}
 use Rattle.gx_store.specs.declared.unopened.Unopened.{Unopened}
@@ -33,12 +33,14 @@ unattached_by attach.NoMemory name old new exists same = tt
 module _ (name : List ℕ) (old mid new : Content) (o : IsOpened name old mid)
     (time : Ticks old mid) (silent : Silent mid new) where
   -- a device that was there was attached, and no other since
-  pub opens_named : LeavesOnly (IsOpeningImage mid.now) mid new → Opens name old new
-  opens_named images = record {
+  pub opens_named : IsReached mid new → LeavesOnly (IsOpeningImage mid.now) mid new
+      → Opens name old new
+  opens_named reached images = record {
     middle = mid;
     attached = attached_now name old mid time o.attached.named
         (attached_rest name o.blocks old mid mid o.attached (silent_itself mid));
     was = o.was ∙ ap (λ (bs : List (List ℕ)). Some bs) (sym o.attached.blocks_are);
+    reached = reached;
     named = attached_named name o.blocks old mid new o.attached silent;
     images = images;
   }
@@ -46,17 +48,17 @@ module _ (name : List ℕ) (old mid new : Content) (o : IsOpened name old mid)
   -- a refusal of the attached device
   pub refused_named : (schema equation : List ℕ) (specs : List LeafSpec) (why : Unopened)
       → AreUnopened schema equation specs mid.now.blocks why
-      → LeavesOnly (IsOpeningImage mid.now) mid new → IsLeftBy mid new why
+      → IsReached mid new → LeavesOnly (IsOpeningImage mid.now) mid new → IsLeftBy mid new why
       → RefusesBy name old new why
   unfolding opens_named
-  refused_named schema equation specs unopened.Missing un images is = absurd un
-  refused_named schema equation specs unopened.Exists un images is = un
-  refused_named schema equation specs unopened.Fault un images is = tt
-  refused_named schema equation specs unopened.NoMemory un images is = tt
-  refused_named schema equation specs unopened.Size un images is = (opens_named images, is)
-  refused_named schema equation specs unopened.NoDatabase un images is = (opens_named images, is)
-  refused_named schema equation specs (unopened.OtherTexts place) un images is =
-      (opens_named images, is)
+  refused_named schema equation specs unopened.Missing un reached images is = absurd un
+  refused_named schema equation specs unopened.Exists un reached images is = un
+  refused_named schema equation specs unopened.Fault un reached images is = tt
+  refused_named schema equation specs unopened.NoMemory un reached images is = tt
+  refused_named schema equation specs unopened.Size un reached images is = (opens_named reached images, is)
+  refused_named schema equation specs unopened.NoDatabase un reached images is = (opens_named reached images, is)
+  refused_named schema equation specs (unopened.OtherTexts place) un reached images is =
+      (opens_named reached images, is)
 
   -- where no block was written
   untouched_named : (schema equation : List ℕ) (specs : List LeafSpec) (why : Unopened)
@@ -78,24 +80,27 @@ module _ {M : Type 0} {g : device.Ghosts M} {v : page_view.Ghosts (Paged M g)}
     (name schema equation : List ℕ) (specs : List LeafSpec) (old : Content) where
   pub opened_by : (r : Result (PagedLeaves (Paged M g) v) (M × Unopened)) (mid : Content)
       → IsOpened name old mid → Ticks old mid → Silent mid (g.content (machine_left r))
+      → IsReached mid (g.content (machine_left r))
       → LeavesOnly (IsOpeningImage mid.now) mid (g.content (machine_left r))
       → IfOk r (λ s. IsStoreOn schema equation specs mid s)
       → IfOk r (λ s. IsStoreOf name schema equation specs old s)
   unfolding opens_named
-  opened_by (Ok s) mid o time silent images is =
-      record { opens = opens_named name old mid _ o time silent images; is = is }
-  opened_by (Err e) mid o time silent images is = tt
+  opened_by (Ok s) mid o time silent reached images is =
+      record { opens = opens_named name old mid _ o time silent reached images; is = is }
+  opened_by (Err e) mid o time silent reached images is = tt
 
   err_named : (mid : Content) → IsOpened name old mid → Ticks old mid
       → (r : Result (PagedLeaves (Paged M g) v) (M × Unopened))
       → Silent mid (g.content (machine_left r))
+      → IsReached mid (g.content (machine_left r))
       → LeavesOnly (IsOpeningImage mid.now) mid (g.content (machine_left r))
       → IfErr r (λ e. AreUnopened schema equation specs mid.now.blocks e.1)
       → IfErr r (λ e. IsLeftBy mid (g.content e.0) e.1)
       → IfErr r (λ e. RefusesBy name old (g.content e.0) e.1)
-  err_named mid o time (Ok s) silent images un is = tt
-  err_named mid o time (Err e) silent images un is =
-      refused_named name old mid (g.content e.0) o time silent schema equation specs e.1 un images is
+  err_named mid o time (Ok s) silent reached images un is = tt
+  err_named mid o time (Err e) silent reached images un is =
+      refused_named name old mid (g.content e.0) o time silent schema equation specs e.1 un reached
+      images is
 
   err_untouched : (mid : Content) → IsOpened name old mid → Ticks old mid
       → (r : Result (PagedLeaves (Paged M g) v) (M × Unopened))
@@ -137,6 +142,6 @@ module _ {M : Type 0} {g : device.Ghosts M} {v : page_view.Ghosts (Paged M g)}
         absent = λ none.
             absurd (let wrong : ◌≡◌ {A = _} None (Some o.blocks) = sym none ∙ o.was in cc);
         untouched = err_untouched mid o time r silent un left.refused;
-        crash = inr (opens_named name old mid last o time silent left.images);
-        refused = err_named mid o time r silent left.images un left.refused;
+        crash = inr (opens_named name old mid last o time silent left.reached left.images);
+        refused = err_named mid o time r silent left.reached left.images un left.refused;
       }

@@ -25,7 +25,7 @@ use Rattle.gx_leaves.specs.Paged.{pages_of as pages_in, places_in, working_of, k
 use Rattle.gx_leaves.specs.Places.{specs_of}
 use Rattle.gx_store.specs.Causes.{no_journal}
 use Rattle.gx_store.specs.Device.{AreTexts, IsHeadOf, IsSettled, ReadAlike, ground_on}
-use Rattle.gx_store.specs.Crashes.{IsReplayed, IsLeftBy}
+use Rattle.gx_store.specs.Crashes.{IsReplayed, IsLeftBy, IsFirstOf}
 use Rattle.gx_store.specs.Opened.{IsStoreOn}
 use Rattle.gx_store.specs.Opening.{AreOpened, AreUnread}
 use Rattle.gx_store.specs.Store.{IsJustOpened, machine_of, machine_left}
@@ -94,9 +94,9 @@ module _ {M : Type 0} {g : device.Ghosts M} {v : page_view.Ghosts (Paged M g)} (
       → IsSettled schema equation specs (working_of s) (g.content (machine_of s)).now.blocks)
       → IfOk r (λ s. IsCalm (journal_of (pages_in s)) (content_of (journal_of (pages_in s))))
       → EachImage (IsReplayed old.now) (g.content (machine_left r)).now
-      → NonePending (g.content (machine_left r))
+      → NonePending (g.content (machine_left r)) → IsFirstOf old (g.content (machine_left r))
       → IfOk r (λ s. IsStoreOn schema equation specs old s)
-  opened_all (Ok s) just opened head ground settled calm replayed none = record {
+  opened_all (Ok s) just opened head ground settled calm replayed none first = record {
     just_opened = just;
     opened = opened;
     head = head;
@@ -105,8 +105,9 @@ module _ {M : Type 0} {g : device.Ghosts M} {v : page_view.Ghosts (Paged M g)} (
     calm = calm;
     replayed = replayed;
     none_pending = none;
+    first = first;
   }
-  opened_all (Err e) just opened head ground settled calm replayed none = tt
+  opened_all (Err e) just opened head ground settled calm replayed none first = tt
 
   -- and a refusal after recovery was carried through
   pub left_all : (r : Result (PagedLeaves (Paged M g) v) (M × Unopened)) (head : List (List ℕ))

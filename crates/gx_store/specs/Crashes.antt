@@ -1,5 +1,5 @@
 -- What a crash may leave of a device while it is attached, opened or made.
-use Rattle.std.specs.Prelude.{◌≡◌, ◌⊎◌, ℕ, false, List, [], ◌++◌, length, get_or, replicate, Some, None}
+use Rattle.std.specs.Prelude.{◌≡◌, ◌⊎◌, ℕ, false, List, [], ◌∷◌, ◌++◌, length, get_or, replicate, Some, None}
 use Rattle.std.specs.List.{All}
 use Rattle.std.specs.FinMap.{empty}
 use Rattle.gx_device.specs.Content.{Moment, Content, NonePending, block_of, device_at}
@@ -9,7 +9,7 @@ use Rattle.gx_layout.specs.Recovered.{IsUnwritten}
 use Rattle.gx_layout.specs.Head.{HasMagic}
 use Rattle.gx_ports.specs.declared.kinds.LeafSpec.{LeafSpec}
 use Rattle.gx_ports.specs.LeafMaps.{LeafMap}
-use Rattle.gx_store.specs.Device.{ReadAlike, Reopens}
+use Rattle.gx_store.specs.Device.{IsSize, ReadAlike, Reopens}
 use Rattle.gx_store.specs.Store.{Attaches}
 use Rattle.gx_store.specs.declared.unopened.Unopened.{Unopened}
 use Rattle.gx_store.specs.declared.unopened.Unopened.TheVariants as unopened
@@ -25,6 +25,20 @@ pub record Attached (name : List ℕ) (old middle : Content) : Type 0 where
   pub before : All (λ m. m ≡ old.now) between
   pub named : middle.now.shelf.name ≡ Some name
   pub rest : Attaches name old middle
+
+-- a moment with the same blocks, of which as many are pending
+pub record IsAsBefore (old now : Moment) : Type 0 where
+  pub blocks : now.blocks ≡ old.blocks
+  pub pending : now.pending ≡ old.pending
+
+-- what stood at the content is the first moment of what followed, or nothing was pending then
+abbrev pub IsFirstOf : Content → Content → Type 0
+IsFirstOf start new =
+    NonePending start ⊎ ((rest : List Moment) × (new.past ≡ start.past ++ start.now ∷ rest))
+
+-- the same, or no block was touched since
+abbrev pub IsReached : Content → Content → Type 0
+IsReached start new = IsFirstOf start new ⊎ Through (IsAsBefore start.now) start new
 
 -- the same is read from an image as from the blocks of a moment, and no more was said
 pub record IsReplayed (m : Moment) (image : Image) : Type 0 where
@@ -42,6 +56,7 @@ pub record Opens (name : List ℕ) (old new : Content) : Type 0 where
   pub middle : Content
   pub attached : Attached name old middle
   pub was : device_at old.now name ≡ Some middle.now.blocks
+  pub reached : IsReached middle new
   pub named : new.now.shelf.name ≡ Some name
   pub images : LeavesOnly (IsOpeningImage middle.now) middle new
 
@@ -80,14 +95,16 @@ pub record HasNoMagic (start : Moment) (image : Image) : Type 0 where
   pub said : image.said ≡ start.said
   pub shelf : image.shelf ≡ start.shelf
 
--- A device of so many blocks was made, and from then on a crash leaves no database, or an empty
--- one.
+-- A device of so many blocks was made, which is a size, and from then on a crash leaves no database,
+-- or an empty one.
 pub record Makes (name : List ℕ) (size : ℕ) (schema equation : List ℕ) (specs : List LeafSpec)
     (old new : Content) : Type 0 where
   pub middle : Content
   pub attached : Attached name old middle
+  pub fits : IsSize specs size
   pub free : device_at old.now name ≡ None
   pub count : length middle.now.blocks ≡ size
+  pub none_pending : NonePending middle
   pub named : new.now.shelf.name ≡ Some name
   pub images : LeavesOnly
       (IsNewImage schema equation specs (replicate (length specs) empty) middle.now) middle new

@@ -18,7 +18,7 @@ use Rattle.gx_leaves.specs.Places.{specs_of}
 use Rattle.gx_store.specs.Device.{IsHeadOf, IsSettled, ReadAlike, ground_on}
 use Rattle.gx_store.specs.Store.{OfBlocks, IsJustOpened, machine_of, machine_left, goes_on}
 use Rattle.gx_store.specs.Opening.{AreOpened, HaveDatabase, IsRecoveryOf, is_untouched}
-use Rattle.gx_store.specs.Crashes.{Unattached, Opens, IsReplayed, IsOpeningImage, IsLeftBy, RefusesBy}
+use Rattle.gx_store.specs.Crashes.{Unattached, Opens, IsFirstOf, IsReached, IsReplayed, IsOpeningImage, IsLeftBy, RefusesBy}
 use Rattle.gx_store.specs.declared.unopened.Unopened.{Unopened}
 
 module _ {M : Type 0} {g : device.Ghosts M} where
@@ -51,6 +51,7 @@ module _ {M : Type 0} {g : device.Ghosts M} where
       pub calm : IsCalm (journal_of (pages_of s)) (content_of (journal_of (pages_of s)))
       pub replayed : EachImage (IsReplayed old.now) (g.content (machine_of s)).now
       pub none_pending : NonePending (g.content (machine_of s))
+      pub first : IsFirstOf old (g.content (machine_of s))
 
     -- the same of a device that was attached by its name
     pub record IsStoreOf (name schema equation : List ℕ) (specs : List LeafSpec) (old : Content)
@@ -62,6 +63,7 @@ module _ {M : Type 0} {g : device.Ghosts M} where
     pub record LeavesOpened (specs : List LeafSpec) (old : Content)
         (result : Result (PagedLeaves (Paged M g) v) (M × Unopened)) : Type 0 where
       pub kept : ReadAlike old.now.blocks (g.content (machine_left result)).now.blocks
+      pub reached : IsReached old (g.content (machine_left result))
       pub images : LeavesOnly (IsOpeningImage old.now) old (g.content (machine_left result))
       pub recovered : IsRecoveryOf old.now.blocks (g.content (machine_left result)).now.blocks
       pub no_database : goes_on result ≡ true → ¬ HaveDatabase specs old.now.blocks

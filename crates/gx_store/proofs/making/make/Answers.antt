@@ -50,7 +50,8 @@ returns-clause-made g c = λ can.
     let old = g.M.Device.content c.args.machine in
     let mid = g.M.Device.content c.attach.new.self in
     made_by c.args.name.now c.args.blocks c.args.schema.now c.args.equation.now c.args.specs.now old
-    mid (g.M.Device.content c.make_attached.result.1) m c.attach.ensures.time
+    mid (g.M.Device.content c.make_attached.result.1) m
+    (c.is_size.ensures.0 c.if-not-is_size.false) c.attach.ensures.time
     c.make_attached.ensures.silent
     (c.make_attached.ensures.images can.told m.none_pending
     (none_new c.args.name.now c.args.blocks old mid m (g.M.Device.size c.attach.new.self)))
@@ -64,13 +65,13 @@ returns-clause-left g c = λ can.
     let old = g.M.Device.content c.args.machine in
     let mid = g.M.Device.content c.attach.new.self in
     left_making c.args.name.now c.args.blocks c.args.schema.now c.args.equation.now
-    c.args.specs.now old mid (g.M.Device.content c.make_attached.result.1) m c.attach.ensures.time
+    c.args.specs.now old mid (g.M.Device.content c.make_attached.result.1) m
+    (c.is_size.ensures.0 c.if-not-is_size.false) c.attach.ensures.time
     c.make_attached.ensures.silent
     (c.make_attached.ensures.images can.told m.none_pending
     (none_new c.args.name.now c.args.blocks old mid m (g.M.Device.size c.attach.new.self)))
     c.make_attached.result.0 (g.M.Device.size c.attach.new.self)
-    (g.met.M.Device.sized c.attach.new.self can.told)
-    (c.is_size.ensures.0 c.if-not-is_size.false) c.make_attached.ensures.unmade
+    (g.met.M.Device.sized c.attach.new.self can.told) c.make_attached.ensures.unmade
 
 pub returns-in-Err-clause-left : goal.returns-in-Err-clause-left
 returns-in-Err-clause-left g c = λ can.

@@ -60,7 +60,8 @@ returns-clause-opened g c = λ can.
     let o = c.in_default.ensures.opened can.told can.may refl in
     let left = c.open_attached.ensures.left can.told in
     opened_by c.args.name.now c.args.schema.now c.args.equation.now c.args.specs.now old
-    c.open_attached.result mid o c.attach.ensures.time c.open_attached.ensures.silent left.images
+    c.open_attached.result mid o c.attach.ensures.time c.open_attached.ensures.silent left.reached
+    left.images
     (c.open_attached.ensures.opened can.told)
 
 pub returns-clause-left : goal.returns-clause-left

@@ -1,4 +1,4 @@
-use Rattle.std.proofs.Common.{◌≡◌, ◌∙◌, ℕ, Bool, true, not, List, [], length, get_or, refl, sym, ap, subst, arith}
+use Rattle.std.proofs.Common.{◌≡◌, ◌∙◌, inl, inr, ℕ, Bool, true, not, List, [], length, get_or, refl, sym, ap, subst, arith}
 use Rattle.std.specs.Prelude.{IfOk, OnOk}
 use Rattle.std.proofs.lemmas.Result.{IfOk-weaker, IfErr-weaker, on_ok_weaker}
 use Rattle.gx_device.specs.Content.{Moment, is_pending}
@@ -23,7 +23,7 @@ use Rattle.gx_store.proofs.JournalLemmas.{journal_settled, maps_placed}
 use Rattle.gx_store.proofs.SettledLemmas.{sized_device, rooms}
 use Rattle.gx_store.proofs.CauseLemmas.{counted_after, sized_by, unread_on}
 use Rattle.gx_store.proofs.AlikeLemmas.{alike_itself, unwritten_by, recovery_itself, recovery_of, recovery_then, headed}
-use Rattle.gx_store.proofs.CrashLemmas.{reads_image, recovers_alike, opening_images, opening_none, opening_then, read_replayed}
+use Rattle.gx_store.proofs.CrashLemmas.{reads_image, reached_once, recovered_then, recovers_alike, recovers_reached, opening_images, opening_none, opening_then, read_replayed}
 use Rattle.gx_store.proofs.OpenedLemmas.{opened_all, left_all, unjournaled}
 use Rattle.gx_store.proofs.opening.open_attached.Goals as goal
 
@@ -98,6 +98,11 @@ returns-in-Ok-clause-opened g c = λ told.
     ground
     (IfOk-weaker r _ _ (λ s is. is.specs_are) c.open_journal.ensures.adopted) in
     let just = c.open_journal.ensures.just_opened c.in-Ok.ensures.recovered.opened.working c.in-Ok.ensures.recovered.opened.steady in
+    let reads = read_replayed old j (machine_left r) (sym after ∙ c.in-Ok.ensures.opens.blocks ∙ before)
+    (c.in-Ok.ensures.recovered.kept told)
+    (sym (ap (λ (b : Bool). head_told b (content_of j)) told) ∙ head)
+    c.in-Ok.ensures.opens.silent (c.in-Ok.ensures.recovered.opened.calm told)
+    c.open_journal.ensures.read in
     opened_all schema equation specs old r just opened heads ground
     (if_ok_both r (λ s. IsJustOpened s)
     (λ s. IsHeadOf schema equation specs (leaves.head_of s))
@@ -118,11 +123,12 @@ returns-in-Ok-clause-opened g c = λ told.
     just heads)
     (IfOk-weaker r _ _ (λ s is. is.calm (c.in-Ok.ensures.recovered.opened.calm told))
     c.open_journal.ensures.adopted)
-    (read_replayed old j (machine_left r) (sym after ∙ c.in-Ok.ensures.opens.blocks ∙ before)
-    (c.in-Ok.ensures.recovered.kept told) (sym (ap (λ (b : Bool). head_told b (content_of j)) told) ∙ head)
-    c.in-Ok.ensures.opens.silent (c.in-Ok.ensures.recovered.opened.calm told) c.open_journal.ensures.read).now
+    reads.now
     (λ n. ap (λ (m : Moment). is_pending m n) c.open_journal.ensures.read.now
     ∙ c.in-Ok.ensures.recovered.opened.none_pending told n)
+    (recovered_then old (content_of j) (g.M.Device.content (machine_left r))
+    (c.in-Ok.ensures.images told) (c.in-Ok.ensures.recovered.opened.none_pending told)
+    reads.between reads.past)
 
 pub returns-in-Ok-clause-left : goal.returns-in-Ok-clause-left
 returns-in-Ok-clause-left g c = λ told.
@@ -142,6 +148,8 @@ returns-in-Ok-clause-left g c = λ told.
     (c.in-Ok.ensures.recovered.opened.calm told) c.open_journal.ensures.read in
     record {
       kept = (reads.now _ (reads_image last.now)).alike;
+      reached = inl (recovered_then old (content_of j) last (c.in-Ok.ensures.images told)
+          (c.in-Ok.ensures.recovered.opened.none_pending told) reads.between reads.past);
       images = joined (EachImage (IsOpeningImage old.now)) old (content_of j) last
           (opening_images old (content_of j) (c.in-Ok.ensures.images told))
           (opening_then old (content_of j) last reads);
@@ -168,6 +176,7 @@ returns-in-Err-clause-left g c = λ told.
     let new = g.M.Device.content c.in-Err.machine in
     record {
       kept = recovers_alike old new (c.in-Err.ensures.images told);
+      reached = recovers_reached old new (c.in-Err.ensures.images told);
       images = opening_images old new (c.in-Err.ensures.images told);
       recovered = recovery_of (g.M.Device.size c.args.machine) old new
           (g.met.M.Device.sized c.args.machine told) (c.in-Err.ensures.touched told);
@@ -189,6 +198,7 @@ returns-then-not-is_size-clause-left g c = λ told.
     let old = g.M.Device.content c.args.machine in
     record {
       kept = alike_itself old.now.blocks;
+      reached = reached_once old old (inr refl);
       images = opening_none old;
       recovered = recovery_itself old.now.blocks;
       no_database = λ goes none. refl;
