@@ -1,2 +1,4 @@
 pub mod Internal
+pub mod Terms
+pub mod Built
 pub mod Stored
