@@ -1,3 +1,4 @@
 mod WorkLemmas
 mod StepLemmas
 mod FollowLemmas
+pub mod CrashLemmas

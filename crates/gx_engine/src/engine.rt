@@ -4,7 +4,9 @@ ghost use Rattle.gx_model.specs.States.{State};
 ghost use Rattle.gx_model.specs.Play.{Playing, start_at};
 ghost use Rattle.gx_ports.specs.LeafMaps.{LeafMap};
 ghost use Rattle.gx_ports.specs.Calls.{Hearing, Saying};
+ghost use Rattle.gx_device.specs.Content.{Content};
 ghost use Rattle.gx_edits.specs.Edits.{is_edit};
+ghost use Rattle.gx_engine.specs.Steps.{is_commit};
 
 use crate::reorganize::reorganize;
 use gx_answers::answer;
@@ -45,7 +47,9 @@ impl<B: Leaves + Drop> Engine<B> {
     ghost use Rattle.gx_commands.specs.declared.command.Command.TheVariants as command;
     ghost use Rattle.gx_states.specs.Internal.{AreInternal, AreFor};
     ghost use Rattle.gx_answers.specs.Queries.{follows_link};
-    ghost use Rattle.gx_engine.specs.Steps.{schema_of, built_of, leaves_of, is_open, Begins, IsReady, IsDue, StandsFor, IsAt, IsShortFor, CarriesOut, AreFresh, IsStep, EndsStep, TakesFewSteps, IsSame};
+    ghost use Rattle.gx_engine.specs.Steps.{schema_of, built_of, leaves_of, is_open, Begins, IsReady, IsDue, StandsFor, IsAt, IsShortFor, CarriesOut, AreFresh, IsStep, EndsStep, TakesFewSteps, IsSame, is_fault_now};
+    ghost use Rattle.gx_engine.specs.Crashes.{LeavesStates};
+    ghost use Rattle.gx_ports.specs.Stops.{is_fault};
     ghost use Rattle.gx_engine.specs.declared.engine.StepStop.TheVariants.{Now, Stopped};
 
     /// An engine over leaves, which hold the files and the links of the schema as they are built.
@@ -114,6 +118,9 @@ impl<B: Leaves + Drop> Engine<B> {
         ensures few_steps { TakesFewSteps B.View command self.old self.new result }
         ensures fresh { B.whole (leaves_of self.old) →
             OnOk result (AreFresh B.View command self.new) }
+        ensures images { (p : Playing) → IsAt B.View p self.old → (start : Content) →
+            B.calm (leaves_of self.old) start →
+            LeavesStates B.View p command self.old self.new (is_fault_now result) }
         ensures ends { EndsStep B.View self.old self.new command out.old out.new result }
     {
         if let Some(stop) = self.stopped {
@@ -142,14 +149,20 @@ impl<B: Leaves + Drop> Engine<B> {
         requires due { IsDue self.old command }
         ensures step { IsStep B.View self.old self.new command out.old out.new result }
         ensures few_steps { TakesFewSteps B.View command self.old self.new result }
+        ensures images { (p : Playing) → IsAt B.View p self.old → (start : Content) →
+            B.calm (leaves_of self.old) start →
+            LeavesStates B.View p command self.old self.new (is_fault result) }
     {
         if is_edit(&command) {
             return self.edit(alloc, command, out);
         }
+        if is_commit(&command) {
+            return self.commit(alloc, out);
+        }
         self.carry_other(alloc, &command, out)
     }
 
-    // A command that changes no record and no link.
+    // A command that changes no record and no link, and commits nothing.
     #[tactic(auto, using(crate::proofs::WorkLemmas::nothing_counted))]
     fn carry_other(
         &mut self,
@@ -160,14 +173,15 @@ impl<B: Leaves + Drop> Engine<B> {
         requires ready { IsReady B.View self.old }
         requires due { IsDue self.old command.now }
         requires other { is_edit command.now ≡ false }
+        requires kept { is_commit command.now ≡ false }
         ensures step { IsStep B.View self.old self.new command.now out.old out.new result }
         ensures few_steps { TakesFewSteps B.View command.now self.old self.new result }
     {
         match command {
             Command::Begin => self.begin(out),
-            Command::Commit => self.commit(alloc, out),
             Command::Abort => self.abort(out),
-            Command::Insert(..)
+            Command::Commit
+            | Command::Insert(..)
             | Command::Update(..)
             | Command::Delete(..)
             | Command::Connect(..)
@@ -209,7 +223,10 @@ impl<B: Leaves + Drop> Engine<B> {
     fn commit(&mut self, alloc: Global, out: &mut Octets) -> Result<(), Stop>
         requires ready { IsReady B.View self.old }
         requires due { IsDue self.old command.Commit }
-        ensures { IsStep B.View self.old self.new command.Commit out.old out.new result }
+        ensures step { IsStep B.View self.old self.new command.Commit out.old out.new result }
+        ensures images { (p : Playing) → IsAt B.View p self.old → (start : Content) →
+            B.calm (leaves_of self.old) start →
+            LeavesStates B.View p command.Commit self.old self.new (is_fault result) }
     {
         let commits = self.commits.saturating_add(1);
         let line = commit_line(alloc, commits)?;
@@ -374,6 +391,13 @@ fn is_edit(command: &Command) -> bool
             | Command::Connect(..)
             | Command::Disconnect(..)
     )
+}
+
+// Whether the command makes the working maps the kept ones.
+fn is_commit(command: &Command) -> bool
+    ensures { result ≡ is_commit command.now }
+{
+    matches!(command, Command::Commit)
 }
 
 fn append(out: &mut Octets, bytes: &[u8]) -> Result<(), AllocError>
