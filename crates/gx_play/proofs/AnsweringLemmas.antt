@@ -1,6 +1,6 @@
 -- Lines whose answers are said, or kept.
 use Rattle.std.proofs.Common.{◌≡◌, ℕ, List, Bool, false, true, None, Result, Ok, Err, refl, sym, ap, subst, ◌∙◌, inl, inr, arith}
-use Rattle.std.specs.Prelude.{◌⊎◌}
+use Rattle.std.specs.Prelude.{◌⊎◌, Option, Some, IsSome}
 use Rattle.gx_commands.specs.declared.command.Command.{Command}
 use Rattle.gx_commands.specs.Commands.{place_reason}
 use Rattle.gx_commands.specs.Lines.{Lines}
@@ -8,17 +8,21 @@ use Rattle.gx_script.specs.Grammar.{IsLineOf}
 use Rattle.gx_ports.specs.declared.stop.Stop.{Stop}
 use Rattle.gx_ports.specs.declared.stop.Stop.TheVariants as stop
 use Rattle.gx_ports.specs.declared.view.View.{Ghosts}
+use Rattle.gx_ports.specs.Stops.{HasStopCause}
+use Rattle.gx_ports.specs.LeafMaps.{Limits, IsCrowdedBy}
 use Rattle.gx_model.specs.Play.{Playing, End, good, stopped, is_inside}
 use Rattle.gx_engine.specs.declared.engine.Engine.{Engine}
-use Rattle.gx_engine.specs.Steps.{IsAt, IsDue, IsReady, schema_of}
+use Rattle.gx_engine.specs.Steps.{IsAt, IsDue, IsReady, IsSound, IsShortFor, schema_of, leaves_of}
 use Rattle.gx_play.specs.declared.ending.Ending.{Ending}
 use Rattle.gx_play.specs.Endings.{ending_of, is_outside, is_fault}
+use Rattle.gx_play.specs.declared.carry.LineEnd.{LineEnd}
+use Rattle.gx_play.specs.declared.carry.LineEnd.TheVariants as line_end
 use Rattle.gx_play.specs.declared.play.PlayEnd.{PlayEnd}
 use Rattle.gx_play.specs.declared.play.PlayEnd.TheVariants as play_end
 use Rattle.gx_play.specs.declared.play.Answers.{Answers}
 use Rattle.gx_play.specs.declared.play.Answers.TheVariants as answers
 use Rattle.gx_play.specs.Answering.{beside, with_answers}
-use Rattle.gx_play.specs.Plays.{IsCommandPlayed, IsLinePlayed, IsCommandGivenUp, IsGivenUp, IsPlayedUp, IsPlayedTo, KeepsPlayed, CountsFailed, is_play_fault}
+use Rattle.gx_play.specs.Plays.{IsCommandPlayed, IsLinePlayed, IsCommandGivenUp, IsGivenUp, IsPlayedUp, IsPlayedTo, KeepsPlayed, CountsFailed, HasPlayCause, is_play_fault}
 use Rattle.gx_device.proofs.PrefixLemmas.{prefix_same, prefix_twice}
 
 -- the engine stands so with answers beside it
@@ -121,12 +125,38 @@ err_same {A = A} {E = E} r a b p q = ap err_in (sym p ∙ q)
     err_in (Err e) = e
     err_in (Ok x) = a
 
-pub stop_same : (a b : Stop) → play_end.Stop a ≡ play_end.Stop b → a ≡ b
+pub stop_same : (a b : Stop) → line_end.Stop a ≡ line_end.Stop b → a ≡ b
 stop_same a b e = ap stop_in e
+  where
+    stop_in : LineEnd → Stop
+    stop_in (line_end.Stop s) = s
+    stop_in (line_end.Bad reason) = a
+
+-- the same of the end of a play
+pub play_stop_same : (a b : Stop) → play_end.Stop a ≡ play_end.Stop b → a ≡ b
+play_stop_same a b e = ap stop_in e
   where
     stop_in : PlayEnd → Stop
     stop_in (play_end.Stop s) = s
     stop_in (play_end.Line number reason) = a
+
+-- why a command is given up on leaves that stand for a moment of a play
+pub command_cause : {S : Type 0} (g : Ghosts S) (p : Playing) (c : Command) (old new : Engine S)
+    (result : Result (Unit {0}) Stop) → IsAt g p old
+    → HasStopCause (g.faults (leaves_of old)) (g.faults (leaves_of new)) (IsSound g old) result
+    → (result ≡ Err stop.Full → IsShortFor g old p c) → (why : Stop) → result ≡ Err why
+    → HasPlayCause (g.limit (leaves_of old)) (g.faults (leaves_of old)) (g.faults (leaves_of new))
+    why
+command_cause g p c old new result at cause full stop.Fault is = cause.fault is
+command_cause g p c old new result at cause full stop.Full is =
+    limited (g.limit (leaves_of old)) _ (full is).1
+  where
+    limited : (limit : Option Limits) (n : ℕ) → IsCrowdedBy limit n → IsSome limit
+    limited (Some l) n crowded = refl
+    limited None n crowded = absurd crowded
+command_cause g p c old new result at cause full stop.NoMemory is = tt
+command_cause g p c old new result at cause full (stop.Damaged block) is =
+    absurd (cause.damaged block is (p, at))
 
 -- a line for which there was no memory
 pub unread_given_up : {S : Type 0} (g : Ghosts S) (to : Answers) (p : Playing) (line : List ℕ)

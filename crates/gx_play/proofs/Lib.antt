@@ -1,7 +1,13 @@
 mod SayLemmas
+mod TextLemmas
+mod CommitLemmas
+pub mod AckedLemmas
 mod LineLemmas
 mod PieceLemmas
+mod ReadingLemmas
+pub mod CrashLemmas
 pub mod AnsweringLemmas
 pub mod PlayLemmas
 mod HoldingLemmas
 pub mod OverLemmas
+pub mod FullLemmas

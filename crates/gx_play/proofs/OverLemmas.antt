@@ -1,5 +1,5 @@
 -- From the play of lines to the play of a script over leaves, and how a request ends there.
-use Rattle.std.proofs.Common.{◌≡◌, ℕ, ◌≤◌, List, ◌++◌, false, Result, Ok, Err, Option, refl, sym, ap, subst, ◌∙◌, arith, inl, inr}
+use Rattle.std.proofs.Common.{◌≡◌, ℕ, ◌≤◌, List, ◌++◌, Bool, false, Result, Ok, Err, Option, refl, sym, ap, subst, ◌∙◌, arith, inl, inr}
 use Rattle.std.specs.Prelude.{◌⊎◌, ◌≢◌, IfErr, IsErrOf}
 use Rattle.gx_device.specs.Faults.{Rose}
 use Rattle.gx_ports.specs.LeafMaps.{Limits}
@@ -10,7 +10,7 @@ use Rattle.gx_schema.specs.declared.schema.Schema.{Schema}
 use Rattle.gx_commands.specs.Lines.{script_lines}
 use Rattle.gx_types.specs.declared.built.Built.{Built}
 use Rattle.gx_model.specs.States.{State}
-use Rattle.gx_model.specs.Play.{End, good, stopped, start_at}
+use Rattle.gx_model.specs.Play.{Playing, End, good, stopped, start_at}
 use Rattle.gx_engine.specs.declared.engine.Engine.{Engine}
 use Rattle.gx_engine.specs.Steps.{IsAt, schema_of, built_of, leaves_of}
 use Rattle.gx_play.specs.declared.ending.DeviceWhy.{DeviceWhy}
@@ -22,6 +22,9 @@ use Rattle.gx_play.specs.declared.play.PlayEnd.TheVariants as play_end
 use Rattle.gx_play.specs.Endings.{ending_of, is_fault, IsPlayEnding}
 use Rattle.gx_play.specs.Played.{AreFirst}
 use Rattle.gx_play.specs.Plays.{AreSaidUpTo, IsPlayedUp, IsPlayedPart, IsPlayedTo, IsPlayedOut, IsPlayedFirst, IsPlayedFull, IsPlayedFront, IsPlayedAs, IsEndingOf, IsCommitLine, KeepsState, is_play_fault}
+use Rattle.gx_play.specs.declared.play.Answers.TheVariants as answers
+use Rattle.gx_play.specs.Images.{LeavesPlay}
+use Rattle.gx_play.proofs.CrashLemmas.{leaves_on}
 use Rattle.gx_play.proofs.PlayLemmas.{kept_at}
 
 -- the play of a script
@@ -332,3 +335,28 @@ goes_on (Err (play_end.Stop stop.Fault)) result is e =
 pub rose_before : (start before now end : ℕ) → start ≤ before → now ≡ end → Rose before now
     → Rose start end
 rose_before start before now end le is rose = omega (arith, rose)
+
+-- ---- what a crash leaves
+
+-- over the leaves from which the engine was made, and those that it gives back
+pub leaves_over : {S : Type 0} (g : Ghosts S) (schema : Schema) (built : Built) (p : Playing)
+    (failed other : Bool) (e f : Engine S) (old new : S) → schema_of e ≡ schema
+    → built_of e ≡ built → leaves_of e ≡ old → new ≡ leaves_of f
+    → (other ≡ false → failed ≡ false)
+    → LeavesPlay g (schema_of e) (built_of e) answers.Said p
+    (script_lines (g.content (leaves_of e)).script).lines failed (leaves_of e) (leaves_of f)
+    → LeavesPlay g schema built answers.Said p (script_lines (g.content old).script).lines other old
+    new
+leaves_over {S = S} g schema built p failed other e f old new schema_is built_is old_is new_is less
+    leaves =
+    leaves_on g schema built answers.Said p (script_lines (g.content old).script).lines failed other
+    old new less
+    (subst (λ (x : Schema). LeavesPlay g x built answers.Said p
+    (script_lines (g.content old).script).lines failed old new) schema_is
+    (subst (λ (x : Built). LeavesPlay g (schema_of e) x answers.Said p
+    (script_lines (g.content old).script).lines failed old new) built_is
+    (subst (λ (x : S). LeavesPlay g (schema_of e) (built_of e) answers.Said p
+    (script_lines (g.content x).script).lines failed x new) old_is
+    (subst (λ (x : S). LeavesPlay g (schema_of e) (built_of e) answers.Said p
+    (script_lines (g.content (leaves_of e)).script).lines failed (leaves_of e) x) (sym new_is)
+    leaves))))

@@ -1,11 +1,14 @@
 -- A piece that is said part by part.
 use Rattle.std.proofs.Common.{◌≡◌, ℕ, zero, suc, ◌+◌, ◌-◌, List, [], ◌∷◌, ◌++◌, length, take, drop, refl, sym, ap, ◌∙◌, arith, append_assoc}
-use Rattle.std.proofs.lemmas.List.{drop-drop, take_all, length-drop}
+use Rattle.std.proofs.lemmas.List.{append-nil, drop-drop, take_all, length-drop}
+use Rattle.gx_device.specs.Content.{Content, Ticks, Speaks}
 use Rattle.gx_device.specs.Quiet.{IsPrefix}
+use Rattle.gx_device.proofs.RunLemmas.{started, joined, ticked}
 use Rattle.gx_ports.specs.Calls.{Talks}
 use Rattle.gx_ports.specs.declared.view.View.{Ghosts}
 use Rattle.gx_engine.specs.declared.engine.Engine.{Engine}
 use Rattle.gx_engine.specs.Steps.{IsSame, leaves_of}
+use Rattle.gx_play.specs.Say.{IsSaying, SaysThrough}
 
 take_add : (a b : ℕ) (xs : List ℕ) → take a xs ++ take b (drop a xs) ≡ take (a + b) xs
 take_add zero b xs = ap (λ k. take k xs) (let e : b ≡ 0 + b = omega arith in e)
@@ -27,6 +30,39 @@ pub rest_more : (piece rest : List ℕ) (done n : ℕ) → rest ≡ drop done pi
 rest_more piece rest done n is =
     take_all (length rest - n) (drop n rest) (omega (arith, length-drop n rest)) ∙ ap (drop n) is
     ∙ drop-drop n done piece
+
+-- ---- each moment while a piece is said
+
+-- before it
+pub no_moments : (piece : List ℕ) (old : Content) → SaysThrough piece old old
+no_moments piece old = started (IsSaying piece old.now) old (record {
+  said = (0, sym (append-nil old.now.said));
+  blocks = refl;
+  pending = refl;
+  shelf = refl;
+})
+
+-- one call more, behind which this much of it was said
+pub more_moments : (piece : List ℕ) (old mid new : Content) (count : ℕ)
+    → SaysThrough piece old mid → Ticks mid new → Speaks mid new
+    → new.now.said ≡ old.now.said ++ take count piece → SaysThrough piece old new
+more_moments piece old mid new count run time speaks said =
+    joined (IsSaying piece old.now) old mid new run
+    (ticked (IsSaying piece old.now) mid new time run.now (record {
+      said = (count, said);
+      blocks = speaks.blocks ∙ run.now.blocks;
+      pending = speaks.pending ∙ run.now.pending;
+      shelf = speaks.shelf ∙ run.now.shelf;
+    }))
+
+-- while nothing is said
+pub none_through : (text : List ℕ) (old new : Content) → text ≡ [] → SaysThrough text old new
+    → new.now.said ≡ old.now.said
+none_through text old new none run =
+    run.now.said.1
+    ∙ ap (λ (t : List ℕ). old.now.said ++ take run.now.said.0 t) none
+    ∙ ap (λ (t : List ℕ). old.now.said ++ t) (take_all run.now.said.0 [] (omega arith))
+    ∙ append-nil old.now.said
 
 -- ---- what was said before stays in front
 

@@ -1,5 +1,5 @@
 -- How a request ends that isn't played to its end: its line and its status.
-use Rattle.std.specs.Prelude.{◌≡◌, ◌≢◌, ℕ, ◌≤◌, Bool, true, false, Result, Ok, Err, IsErrOf, List, [], ◌++◌, codes}
+use Rattle.std.specs.Prelude.{◌≡◌, ◌≢◌, ◌⊎◌, ℕ, ◌≤◌, Bool, true, false, Result, Ok, Err, IsErrOf, List, [], ◌++◌, take, codes}
 use Rattle.std.specs.Fmt.{decimal}
 use Rattle.gx_device.specs.Content.{Content}
 use Rattle.gx_device.specs.Faults.{Rose}
@@ -17,7 +17,7 @@ use Rattle.gx_play.specs.declared.play.PlayEnd.{PlayEnd}
 use Rattle.gx_play.specs.declared.play.PlayEnd.TheVariants as play_end
 use Rattle.gx_play.specs.declared.status.Status.{Status}
 use Rattle.gx_play.specs.declared.status.Status.TheVariants as status
-use Rattle.gx_play.specs.Say.{IsCut}
+use Rattle.gx_play.specs.Say.{IsCut, SaysThrough}
 use Rattle.gx_play.specs.Summaries.{accepted_line}
 
 abbrev pub memory_line : List ℕ
@@ -150,3 +150,28 @@ pub record IsEnded (why : Ending) (old new : Content) (s : Status) : Type 0 wher
 abbrev pub IsFinished : Result (Unit {0}) Ending → Content → Content → Status → Type 0
 IsFinished (Ok x) old new s = (s ≡ status.Done) × (new ≡ old)
 IsFinished (Err why) old new s = IsEnded why old new s
+
+-- The text was said whole, or after a failure a front of it; or the line of the ending in its
+-- place.
+abbrev pub IsTold : Result (List ℕ) Ending → Content → Content → Status → Type 0
+IsTold (Ok text) old new s =
+    ((s ≡ status.Done) × (new.now.said ≡ old.now.said ++ text))
+    ⊎ ((s ≡ status.Outside) × ((count : ℕ) × (new.now.said ≡ old.now.said ++ take count text)))
+IsTold (Err why) old new s = IsEnded why old new s
+
+-- ---- each moment while an ending is said
+
+-- a front of its line was said, or of the line on memory in its place; after a failed call nothing
+abbrev pub EndsThrough : Ending → Content → Content → Type 0
+EndsThrough why old new = SaysThrough (ending_line why) old new
+    ⊎ ((why ≢ ending.Fault) × SaysThrough memory_line old new)
+
+-- the same of a play, which says nothing more where it ends at no line
+abbrev pub FinishesThrough : Result (Unit {0}) Ending → Content → Content → Type 0
+FinishesThrough (Ok x) old new = SaysThrough [] old new
+FinishesThrough (Err why) old new = EndsThrough why old new
+
+-- and of a text that was found
+abbrev pub TellsThrough : Result (List ℕ) Ending → Content → Content → Type 0
+TellsThrough (Ok text) old new = SaysThrough text old new
+TellsThrough (Err why) old new = EndsThrough why old new

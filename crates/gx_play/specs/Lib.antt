@@ -1,4 +1,3 @@
-pub mod Built
 pub mod Summaries
 pub mod Say
 pub mod Endings
@@ -6,3 +5,8 @@ pub mod Played
 pub mod Plays
 pub mod Answering
 pub mod Pieces
+pub mod Player
+pub mod BadLines
+pub mod Images
+pub mod Acknowledged
+pub mod Readings

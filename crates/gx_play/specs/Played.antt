@@ -13,10 +13,10 @@ use Rattle.gx_types.specs.declared.built.Built.{Built}
 use Rattle.gx_model.specs.States.{State}
 use Rattle.gx_model.specs.Play.{Playing, End, stopped, start_at, end_text, seen_state, is_inside, after_command}
 use Rattle.gx_model.specs.Runs.{Runs, IsPlayFrom, AreFirstAnswersFrom}
+use Rattle.gx_states.specs.Terms.{state_size}
 use Rattle.gx_engine.specs.Steps.{state_entries}
 use Rattle.gx_engine.specs.Moments.{AreInternal}
 pub use Rattle.gx_engine.specs.Moments.{MayWantRoom}
-use Rattle.gx_play.specs.Built.{IsBuiltOf}
 use Rattle.gx_play.specs.Endings.{memory_line, full_line}
 
 -- such a text was said
@@ -78,8 +78,8 @@ pub record IsMemoryText (schema : Schema) (start : State) (script text : List �
 -- ---- a full device
 
 -- The first of these lines has a command, which may stand there. It may want room, and the pages
--- may be too few for so many entries and those of the state behind it.
-pub record IsShortWith (schema : Schema) (built : Built) (limit : Option Limits) (p : Playing)
+-- may be too few for so many entries and those of the state behind it, as they are counted.
+pub record IsShortWith (schema : Schema) (count : State → ℕ) (limit : Option Limits) (p : Playing)
     (entries : ℕ) (lines : List (List ℕ)) : Type 0 where
   pub line : List ℕ
   pub later : List (List ℕ)
@@ -88,13 +88,12 @@ pub record IsShortWith (schema : Schema) (built : Built) (limit : Option Limits)
   pub means : IsLineOf schema line command
   pub placed : place_reason (is_inside p) command ≡ None
   pub wants : MayWantRoom schema p command
-  pub short : IsCrowdedBy limit
-      (entries + state_entries built (seen_state (after_command schema p command)))
+  pub short : IsCrowdedBy limit (entries + count (seen_state (after_command schema p command)))
 
--- the same of the entries of the state before it
-abbrev pub IsShort : Schema → Built → Option Limits → Playing → List (List ℕ) → Type 0
-IsShort schema built limit p lines =
-    IsShortWith schema built limit p (state_entries built (seen_state p)) lines
+-- the same of the entries of the state before it, in the leaves of the definitions
+abbrev pub IsShort : Schema → List DefinitionTree → Option Limits → Playing → List (List ℕ) → Type 0
+IsShort schema ds limit p lines =
+    IsShortWith schema (state_size schema ds) limit p (state_size schema ds (seen_state p)) lines
 
 -- the same of the entries of the leaves, which stand for that state; there is one for each owner,
 -- and no other
@@ -103,7 +102,7 @@ pub record IsShortAt (schema : Schema) (built : Built) (limit : Option Limits) (
   pub maps : List LeafMap
   pub many : length maps ≡ length built.owners
   pub before : AreInternal schema built maps (seen_state p)
-  pub short : IsShortWith schema built limit p (entry_count maps) lines
+  pub short : IsShortWith schema (state_entries built) limit p (entry_count maps) lines
 
 -- The script's first lines run from a state, with these answers, and the pages may be too few for
 -- the command of the next one.
@@ -115,17 +114,14 @@ pub record MayBeFullAt (schema : Schema) (built : Built) (limit : Option Limits)
   pub runs : Runs schema (start_at start) ran answers final
   pub short : IsShortAt schema built limit final later
 
--- such a moment of the play, over nodes that the definitions mean: by the entries of the states
--- alone
+-- such a moment of the play, by the entries of the states alone
 pub record MayBeFull (schema : Schema) (ds : List DefinitionTree) (limit : Option Limits)
     (start : State) (script answers : List ℕ) (final : Playing) : Type 0 where
-  pub built : Built
-  pub trees : IsBuiltOf schema ds built
   pub ran : List (List ℕ)
   pub later : List (List ℕ)
   pub parts : (script_lines script).lines ≡ ran ++ later
   pub runs : Runs schema (start_at start) ran answers final
-  pub short : IsShort schema built limit final later
+  pub short : IsShort schema ds limit final later
 
 -- those answers, then the line of a full device, and the state that these lines kept
 pub record IsFullText (schema : Schema) (ds : List DefinitionTree) (limit : Option Limits)

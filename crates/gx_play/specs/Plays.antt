@@ -28,6 +28,8 @@ use Rattle.gx_play.specs.declared.ending.Ending.{Ending}
 use Rattle.gx_play.specs.declared.ending.Ending.TheVariants as ending
 use Rattle.gx_play.specs.Endings.{ending_of}
 use Rattle.gx_play.specs.Played.{IsPlay, AreFirst, IsShortAt, MayBeFullAt}
+use Rattle.gx_play.specs.declared.carry.LineEnd.{LineEnd}
+use Rattle.gx_play.specs.declared.carry.LineEnd.TheVariants as line_end
 use Rattle.gx_play.specs.declared.play.PlayEnd.{PlayEnd}
 use Rattle.gx_play.specs.declared.play.PlayEnd.TheVariants as play_end
 use Rattle.gx_play.specs.declared.play.Answers.{Answers}
@@ -101,6 +103,11 @@ HasCause before now other = ⊥
 abbrev pub is_play_fault : {T : Type 0} → Result T PlayEnd → Bool
 is_play_fault (Err (play_end.Stop why)) = is_outside why
 is_play_fault _ = false
+
+-- the same of one line
+abbrev pub is_line_fault : {T : Type 0} → Result T LineEnd → Bool
+is_line_fault (Err (line_end.Stop why)) = is_outside why
+is_line_fault _ = false
 
 -- What the play of lines keeps of an engine. What was said before stays, in front, and where the
 -- answers are kept nothing is said.

@@ -1,7 +1,8 @@
 -- What is said of a piece that is offered until it is taken whole.
 use Rattle.std.specs.Prelude.{◌≡◌, ◌⊎◌, ℕ, List, ◌++◌, take, Bool, IsTrue, Result, OnOk}
 use Rattle.gx_device.specs.declared.device.Failed.{Failed}
-use Rattle.gx_device.specs.Content.{Content}
+use Rattle.gx_device.specs.Content.{Moment, Content}
+use Rattle.gx_device.specs.Crash.{Through}
 use Rattle.gx_device.specs.Faults.{HasCause}
 
 -- nothing changed but what was said and the blocks
@@ -30,3 +31,16 @@ abbrev pub IsCut : List ℕ → List ℕ → Content → Content → Type 0
 IsCut one other old new =
     (count : ℕ) × ((new.now.said ≡ old.now.said ++ take count one)
     ⊎ (new.now.said ≡ old.now.said ++ take count other))
+
+-- ---- each moment while something is said
+
+-- a front of the text was said, and all else is as it was
+pub record IsSaying (text : List ℕ) (old m : Moment) : Type 0 where
+  pub said : (count : ℕ) × (m.said ≡ old.said ++ take count text)
+  pub blocks : m.blocks ≡ old.blocks
+  pub pending : m.pending ≡ old.pending
+  pub shelf : m.shelf ≡ old.shelf
+
+-- so is each moment from old to new
+abbrev pub SaysThrough : List ℕ → Content → Content → Type 0
+SaysThrough text old new = Through (IsSaying text old.now) old new

@@ -3,8 +3,8 @@ ghost use Rattle.std.specs.Prelude.{◌≡◌, ◌≢◌, ◌++◌, ◌≤◌, �
 ghost use Rattle.std.specs.Fmt.{decimal};
 ghost use Rattle.gx_device.specs.Faults.{Rose};
 ghost use Rattle.gx_play.specs.Summaries.{accepted_line};
-ghost use Rattle.gx_play.specs.Endings.{ending_line, status_of, device_line, made_line, IsStatusFor, SaysEnding};
-ghost use Rattle.gx_play.specs.Say.{OnlySays, SameDevices};
+ghost use Rattle.gx_play.specs.Endings.{ending_line, status_of, device_line, made_line, IsStatusFor, SaysEnding, EndsThrough};
+ghost use Rattle.gx_play.specs.Say.{OnlySays, SameDevices, SaysThrough};
 
 use crate::play::PlayEnd;
 use crate::say::say_all;
@@ -116,6 +116,8 @@ pub fn end<M: Machine>(alloc: Global, ending: Ending<'_>, machine: &mut M) -> St
         (ending.entry ≡ Ending.Fault) ⊎ Rose (M.faults machine.old) (M.faults machine.new) }
     ensures rest { OnlySays (M.content machine.old) (M.content machine.new) }
     ensures devices { SameDevices (M.content machine.old) (M.content machine.new) }
+    ensures moments { IsTrue M.tells →
+        EndsThrough ending.entry (M.content machine.old) (M.content machine.new) }
     ensures counted { result ≢ Status.Outside → M.faults machine.new ≡ M.faults machine.old }
     ensures later { M.faults machine.old ≤ M.faults machine.new }
 {
@@ -130,16 +132,13 @@ fn say_line<M: Machine>(machine: &mut M, line: &[u8], status: Status) -> Status
     ensures status { result ≢ Status.Outside → result ≡ status }
     ensures said { IsTrue M.tells → result ≢ Status.Outside →
         (M.content machine.new).now.said ≡ (M.content machine.old).now.said ++ line.now }
-    ensures cut { IsTrue M.tells →
-        (count : ℕ) × ((M.content machine.new).now.said
-        ≡ (M.content machine.old).now.said ++ take count line.now) }
+    ensures moments { IsTrue M.tells →
+        SaysThrough line.now (M.content machine.old) (M.content machine.new) }
     ensures outside { result ≡ Status.Outside →
         (status ≡ Status.Outside) ⊎ Rose (M.faults machine.old) (M.faults machine.new) }
     ensures same { status ≡ Status.Outside → result ≡ Status.Outside }
-    ensures none { IsTrue M.tells → line.now ≡ [] →
-        (M.content machine.new).now.said ≡ (M.content machine.old).now.said }
-    ensures rest { OnlySays (M.content machine.old) (M.content machine.new) }
-    ensures devices { SameDevices (M.content machine.old) (M.content machine.new) }
+    ensures rest { OnlySays (M.content machine.old) (M.content machine.new)
+        × SameDevices (M.content machine.old) (M.content machine.new) }
     ensures counted { result ≢ Status.Outside → M.faults machine.new ≡ M.faults machine.old }
     ensures later { M.faults machine.old ≤ M.faults machine.new }
 {

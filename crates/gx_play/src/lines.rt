@@ -5,9 +5,11 @@ ghost use Rattle.gx_commands.specs.Commands.{IsOfSchema, conds_of, place_reason}
 ghost use Rattle.gx_script.specs.Grammar.{IsLineOf};
 ghost use Rattle.gx_commands.specs.Lines.{longest_line};
 ghost use Rattle.gx_reader.specs.Reader.{meant, number_of, IsOpen};
+ghost use Rattle.gx_model.specs.Runs.{IsBadLine};
 ghost use Rattle.gx_play.specs.Plays.{IsBadAt, IsLineEnd};
 ghost use Rattle.gx_reader.specs.Pieces.{IsNextIn, Passes, taken_of, lines_of};
 
+use crate::carry::LineEnd;
 use crate::play::PlayEnd;
 use gx_commands::{Command, LineWhy, NoCommand, allowed};
 use gx_ports::Stop;
@@ -39,10 +41,37 @@ pub fn next_line(reader: &mut LineReader, piece: &[u8]) -> Result<Option<usize>,
     }
 }
 
-/// The command of the line of this number, which may stand inside a transaction or outside, as is
-/// told. `Line`: it means no command, or one that may not stand there. `Stop`: there was no memory
-/// for it.
+/// The command of a line, which may stand inside a transaction or outside, as is told. `Bad`: it
+/// means no command, or one that may not stand there. `Stop`: there was no memory for it.
 #[tactic(auto, unfolding(gx_commands::specs::Lines::longest_line))]
+pub fn line_command(
+    alloc: Global,
+    schema: &Schema,
+    inside: bool,
+    line: &[u8],
+) -> Result<Command, LineEnd>
+    requires well_formed { IsWellFormed schema.now }
+    requires short { length line.now ≤ longest_line }
+    ensures read { IfOk result (IsLineOf schema.now line.now) }
+    ensures of_schema { IfOk result (IsOfSchema schema.now) }
+    ensures few { IfOk result (λ command. length (conds_of command) < 2 ^ 16) }
+    ensures placed { IfOk result (λ command. place_reason inside command ≡ None) }
+    ensures bad { (why : LineWhy) → result ≡ Err (LineEnd.Bad why) →
+        IsBadLine schema.now inside line.now why }
+    ensures unread { (stop : Stop) → result ≡ Err (LineEnd.Stop stop) → stop ≡ Stop.NoMemory }
+{
+    let command = match read_command(alloc, schema, line) {
+        Ok(command) => command,
+        Err(NoCommand::Bad(why)) => return Err(LineEnd::Bad(why)),
+        Err(NoCommand::NoMemory) => return Err(LineEnd::Stop(Stop::NoMemory)),
+    };
+    match allowed(inside, &command) {
+        Ok(()) => Ok(command),
+        Err(why) => Err(LineEnd::Bad(why)),
+    }
+}
+
+/// The command of the line of this number, as of `line_command`.
 pub fn placed_command(
     alloc: Global,
     schema: &Schema,
@@ -60,13 +89,9 @@ pub fn placed_command(
         IsBadAt schema.now inside number line.now n why }
     ensures unread { (stop : Stop) → result ≡ Err (PlayEnd.Stop stop) → stop ≡ Stop.NoMemory }
 {
-    let command = match read_command(alloc, schema, line) {
-        Ok(command) => command,
-        Err(NoCommand::Bad(why)) => return Err(PlayEnd::Line(number, why)),
-        Err(NoCommand::NoMemory) => return Err(PlayEnd::Stop(Stop::NoMemory)),
-    };
-    match allowed(inside, &command) {
-        Ok(()) => Ok(command),
-        Err(why) => Err(PlayEnd::Line(number, why)),
+    match line_command(alloc, schema, inside, line) {
+        Ok(command) => Ok(command),
+        Err(LineEnd::Bad(why)) => Err(PlayEnd::Line(number, why)),
+        Err(LineEnd::Stop(stop)) => Err(PlayEnd::Stop(stop)),
     }
 }

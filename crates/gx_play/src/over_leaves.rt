@@ -1,13 +1,19 @@
 // A script that is heard and played over leaves.
-ghost use Rattle.std.specs.Prelude.{◌≡◌, [], Ok, length, IsTrue, IfErr};
+ghost use Rattle.std.specs.Prelude.{◌≡◌, ℕ, [], Ok, Err, length, IsTrue, IfErr};
 ghost use Rattle.gx_schema.specs.WellFormed.{IsWellFormed};
 ghost use Rattle.gx_model.specs.States.{State};
 ghost use Rattle.gx_engine.specs.Steps.{AreFor};
-ghost use Rattle.gx_play.specs.Endings.{IsPlayEnding, CountsFault};
+ghost use Rattle.gx_device.specs.Content.{Content};
+ghost use Rattle.gx_commands.specs.Lines.{script_lines};
+ghost use Rattle.gx_commands.specs.declared.command.LineWhy.{LineWhy};
+ghost use Rattle.gx_model.specs.Play.{stopped, end_text, start_at};
+ghost use Rattle.gx_play.specs.BadLines.{IsBadEnd};
+ghost use Rattle.gx_play.specs.Endings.{IsPlayEnding, CountsFault, is_fault};
+ghost use Rattle.gx_play.specs.Images.{LeavesPlay};
 ghost use Rattle.gx_play.specs.Plays.{IsHolding, KeepsState, KeepsOver, IsPlayedAs, IsEndingOf};
 
 use crate::ending::Ending;
-use crate::play::{PlayEnd, play_heard};
+use crate::play::{Answers, PlayEnd, play_heard};
 use gx_engine::Engine;
 use gx_ports::Leaves;
 use gx_schema::Schema;
@@ -22,8 +28,11 @@ use std::alloc::Global;
 /// answers of the first lines, and their last kept state. After `Fault` a front of the answers of
 /// the first lines, and their last kept state; or all of their answers, where the next line is a
 /// commit. `Full` comes only where the pages may be too few for the command of the next line, which
-/// changes records or links and isn't refused, or is a `reorganize`, and damage isn't found. On any
-/// leaves of such a device what was said before stays, in front.
+/// changes records or links and isn't refused, or is a `reorganize`, and damage isn't found. A
+/// crash within the call leaves the last state that some first lines kept, with their answers said
+/// but perhaps for an end of the last one's. On any leaves of such a device what was said before
+/// stays, in front, a line at which the play ends is the first bad one of the script, and after
+/// `Ok` the script was heard to its end.
 pub fn play_over<'a, B: Leaves + Drop>(
     alloc: Global,
     schema: Schema,
@@ -36,8 +45,15 @@ pub fn play_over<'a, B: Leaves + Drop>(
         IsPlayedAs schema built (B.limit leaves) s (KeepsState B.View schema built result.1)
         (B.content leaves).script (B.content leaves).now.said (B.content result.1).now.said
         result.0 }
+    ensures crash { IsTrue B.tells → (s : State) → IsHolding B.View schema built s leaves →
+        (start : Content) → B.calm leaves start →
+        LeavesPlay B.View schema built Answers.Said (start_at s)
+        (script_lines (B.content leaves).script).lines (is_fault result.0) leaves result.1 }
     ensures heard { IsTrue B.tells → (s : State) → IsHolding B.View schema built s leaves →
         result.0 ≡ Ok tt → (B.content result.1).script ≡ [] }
+    ensures heard_whole { IsTrue B.tells → result.0 ≡ Ok tt → (B.content result.1).script ≡ [] }
+    ensures bad { IsTrue B.tells → (n : ℕ) (why : LineWhy) → result.0 ≡ Err (Ending.Line n why) →
+        IsBadEnd schema (B.content leaves).script (end_text (stopped n why)) }
     ensures ending { IfErr result.0 IsPlayEnding }
     ensures keeps { KeepsOver B.View leaves result.1 }
     ensures failures { CountsFault (B.faults leaves) (B.faults result.1) result.0 }

@@ -1,22 +1,22 @@
 // Playing a script on an engine, line by line.
-ghost use Rattle.std.specs.Prelude.{◌≡◌, ◌<◌, ◌≤◌, ◌+◌, ℕ, [], None, Ok, Err, false, length, IsTrue, IfOk, OnOk, OnErr, ◌-◌};
+ghost use Rattle.std.specs.Prelude.{◌≡◌, ◌≤◌, ℕ, [], None, Ok, Err, length, IsTrue, OnOk};
 ghost use Rattle.gx_schema.specs.WellFormed.{IsWellFormed};
-ghost use Rattle.gx_ports.specs.Stops.{is_fault, HasStopCause};
-ghost use Rattle.gx_ports.specs.Calls.{Keeps};
-ghost use Rattle.gx_engine.specs.Steps.{IsReady, IsAt, IsDue, IsSound, IsShortFor, CarriesOut, KeepsEngine, schema_of, is_open, stop_of, leaves_of};
+ghost use Rattle.gx_engine.specs.Steps.{IsReady, IsAt, schema_of, built_of, is_open, stop_of, leaves_of};
 ghost use Rattle.gx_model.specs.Play.{Playing};
 ghost use Rattle.gx_commands.specs.Lines.{longest_line, script_lines};
-ghost use Rattle.gx_script.specs.Grammar.{IsLineOf};
 ghost use Rattle.gx_play.specs.Answering.{are_told, beside, with_answers};
-ghost use Rattle.gx_play.specs.Plays.{IsLinePlayed, IsCommandPlayed, IsGivenUp, IsCommandGivenUp, HasPlayCause, KeepsPlayed, CountsFailed, IsBadAt, IsPlayedTo, is_play_fault};
+ghost use Rattle.gx_play.specs.Plays.{IsLinePlayed, IsGivenUp, HasPlayCause, KeepsPlayed, CountsFailed, IsBadAt, IsPlayedTo, is_play_fault};
+ghost use Rattle.gx_device.specs.Content.{Content};
+ghost use Rattle.gx_play.specs.Images.{LeavesLine, LeavesPlay, LeavesPiece, LeavesRest};
+ghost use Rattle.gx_play.specs.Readings.{IsReadLine, IsReadOut, ReadsPiece, ReadsLast, ReadsRest};
 ghost use Rattle.gx_reader.specs.Reader.{IsOpen};
 ghost use Rattle.gx_play.specs.Pieces.{PlaysPiece, PlaysLast, PlaysRest, GoesOn, KeepsHeard};
 ghost use Rattle.gx_reader.specs.Pieces.{IsTaken};
 
-use crate::lines::{PIECE_LEN, next_line, placed_command};
-use crate::say::answer_all;
-use gx_commands::{Command, LineWhy};
-use gx_engine::{Engine, StepStop};
+use crate::carry::{LineEnd, play_line};
+use crate::lines::{PIECE_LEN, next_line};
+use gx_commands::LineWhy;
+use gx_engine::Engine;
 use gx_ports::{Leaves, Stop};
 use gx_reader::LineReader;
 use gx_values::Octets;
@@ -50,8 +50,8 @@ impl From<Stop> for PlayEnd {
     }
 }
 
-// Carries out the line of this number, and says its answer whole or keeps it.
-fn play_line<B: Leaves + Drop>(
+// Carries out the line of this number, as `play_line` does.
+fn play_numbered<B: Leaves + Drop>(
     alloc: Global,
     number: u32,
     line: &[u8],
@@ -67,7 +67,8 @@ fn play_line<B: Leaves + Drop>(
         (IsLinePlayed (beside B.View answers) p line.now (with_answers engine.old out.old)
         (with_answers engine.new out.new)) }
     ensures bad { (n : ℕ) (why : LineWhy) → result ≡ Err (PlayEnd.Line n why) →
-        IsBadAt (schema_of engine.old) (is_open engine.old) number line.now n why }
+        IsBadAt (schema_of engine.old) (is_open engine.old) number line.now n why
+        × (with_answers engine.new out.new ≡ with_answers engine.old out.old) }
     ensures given_up { IsTrue (are_told B.tells answers) → (p : Playing) →
         IsAt B.View p engine.old →
         (stop : Stop) → result ≡ Err (PlayEnd.Stop stop) →
@@ -77,100 +78,20 @@ fn play_line<B: Leaves + Drop>(
         result ≡ Err (PlayEnd.Stop stop) →
         HasPlayCause (B.limit (leaves_of engine.old)) (B.faults (leaves_of engine.old))
         (B.faults (leaves_of engine.new)) stop }
-    ensures stays { (n : ℕ) (why : LineWhy) → result ≡ Err (PlayEnd.Line n why) →
-        with_answers engine.new out.new ≡ with_answers engine.old out.old }
+    ensures crash { IsTrue (are_told B.tells answers) → (p : Playing) → IsAt B.View p engine.old →
+        (start : Content) → B.calm (leaves_of engine.old) start →
+        LeavesLine B.View (schema_of engine.old) (built_of engine.old) answers p line.now
+        (is_play_fault result) (leaves_of engine.old) (leaves_of engine.new) }
     ensures keeps { KeepsPlayed B.View answers engine.old engine.new }
-    ensures going { OnOk result (stop_of engine.new ≡ None) }
+    ensures going { OnOk result ((stop_of engine.new ≡ None)
+        × IsReadLine (schema_of engine.old) line.now (is_open engine.old) (is_open engine.new)) }
     ensures counts { CountsFailed (B.faults (leaves_of engine.old))
         (B.faults (leaves_of engine.new)) (is_play_fault result) }
 {
-    let command = due_command(alloc, number, line, engine)?;
-    carry_out(alloc, command, answers, engine, out)?;
-    Ok(())
-}
-
-// The command of the line of this number, which may stand where the engine is.
-fn due_command<B: Leaves + Drop>(
-    alloc: Global,
-    number: u32,
-    line: &[u8],
-    engine: &Engine<B>,
-) -> Result<Command, PlayEnd>
-    requires well_formed { IsWellFormed (schema_of engine.now) }
-    requires short { length line.now ≤ longest_line }
-    ensures read { IfOk result (IsLineOf (schema_of engine.now) line.now) }
-    ensures due { IfOk result (IsDue engine.now) }
-    ensures bad { (n : ℕ) (why : LineWhy) → result ≡ Err (PlayEnd.Line n why) →
-        IsBadAt (schema_of engine.now) (is_open engine.now) number line.now n why }
-    ensures unread { (stop : Stop) → result ≡ Err (PlayEnd.Stop stop) → stop ≡ Stop.NoMemory }
-{
-    placed_command(alloc, engine.schema(), engine.inside(), number, line)
-}
-
-// Carries out a command, and says its answer whole or keeps it.
-fn carry_out<B: Leaves + Drop>(
-    alloc: Global,
-    command: Command,
-    answers: Answers,
-    engine: &mut Engine<B>,
-    out: &mut Octets,
-) -> Result<(), Stop>
-    requires ready { IsReady B.View engine.old }
-    requires due { IsDue engine.old command }
-    requires going { stop_of engine.old ≡ None }
-    ensures answered { (p : Playing) → IsAt B.View p engine.old → OnOk result
-        (IsCommandPlayed (beside B.View answers) p command (with_answers engine.old out.old)
-        (with_answers engine.new out.new)) }
-    ensures given_up { IsTrue (are_told B.tells answers) → (p : Playing) →
-        IsAt B.View p engine.old →
-        (stop : Stop) → result ≡ Err stop →
-        IsCommandGivenUp (beside B.View answers) p command (with_answers engine.old out.old)
-        (with_answers engine.new out.new) stop }
-    ensures cause { (p : Playing) → IsAt B.View p engine.old → (stop : Stop) → result ≡ Err stop →
-        HasPlayCause (B.limit (leaves_of engine.old)) (B.faults (leaves_of engine.old))
-        (B.faults (leaves_of engine.new)) stop }
-    ensures keeps { KeepsPlayed B.View answers engine.old engine.new }
-    ensures going { OnOk result (stop_of engine.new ≡ None) }
-    ensures counts { CountsFailed (B.faults (leaves_of engine.old))
-        (B.faults (leaves_of engine.new)) (is_fault result) }
-{
-    match answers {
-        Answers::Said => {
-            out.0.clear();
-            step(alloc, command, engine, out)?;
-            answer_all(engine, out.as_slice())?;
-            Ok(())
-        }
-        Answers::Kept => step(alloc, command, engine, out),
-    }
-}
-
-// Carries out a command and appends its answer.
-fn step<B: Leaves + Drop>(
-    alloc: Global,
-    command: Command,
-    engine: &mut Engine<B>,
-    out: &mut Octets,
-) -> Result<(), Stop>
-    requires ready { IsReady B.View engine.old }
-    requires due { IsDue engine.old command }
-    requires going { stop_of engine.old ≡ None }
-    ensures carried { (p : Playing) → IsAt B.View p engine.old →
-        OnOk result (CarriesOut B.View p command engine.old engine.new out.old out.new) }
-    ensures full { (p : Playing) → IsAt B.View p engine.old → result ≡ Err Stop.Full →
-        IsShortFor B.View engine.old p command }
-    ensures unsaid { OnErr result (out.new ≡ out.old) }
-    ensures rest { KeepsEngine B.View engine.old engine.new command result }
-    ensures kept { is_fault result ≡ false →
-        OnErr result (Keeps B.View (leaves_of engine.old) (leaves_of engine.new)) }
-    ensures ready { IsReady B.View engine.new }
-    ensures going { OnOk result (stop_of engine.new ≡ None) }
-    ensures cause { HasStopCause (B.faults (leaves_of engine.old))
-        (B.faults (leaves_of engine.new)) (IsSound B.View engine.old) result }
-{
-    match engine.step(alloc, command, out) {
+    match play_line(alloc, line, answers, engine, out) {
         Ok(()) => Ok(()),
-        Err(StepStop::Now(stop) | StepStop::Stopped(stop)) => Err(stop),
+        Err(LineEnd::Bad(why)) => Err(PlayEnd::Line(number, why)),
+        Err(LineEnd::Stop(stop)) => Err(PlayEnd::Stop(stop)),
     }
 }
 
@@ -191,21 +112,26 @@ fn play_piece<B: Leaves + Drop>(
     ensures played { IsTrue (are_told B.tells answers) →
         PlaysPiece (beside B.View answers) piece.now reader.old reader.new
         (with_answers engine.old out.old) (with_answers engine.new out.new) result }
+    ensures crash { IsTrue (are_told B.tells answers) →
+        LeavesPiece B.View answers piece.now reader.old engine.old engine.new out.old
+        (is_play_fault result) }
     ensures stands { OnOk result (GoesOn B.View engine.old engine.new) }
     ensures cause { (p : Playing) → IsAt B.View p engine.old → (stop : Stop) →
         result ≡ Err (PlayEnd.Stop stop) →
         HasPlayCause (B.limit (leaves_of engine.old)) (B.faults (leaves_of engine.old))
         (B.faults (leaves_of engine.new)) stop }
     ensures keeps { KeepsPlayed B.View answers engine.old engine.new }
-    ensures going { OnOk result (stop_of engine.new ≡ None) }
+    ensures going { OnOk result ((stop_of engine.new ≡ None)
+        × IsTaken (length piece.now) reader.old reader.new) }
     ensures counts { CountsFailed (B.faults (leaves_of engine.old))
         (B.faults (leaves_of engine.new)) (is_play_fault result) }
-    ensures taken { OnOk result (IsTaken (length piece.now) reader.old reader.new) }
+    ensures reads { ReadsPiece (schema_of engine.old) piece.now reader.old reader.new
+        (is_open engine.old) (is_open engine.new) result }
 {
     let mut rest = piece;
     while let Some(count) = next_line(reader, rest)? {
         rest = &rest[count..];
-        play_line(alloc, reader.number(), reader.line(), answers, engine, out)?;
+        play_numbered(alloc, reader.number(), reader.line(), answers, engine, out)?;
     }
     Ok(())
 }
@@ -225,6 +151,8 @@ fn play_last<B: Leaves + Drop>(
     ensures played { IsTrue (are_told B.tells answers) →
         PlaysLast (beside B.View answers) reader.old reader.new
         (with_answers engine.old out.old) (with_answers engine.new out.new) result }
+    ensures crash { IsTrue (are_told B.tells answers) →
+        LeavesRest B.View answers reader.old engine.old engine.new out.old (is_play_fault result) }
     ensures stands { OnOk result (GoesOn B.View engine.old engine.new) }
     ensures cause { (p : Playing) → IsAt B.View p engine.old → (stop : Stop) →
         result ≡ Err (PlayEnd.Stop stop) →
@@ -234,11 +162,13 @@ fn play_last<B: Leaves + Drop>(
     ensures going { OnOk result (stop_of engine.new ≡ None) }
     ensures counts { CountsFailed (B.faults (leaves_of engine.old))
         (B.faults (leaves_of engine.new)) (is_play_fault result) }
+    ensures reads { ReadsLast (schema_of engine.old) reader.old reader.new (is_open engine.old)
+        (is_open engine.new) result }
 {
     if !reader.last_line() {
         return Ok(());
     }
-    play_line(alloc, reader.number(), reader.line(), answers, engine, out)
+    play_numbered(alloc, reader.number(), reader.line(), answers, engine, out)
 }
 
 // Plays what is left of a script whose last byte was fed, and ends there.
@@ -256,6 +186,8 @@ fn play_rest<B: Leaves + Drop>(
     ensures played { IsTrue (are_told B.tells answers) →
         PlaysRest (beside B.View answers) reader.old
         (with_answers engine.old out.old) (with_answers engine.new out.new) result }
+    ensures crash { IsTrue (are_told B.tells answers) →
+        LeavesRest B.View answers reader.old engine.old engine.new out.old (is_play_fault result) }
     ensures cause { (p : Playing) → IsAt B.View p engine.old → (stop : Stop) →
         result ≡ Err (PlayEnd.Stop stop) →
         HasPlayCause (B.limit (leaves_of engine.old)) (B.faults (leaves_of engine.old))
@@ -264,6 +196,7 @@ fn play_rest<B: Leaves + Drop>(
     ensures going { OnOk result (stop_of engine.new ≡ None) }
     ensures counts { CountsFailed (B.faults (leaves_of engine.old))
         (B.faults (leaves_of engine.new)) (is_play_fault result) }
+    ensures reads { ReadsRest (schema_of engine.old) reader.old (is_open engine.old) result }
 {
     play_last(alloc, answers, reader, engine, out)?;
     if engine.inside() {
@@ -282,7 +215,9 @@ fn play_rest<B: Leaves + Drop>(
 /// last stays, unless the next line is a `commit`, of which nothing was said. Of a stop, `Fault`
 /// comes only where the count of faults rose, `Full` only where the pages may be too few for the
 /// command of the next line, which changes records or links, isn't refused and is no `delete`, or
-/// is a `reorganize`, and `Damaged` never where the leaves hold a state.
+/// is a `reorganize`, and `Damaged` never where the leaves hold a state. A crash within the call
+/// leaves the last state that some first lines kept, with their answers said but perhaps for an end
+/// of the last one's; where they are kept, with nothing said.
 pub fn play_script<B: Leaves + Drop>(
     alloc: Global,
     script: &[u8],
@@ -296,6 +231,11 @@ pub fn play_script<B: Leaves + Drop>(
     ensures played { IsTrue (are_told B.tells answers) → (p : Playing) → IsAt B.View p engine.old →
         IsPlayedTo (beside B.View answers) p (script_lines script.now)
         (with_answers engine.old out.old) (with_answers engine.new out.new) result }
+    ensures crash { IsTrue (are_told B.tells answers) → (p : Playing) → IsAt B.View p engine.old →
+        (start : Content) → B.calm (leaves_of engine.old) start →
+        LeavesPlay B.View (schema_of engine.old) (built_of engine.old) answers p
+        (script_lines script.now).lines (is_play_fault result) (leaves_of engine.old)
+        (leaves_of engine.new) }
     ensures cause { (p : Playing) → IsAt B.View p engine.old → (stop : Stop) →
         result ≡ Err (PlayEnd.Stop stop) →
         HasPlayCause (B.limit (leaves_of engine.old)) (B.faults (leaves_of engine.old))
@@ -327,6 +267,11 @@ pub fn play_heard<B: Leaves + Drop>(
         IsPlayedTo (beside B.View Answers.Said) p
         (script_lines (B.content (leaves_of engine.old)).script)
         (with_answers engine.old out.old) (with_answers engine.new out.new) result }
+    ensures crash { IsTrue B.tells → (p : Playing) → IsAt B.View p engine.old →
+        (start : Content) → B.calm (leaves_of engine.old) start →
+        LeavesPlay B.View (schema_of engine.old) (built_of engine.old) Answers.Said p
+        (script_lines (B.content (leaves_of engine.old)).script).lines (is_play_fault result)
+        (leaves_of engine.old) (leaves_of engine.new) }
     ensures heard { IsTrue B.tells → result ≡ Ok tt →
         (B.content (leaves_of engine.new)).script ≡ [] }
     ensures cause { (p : Playing) → IsAt B.View p engine.old → (stop : Stop) →
@@ -336,6 +281,8 @@ pub fn play_heard<B: Leaves + Drop>(
     ensures keeps { KeepsHeard B.View engine.old engine.new }
     ensures counts { CountsFailed (B.faults (leaves_of engine.old))
         (B.faults (leaves_of engine.new)) (is_play_fault result) }
+    ensures reads { IsTrue B.tells → IsReadOut (schema_of engine.old) (is_open engine.old)
+        (script_lines (B.content (leaves_of engine.old)).script) result }
 {
     let mut reader = LineReader::new();
     let mut piece = [0u8; PIECE_LEN];

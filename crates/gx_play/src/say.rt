@@ -1,6 +1,7 @@
 // Saying a whole piece.
 ghost use Rattle.gx_engine.specs.Steps.{leaves_of, IsSame};
-ghost use Rattle.gx_play.specs.Say.{SaysAll, SameDevices};
+ghost use Rattle.std.specs.Prelude.{IsTrue};
+ghost use Rattle.gx_play.specs.Say.{SaysAll, SameDevices, SaysThrough};
 
 use gx_device::{Device, Failed};
 use gx_engine::Engine;
@@ -12,6 +13,8 @@ pub fn say_all<D: Device>(device: &mut D, piece: &[u8]) -> Result<(), Failed>
     ensures says { SaysAll D.tells (D.content device.old) (D.content device.new)
         (D.faults device.old) (D.faults device.new) piece.now result }
     ensures devices { SameDevices (D.content device.old) (D.content device.new) }
+    ensures moments { IsTrue D.tells →
+        SaysThrough piece.now (D.content device.old) (D.content device.new) }
 {
     let mut rest = piece;
     while !rest.is_empty() {

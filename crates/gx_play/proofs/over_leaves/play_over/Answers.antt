@@ -3,11 +3,14 @@ use Rattle.gx_device.specs.Quiet.{IsPrefix}
 use Rattle.gx_device.proofs.PrefixLemmas.{prefix_same, prefix_twice}
 use Rattle.gx_model.specs.Play.{start_at}
 use Rattle.gx_ports.specs.declared.stop.Stop.TheVariants as stop
-use Rattle.gx_engine.specs.Steps.{leaves_of}
+use Rattle.gx_engine.specs.Steps.{schema_of, leaves_of, is_open}
+use Rattle.gx_play.specs.Readings.{IsReadOut}
+use Rattle.gx_play.proofs.ReadingLemmas.{bad_end}
 use Rattle.gx_commands.specs.Lines.{script_lines}
 use Rattle.gx_play.specs.Plays.{IsPlayedTo, is_play_fault}
+use Rattle.gx_play.specs.Endings.{is_fault}
 use Rattle.gx_play.proofs.HoldingLemmas.{at_first}
-use Rattle.gx_play.proofs.OverLemmas.{played_as, played_over, play_ending, ended_well, stop_of_ending, goes_on, rose_before}
+use Rattle.gx_play.proofs.OverLemmas.{played_as, played_over, play_ending, ended_well, stop_of_ending, goes_on, rose_before, leaves_over}
 use Rattle.gx_play.proofs.AnsweringLemmas.{played_aloud}
 use Rattle.gx_play.proofs.over_leaves.play_over.Goals as goal
 
@@ -86,3 +89,36 @@ returns-clause-keeps g c =
       aside = ap (λ l. (content l).aside) c.into_leaves.ensures ∙ played.aside
           ∙ ap (λ l. (content l).aside) begins.leaves_are;
     }
+
+pub returns-clause-crash : goal.returns-clause-crash
+returns-clause-crash g c = λ told s holds begin calm.
+    let begins = c.start-engine.ensures.begins in
+    let e = c.start-engine.result in
+    let at = at_first g.B.View c.args.schema c.args.built s c.args.leaves e holds begins.leaves_are
+    (c.start-engine.ensures.stands s holds.working_is holds.kept_same) in
+    leaves_over g.B.View c.args.schema c.args.built (start_at s)
+    (is_play_fault c.play_heard-played.result) (is_fault c.ended.result) e
+    c.play_heard-played.new.engine c.args.leaves c.into_leaves.result begins.schema_is
+    begins.built_is begins.leaves_are c.into_leaves.ensures
+    (goes_on c.play_heard-played.result c.ended.result c.ended.ensures)
+    (c.play_heard-played.ensures.crash told (start_at s) at begin
+    (subst (λ l. g.B.View.calm l begin) (sym begins.leaves_are) calm))
+
+pub returns-clause-heard_whole : goal.returns-clause-heard_whole
+returns-clause-heard_whole g c = λ told is.
+    ap (λ l. (g.B.View.content l).script) c.into_leaves.ensures
+    ∙ c.play_heard-played.ensures.heard told
+    (ended_well c.play_heard-played.result c.ended.result c.ended.ensures is)
+
+pub returns-clause-bad : goal.returns-clause-bad
+returns-clause-bad g c = λ told n why is.
+    let content = g.B.View.content in
+    let begins = c.start-engine.ensures.begins in
+    let e = c.start-engine.result in
+    bad_end c.args.schema (is_open e) (content c.args.leaves).script c.play_heard-played.result
+    c.ended.result c.ended.ensures begins.shut
+    (subst (λ s. IsReadOut s (is_open e) (script_lines (content c.args.leaves).script)
+    c.play_heard-played.result) begins.schema_is
+    (subst (λ l. IsReadOut (schema_of e) (is_open e) (script_lines (content l).script)
+    c.play_heard-played.result) begins.leaves_are (c.play_heard-played.ensures.reads told))) n why
+    is

@@ -1,5 +1,6 @@
 use Rattle.std.proofs.Common.{◌≡◌, ◌++◌, ℕ, length, take, drop}
 use Rattle.std.specs.Prelude.{IsTrue}
+use Rattle.gx_play.specs.Say.{SaysThrough}
 use Rattle.gx_play.proofs.say.say_all.Given as goal
 
 abbrev pub invariant-loop-rest : goal.invariant-loop-rest
@@ -14,6 +15,8 @@ invariant-loop-rest g l =
       blocks : (content l.device).now.blocks ≡ (content l.fn.device).now.blocks;
       pending : (content l.device).now.pending ≡ (content l.fn.device).now.pending;
       shelf : (content l.device).now.shelf ≡ (content l.fn.device).now.shelf;
+      moments : IsTrue g.D.Device.tells
+          → SaysThrough l.piece (content l.fn.device) (content l.device);
       counted : g.D.Device.faults l.device ≡ g.D.Device.faults l.fn.device;
     }
 

@@ -1,0 +1,111 @@
+-- How the play of lines goes on: in one way, in parts, and with commits that are told of.
+use Rattle.std.proofs.Common.{◌≡◌, ◌⊎◌, inl, inr, ℕ, ◌+◌, ◌≤◌, List, [], ◌∷◌, ◌++◌, length, refl, sym, ◌∙◌, ap, subst, arith, append_assoc, length-append}
+use Rattle.gx_schema.specs.declared.schema.Schema.{Schema}
+use Rattle.gx_commands.specs.declared.command.Command.{Command}
+use Rattle.gx_commands.specs.declared.command.Command.TheVariants as command
+use Rattle.gx_model.specs.Play.{Playing, after_command, IsAnswered}
+use Rattle.gx_model.specs.Runs.{Step, Runs}
+use Rattle.gx_model.proofs.AnswerLemmas.{answered_once}
+use Rattle.gx_model.proofs.RunLemmas.{command_once}
+use Rattle.gx_play.specs.Acknowledged.{commit_count}
+use Rattle.gx_play.proofs.TextLemmas.{both_empty}
+
+-- ---- one step
+
+-- a command that isn't a commit is no commit
+abbrev pub IsCounted : Schema → Playing → Command → Type 0
+IsCounted schema p c =
+    (commit_count (after_command schema p c) ≡ commit_count p)
+    ⊎ ((commit_count (after_command schema p c) ≡ commit_count p + 1) × (c ≡ command.Commit))
+
+counts : (schema : Schema) (p : Playing) (c : Command) → IsCounted schema p c
+counts schema p command.Commit = inr (length-append p.earlier (p.kept ∷ []), refl)
+counts schema p _ = inl refl
+
+-- the answer of a commit isn't empty
+says_something : (schema : Schema) (p : Playing) (answer : List ℕ)
+    → IsAnswered schema p command.Commit answer → answer ≡ [] → ⊥
+says_something schema p answer is none =
+    omega (arith, ap (λ (l : List ℕ). length l) (sym is ∙ none))
+
+module _ (schema : Schema) where
+  step_once : (p : Playing) (line a b : List ℕ) (q r : Playing) → Step schema p line a q
+      → Step schema p line b r → (a ≡ b) × (q ≡ r)
+  step_once p line a b q r x y =
+      let same = command_once schema line x.command y.command x.means y.means in (
+        answered_once schema p y.command a b
+            (subst (λ c. IsAnswered schema p c a) same x.answered) y.answered,
+        x.next_is ∙ ap (after_command schema p) same ∙ sym y.next_is,
+      )
+
+  step_counts : (p : Playing) (line answer : List ℕ) (q : Playing) → Step schema p line answer q
+      → (commit_count q ≡ commit_count p)
+      ⊎ ((commit_count q ≡ commit_count p + 1) × ((answer ≡ []) → ⊥))
+  step_counts p line answer q step =
+      let next = ap commit_count step.next_is in
+      elim (counts schema p step.command) [
+        | inl same ↦ inl (next ∙ same)
+        | inr more ↦ inr (
+          next ∙ more.0,
+          says_something schema p answer
+              (subst (λ c. IsAnswered schema p c answer) more.1 step.answered),
+        )
+      ]
+
+  -- ---- steps one after another
+
+  pub runs_once : (p q r : Playing) (ran : List (List ℕ)) (t u : List ℕ) → Runs schema p ran t q
+      → Runs schema p ran u r → (t ≡ u) × (q ≡ r)
+  runs_once p q r [] t u x y = (x.0 ∙ sym y.0, x.1 ∙ sym y.1)
+  runs_once p q r (line ∷ ran) t u x y =
+      let first = step_once p line x.0 y.0 x.2 y.2 x.3 y.3 in
+      let rest = runs_once y.2 q r ran x.1 y.1
+      (subst (λ (s : Playing). Runs schema s ran x.1 q) first.1 x.4) y.4 in
+      (x.5 ∙ (λ i. first.0 i ++ rest.0 i) ∙ sym y.5, rest.1)
+
+  pub run_parts : (p r : Playing) (a b : List (List ℕ)) (t : List ℕ) → Runs schema p (a ++ b) t r
+      → (u : List ℕ) × (v : List ℕ) × (q : Playing) × Runs schema p a u q × Runs schema q b v r
+      × (t ≡ u ++ v)
+  run_parts p r [] b t run = ([], t, p, (refl, refl), run, refl)
+  run_parts p r (line ∷ a) b t run =
+      let x = run_parts run.2 r a b run.1 run.4 in (
+        run.0 ++ x.0,
+        x.1,
+        x.2,
+        (run.0, x.0, run.2, run.3, x.3, refl),
+        x.4,
+        run.5 ∙ ap (λ (l : List ℕ). run.0 ++ l) x.5 ∙ sym (append_assoc run.0 x.0 x.1),
+      )
+
+  pub no_fewer : (p q : Playing) (ran : List (List ℕ)) (t : List ℕ) → Runs schema p ran t q
+      → commit_count p ≤ commit_count q
+  no_fewer p q [] t run = omega (arith, ap commit_count run.1)
+  no_fewer p q (line ∷ ran) t run =
+      let rest = no_fewer run.2 q ran run.1 run.4 in
+      elim (step_counts p line run.0 run.2 run.3) [
+        | inl same ↦ omega (arith, same, rest)
+        | inr more ↦ omega (arith, more.0, rest)
+      ]
+
+  pub silent_same : (p q : Playing) (ran : List (List ℕ)) → Runs schema p ran [] q
+      → commit_count q ≡ commit_count p
+  silent_same p q [] run = ap commit_count run.1
+  silent_same p q (line ∷ ran) run =
+      let none = both_empty run.0 run.1 run.5 in
+      let rest = silent_same run.2 q ran
+      (subst (λ (t : List ℕ). Runs schema run.2 ran t q) none.1 run.4) in
+      elim (step_counts p line run.0 run.2 run.3) [
+        | inl same ↦ rest ∙ same
+        | inr more ↦ absurd (more.1 none.0)
+      ]
+
+  pub one_more : (p q : Playing) (ran : List (List ℕ)) (t : List ℕ) → length ran ≤ 1
+      → Runs schema p ran t q → commit_count q ≤ commit_count p + 1
+  one_more p q [] t few run = omega (arith, ap commit_count run.1)
+  one_more p q (line ∷ []) t few run =
+      let last = ap commit_count run.4.1 in
+      elim (step_counts p line run.0 run.2 run.3) [
+        | inl same ↦ omega (arith, same, last)
+        | inr more ↦ omega (arith, more.0, last)
+      ]
+  one_more p q (line ∷ other ∷ ran) t few run = absurd (omega (arith, few))

@@ -1,0 +1,37 @@
+-- Fronts of texts and of lists of lines.
+use Rattle.std.proofs.Common.{◌≡◌, ◌⊎◌, inl, inr, ℕ, zero, suc, List, [], ◌∷◌, ◌++◌, length, take, drop, get_or, refl, sym, ◌∙◌, ap, arith}
+
+drop_front : {A : Type 0} (xs ys : List A) → drop (length xs) (xs ++ ys) ≡ ys
+drop_front [] ys = refl
+drop_front (x ∷ xs) ys = drop_front xs ys
+
+pub cancel : {A : Type 0} (xs ys zs : List A) → xs ++ ys ≡ xs ++ zs → ys ≡ zs
+cancel {A} xs ys zs same =
+    sym (drop_front xs ys) ∙ ap (λ (l : List A). drop (length xs) l) same ∙ drop_front xs zs
+
+-- what begins a front of a text is a front of it
+pub front_of : (m rest xs : List ℕ) (k : ℕ) → m ++ rest ≡ take k xs → m ≡ take (length m) xs
+front_of [] rest xs k is = refl
+front_of (x ∷ m) rest xs zero is = absurd (omega (arith, ap (λ (l : List ℕ). length l) is))
+front_of (x ∷ m) rest [] (suc k) is = absurd (omega (arith, ap (λ (l : List ℕ). length l) is))
+front_of (x ∷ m) rest (y ∷ ys) (suc k) is =
+    let head : x ≡ y = ap (λ (l : List ℕ). get_or l 0 0) is in
+    let tail = front_of m rest ys k (ap (λ (l : List ℕ). drop 1 l) is) in
+    λ i. head i ∷ tail i
+
+-- of two fronts of one list one begins with the other
+pub fronts : {A : Type 0} (a b c d : List A) → a ++ b ≡ c ++ d
+    → ((more : List A) × (c ≡ a ++ more)) ⊎ ((x : A) × (more : List A) × (a ≡ c ++ x ∷ more))
+fronts [] b c d same = inl (c, refl)
+fronts (x ∷ a) b [] d same = inr (x, a, refl)
+fronts {A} (x ∷ a) b (y ∷ c) d same =
+    let head : x ≡ y = ap (λ (l : List A). get_or l 0 x) same in
+    elim (fronts a b c d (ap (λ (l : List A). drop 1 l) same)) [
+      | inl p ↦ inl (p.0, (let e = p.1 in let back : y ≡ x = sym head in λ i. back i ∷ e i))
+      | inr p ↦ inr (p.0, p.1, (let e = p.2 in λ i. head i ∷ e i))
+    ]
+
+-- two texts that are empty together are both
+pub both_empty : (a b : List ℕ) → [] ≡ a ++ b → (a ≡ []) × (b ≡ [])
+both_empty [] b same = (refl, sym same)
+both_empty (x ∷ a) b same = absurd (omega (arith, ap (λ (l : List ℕ). length l) same))

@@ -1,7 +1,0 @@
-use Rattle.gx_play.proofs.LineLemmas.{bad_line}
-use Rattle.gx_play.proofs.lines.placed_command.Goals as goal
-
-pub returns-in-Err-clause-bad : goal.returns-in-Err-clause-bad
-returns-in-Err-clause-bad c =
-    λ n why e. bad_line _ _ _ n _ c.in-Ok.command c.in-Err.why why c.in-Ok.ensures.found
-    c.in-Err.ensures e

@@ -1,0 +1,75 @@
+-- Which lines a play reads, whatever it is played on: good ones, and where they end.
+use Rattle.std.specs.Prelude.{◌≡◌, ℕ, List, [], ◌++◌, length, Bool, Option, None, Result, Ok, Err}
+use Rattle.gx_schema.specs.declared.schema.Schema.{Schema}
+use Rattle.gx_commands.specs.declared.command.Command.{Command}
+use Rattle.gx_commands.specs.declared.command.LineWhy.{LineWhy}
+use Rattle.gx_commands.specs.Commands.{place_reason, inside_after}
+use Rattle.gx_commands.specs.Lines.{Lines, no_lines}
+use Rattle.gx_script.specs.Grammar.{IsLineOf}
+use Rattle.gx_reader.specs.declared.reader.LineReader.{LineReader}
+use Rattle.gx_reader.specs.Reader.{meant, number_of}
+use Rattle.gx_model.specs.Play.{stopped}
+use Rattle.gx_model.specs.Runs.{AreFirstLines}
+use Rattle.gx_play.specs.BadLines.{AreGood, IsEndAt}
+use Rattle.gx_play.specs.declared.play.PlayEnd.{PlayEnd}
+use Rattle.gx_play.specs.declared.play.PlayEnd.TheVariants as play_end
+
+-- a good line, and whether a transaction is open before it and behind it
+pub record IsReadLine (schema : Schema) (line : List ℕ) (inside behind : Bool) : Type 0 where
+  pub command : Command
+  pub means : IsLineOf schema line command
+  pub placed : place_reason inside command ≡ None
+  pub behind_is : behind ≡ inside_after inside command
+
+-- so many good lines were read, and these are left
+pub record IsReadTo (schema : Schema) (begun : Bool) (all left : Lines) (number : ℕ)
+    (inside : Bool) : Type 0 where
+  pub ran : List (List ℕ)
+  pub many : length ran ≡ number
+  pub lines_are : all.lines ≡ ran ++ left.lines
+  pub stop_is : all.stop ≡ left.stop
+  pub good : AreGood schema begun ran inside
+
+-- the line of this number is bad, behind good ones
+pub record IsBadIn (schema : Schema) (begun : Bool) (all : Lines) (number : ℕ)
+    (why : LineWhy) : Type 0 where
+  pub ran : List (List ℕ)
+  pub next : Result (Option (List ℕ)) LineWhy
+  pub first : AreFirstLines all ran next
+  pub inside : Bool
+  pub good : AreGood schema begun ran inside
+  pub ends : IsEndAt schema inside (length ran) next (stopped number why)
+
+-- the line at which a play ends is bad
+abbrev pub IsReadOut : Schema → Bool → Lines → Result (Unit {0}) PlayEnd → Type 0
+IsReadOut schema begun all (Ok x) = Unit {0}
+IsReadOut schema begun all (Err (play_end.Line number why)) = IsBadIn schema begun all number why
+IsReadOut schema begun all (Err (play_end.Stop stop)) = Unit {0}
+
+-- the same, or the lines are read on
+abbrev pub IsReadOn : Schema → Bool → Lines → Lines → ℕ → Bool → Result (Unit {0}) PlayEnd → Type 0
+IsReadOn schema begun all left number inside (Ok x) = IsReadTo schema begun all left number inside
+IsReadOn schema begun all left number inside (Err end) = IsReadOut schema begun all (Err end)
+
+-- a piece is read on, whatever comes behind it
+abbrev pub ReadsPiece : Schema → List ℕ → LineReader → LineReader → Bool → Bool
+    → Result (Unit {0}) PlayEnd → Type 0
+ReadsPiece schema piece reader then inside behind result =
+    (begun : Bool) (all : Lines) (rest : List ℕ)
+    → IsReadTo schema begun all (meant reader (piece ++ rest)) (number_of reader) inside
+    → IsReadOn schema begun all (meant then rest) (number_of then) behind result
+
+-- the same of the line behind the last LF, where nothing more comes
+abbrev pub ReadsLast : Schema → LineReader → LineReader → Bool → Bool → Result (Unit {0}) PlayEnd
+    → Type 0
+ReadsLast schema reader then inside behind result =
+    (begun : Bool) (all : Lines)
+    → IsReadTo schema begun all (meant reader []) (number_of reader) inside
+    → IsReadOn schema begun all no_lines (number_of then) behind result
+
+-- and of all that is left
+abbrev pub ReadsRest : Schema → LineReader → Bool → Result (Unit {0}) PlayEnd → Type 0
+ReadsRest schema reader inside result =
+    (begun : Bool) (all : Lines)
+    → IsReadTo schema begun all (meant reader []) (number_of reader) inside
+    → IsReadOut schema begun all result
