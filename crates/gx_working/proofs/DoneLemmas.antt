@@ -74,10 +74,10 @@ find_tells p q text h =
 
 -- ---- one part after another
 
-changes_few : (n : ℕ) → n ≤ 10000 → AreFew (changes n)
+pub changes_few : (n : ℕ) → n ≤ 10000 → AreFew (changes n)
 changes_few n le = record { small = changes_small n le; few = omega (arith, length_changes n le) }
 
-find_few : (t : Task) → IsFind t → AreFew (t ∷ [])
+pub find_few : (t : Task) → IsFind t → AreFew (t ∷ [])
 find_few task.FindByPay h = record { small = (tt, tt); few = omega arith }
 find_few task.FindByLink h = record { small = (tt, tt); few = omega arith }
 find_few task.Begin h = absurd h

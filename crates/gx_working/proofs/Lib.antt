@@ -1,3 +1,5 @@
 pub mod CountLemmas
 pub mod WorkedLemmas
 pub mod DoneLemmas
+mod PartLemmas
+mod LeftLemmas

@@ -109,7 +109,7 @@ all_lines : (n : ℕ) → n ≤ 10000 → (script_lines (work_script n)).lines �
 all_lines n le = ap (λ (ls : Lines). ls.lines)
     (task_lines (tasks n) (tasks_small n le) (length_tasks n le))
 
-parts_of_all : (n : ℕ) (done ts later : List Task) (ran behind : List (List ℕ)) → n ≤ 10000
+pub parts_of_all : (n : ℕ) (done ts later : List Task) (ran behind : List (List ℕ)) → n ≤ 10000
     → tasks n ≡ done ++ ts ++ later → map line_of ts ≡ ran ++ behind
     → (script_lines (work_script n)).lines ≡ (map line_of done ++ ran)
     ++ (behind ++ map line_of later)

@@ -1,3 +1,4 @@
 pub mod Answering
 pub mod Worked
 pub mod Counts
+pub mod Crashes

@@ -1,6 +1,6 @@
 // Playing the workload's script silently.
 ghost use Rattle.std.specs.Prelude.{◌≡◌, ◌≤◌, None, length, OnOk, IfErr, IsErrOf};
-ghost use Rattle.gx_device.specs.Content.{Silent};
+ghost use Rattle.gx_device.specs.Content.{Content, Silent};
 ghost use Rattle.gx_schema.specs.WellFormed.{IsWellFormed};
 ghost use Rattle.gx_commands.specs.Lines.{script_lines};
 ghost use Rattle.gx_model.specs.States.{State};
@@ -8,8 +8,10 @@ ghost use Rattle.gx_model.specs.Play.{Playing, start_at};
 ghost use Rattle.gx_play.specs.Plays.{AreFor, IsReady, IsAt, schema_of, built_of, stop_of, leaves_of};
 ghost use Rattle.gx_work.specs.Schema.{work_schema};
 ghost use Rattle.gx_play.specs.Endings.{IsPlayEnding, CountsFault, is_fault};
+ghost use Rattle.gx_play.specs.Images.{LeavesPlay};
 ghost use Rattle.gx_play.specs.Plays.{IsHolding, KeepsState, KeepsPlayed, CountsFailed, HasPlayCause, is_play_fault};
 ghost use Rattle.gx_working.specs.Answering.{IsAnsweredBy};
+ghost use Rattle.gx_working.specs.Crashes.{LeavesWork, LeavesLines};
 ghost use Rattle.gx_working.specs.Worked.{IsWorkedAs};
 
 use crate::summary::summary_line;
@@ -30,7 +32,8 @@ const FIND_BY_LINK: &[u8] = b"find emp of works 3\n";
 /// after `Ok` all of the script was played from that state, to its end, and the last kept state is
 /// in the kept leaves; after `NoMemory` and `Full` the first lines, and their last kept state.
 /// `Full` comes only where the pages may be too few for the command of the next line, which may
-/// want room. No other ending is answered but `Fault`, after which the count of faults rose.
+/// want room. No other ending is answered but `Fault`, after which the count of faults rose. A crash
+/// leaves the last state that first lines kept, and after any ending but `Fault` the one that is kept.
 pub fn play_work<'a, B: Leaves + Drop>(
     alloc: Global,
     schema: Schema,
@@ -44,6 +47,9 @@ pub fn play_work<'a, B: Leaves + Drop>(
     ensures worked { (s : State) → IsHolding B.View schema built s leaves →
         IsWorkedAs built (B.limit leaves) s (KeepsState B.View work_schema built result.1) records
         result.0 }
+    ensures crash { (s : State) → IsHolding B.View schema built s leaves → (start : Content) →
+        B.calm leaves start →
+        LeavesWork B.View built s records (is_fault result.0) leaves result.1 }
     ensures ending { IfErr result.0 IsPlayEnding }
     ensures limit { B.limit result.1 ≡ B.limit leaves }
     ensures head { B.head result.1 ≡ B.head leaves }
@@ -69,6 +75,10 @@ fn work<'a, B: Leaves + Drop>(
         IsWorkedAs (built_of engine.old) (B.limit (leaves_of engine.old)) s
         (KeepsState B.View work_schema (built_of engine.old) (leaves_of engine.new)) records
         result }
+    ensures crash { (s : State) → IsAt B.View (start_at s) engine.old → (start : Content) →
+        B.calm (leaves_of engine.old) start →
+        LeavesLines B.View (built_of engine.old) s records (is_fault result)
+        (leaves_of engine.old) (leaves_of engine.new) }
     ensures ending { IfErr result IsPlayEnding }
     ensures keeps { KeepsPlayed B.View Answers.Kept engine.old engine.new }
     ensures counts { CountsFailed (B.faults (leaves_of engine.old))
@@ -103,6 +113,11 @@ fn answers<B: Leaves + Drop>(
         IsErrOf result (PlayEnd.Stop stop) →
         HasPlayCause (B.limit (leaves_of engine.old)) (B.faults (leaves_of engine.old))
         (B.faults (leaves_of engine.new)) stop }
+    ensures crash { (p : Playing) → IsAt B.View p engine.old → (start : Content) →
+        B.calm (leaves_of engine.old) start →
+        LeavesPlay B.View (schema_of engine.old) (built_of engine.old) Answers.Kept p
+        (script_lines script.now).lines (is_play_fault result) (leaves_of engine.old)
+        (leaves_of engine.new) }
     ensures keeps { KeepsPlayed B.View Answers.Kept engine.old engine.new }
     ensures going { OnOk result (stop_of engine.new ≡ None) }
     ensures counts { CountsFailed (B.faults (leaves_of engine.old))
