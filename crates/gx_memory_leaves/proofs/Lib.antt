@@ -3,3 +3,4 @@ mod CellLemmas
 mod MapLemmas
 mod SelectLemmas
 mod PlainLemmas
+pub mod HeadLemmas
