@@ -5,6 +5,7 @@ ghost use Rattle.gx_commands.specs.Lines.{script_lines};
 ghost use Rattle.gx_types.specs.Nodes.{AreNodes};
 ghost use Rattle.gx_play.specs.Endings.{CountsOutside};
 ghost use Rattle.gx_play.specs.Plays.{is_play_fault};
+ghost use Rattle.gx_play.specs.Say.{SameDevices};
 ghost use Rattle.gx_explain.specs.Explained.{IsScriptExplained};
 ghost use Rattle.gx_explain.specs.Explaining.{fields_in, HasEndCause, SaysPlans};
 
@@ -32,8 +33,7 @@ pub fn explain_script<M: Machine>(
         IsScriptExplained schema.now (fields_in schema.now built.now.files)
         (M.content machine.old) (M.content machine.new) result }
     ensures heard { IsTrue M.tells → result ≡ Status.Done → (M.content machine.new).script ≡ [] }
-    ensures blocks { (M.content machine.new).now.blocks ≡ (M.content machine.old).now.blocks }
-    ensures shelf { (M.content machine.new).now.shelf ≡ (M.content machine.old).now.shelf }
+    ensures devices { SameDevices (M.content machine.old) (M.content machine.new) }
     ensures failures { CountsOutside (M.faults machine.old) (M.faults machine.new) result }
 {
     match explain_heard(alloc, schema, built, machine) {
@@ -56,8 +56,7 @@ fn explain_heard<M: Machine>(
         (script_lines (M.content machine.old).script) (M.content machine.old)
         (M.content machine.new) result }
     ensures heard { IsTrue M.tells → result ≡ Ok tt → (M.content machine.new).script ≡ [] }
-    ensures blocks { (M.content machine.new).now.blocks ≡ (M.content machine.old).now.blocks }
-    ensures shelf { (M.content machine.new).now.shelf ≡ (M.content machine.old).now.shelf }
+    ensures devices { SameDevices (M.content machine.old) (M.content machine.new) }
     ensures cause { IfErr result (HasEndCause (M.faults machine.old) (M.faults machine.new)) }
     ensures counted { is_play_fault result ≡ false → M.faults machine.new ≡ M.faults machine.old }
     ensures later { M.faults machine.old ≤ M.faults machine.new }

@@ -15,8 +15,7 @@ loop-count-init g c =
           (fields_in c.args.schema.now c.args.built.now.files) (content c.args.machine.now).script
           c.new-reader.result (content c.args.machine.now) c.new-reader.ensures.lines
           c.new-reader.ensures.number;
-      blocks = refl;
-      shelf = refl;
+      devices = record { blocks = refl; pending = refl; shelf = refl };
       counted = refl;
     }
 

@@ -1,6 +1,7 @@
 use Rattle.std.proofs.Common.{◌≡◌, IsTrue}
 use Rattle.gx_commands.specs.Lines.{script_lines}
 use Rattle.gx_reader.specs.Reader.{meant, number_of, left_of, IsOpen}
+use Rattle.gx_play.specs.Say.{SameDevices}
 use Rattle.gx_explain.specs.Explaining.{fields_in, IsSoFar}
 use Rattle.gx_explain.proofs.script.explain_heard.Given as goal
 
@@ -14,8 +15,7 @@ invariant-loop-count g l =
           (script_lines (content l.fn.machine).script)
           (meant l.reader (content l.machine).script) (number_of l.reader) l.inside
           (content l.fn.machine) (content l.machine);
-      blocks : (content l.machine).now.blocks ≡ (content l.fn.machine).now.blocks;
-      shelf : (content l.machine).now.shelf ≡ (content l.fn.machine).now.shelf;
+      devices : SameDevices (content l.fn.machine) (content l.machine);
       counted : g.M.Device.faults l.machine ≡ g.M.Device.faults l.fn.machine;
     }
 
