@@ -1,3 +1,4 @@
 mod LeafLemmas
 mod WordLemmas
+mod FetchLemmas
 pub mod RequestLemmas

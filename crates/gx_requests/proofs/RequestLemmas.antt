@@ -12,18 +12,16 @@ use Rattle.gx_equation.specs.Trees.{DefinitionTree}
 use Rattle.gx_types.specs.declared.built.Built.{Built}
 use Rattle.gx_typing.specs.declared.typing.Typing.{Typing}
 use Rattle.gx_typing.specs.Typed.{leaves, spec_of}
-use Rattle.gx_play.specs.Built.{IsBuiltOf}
+use Rattle.gx_states.specs.Built.{IsBuiltOf}
 use Rattle.gx_play.specs.declared.ending.Ending.{Ending}
 use Rattle.gx_play.specs.declared.ending.Ending.TheVariants as ending
 use Rattle.gx_requests.specs.declared.opened.Stored.{Stored}
 use Rattle.gx_requests.specs.declared.reading.Checked.{Checked}
-use Rattle.gx_play.specs.declared.summary.Summary.{Summary}
 use Rattle.gx_requests.specs.Checked.{AreChecked, IsAcceptedAs, IsBuiltFor, IsPrepared, IsStoredOf, IsStoredFor}
 use Rattle.gx_requests.specs.Fetched.{Prepares}
 use Rattle.gx_requests.specs.Requests.{IsText, IsThere, IsTooLong, IsUnfetched, IsSchemaOf}
 use Rattle.gx_requests.specs.Requests.{IsAsked, IsEither, IsNamed, IsAccepted, AreAccepted}
-use Rattle.gx_requests.specs.Requests.{AreUnchecked, IsSummary, IsUnprepared}
-use Rattle.gx_play.specs.Summaries.{summary_of}
+use Rattle.gx_requests.specs.Requests.{AreUnchecked, IsUnprepared}
 use Rattle.gx_requests.specs.Words.{Action, checking, trying, explaining, making, running, inspecting, working, IsCounted, IsCountedOfTwo, IsCountedOfOne, AskOfTwo, AskOfOne}
 use Rattle.gx_work.specs.Schema.{schema_lines}
 
@@ -241,13 +239,6 @@ all_accepted : (words : List (List ℕ)) (texts : Texts) (a : Action) (s e : Lis
     → IfOk result (IsAcceptedAs words texts a)
 all_accepted words texts a s e (Ok c) asked h = (s, e, asked, h)
 all_accepted words texts a s e (Err why) asked h = tt
-
--- what the checker says of them
-pub summary : (words : List (List ℕ)) (texts : Texts) (c : Checked) (given : Summary)
-    → IsAcceptedAs words texts checking c → given ≡ summary_of c.typing.specs
-    → IsSummary words texts given
-summary words texts c given is same =
-    (c.schema, definitions_of c.equation.definitions, c.typing, is, same)
 
 -- what the checker says of the texts that are asked for is what is prepared
 pub all_checked : (Asks : List (List ℕ) → Action → Type 0) (texts : Texts) (before now : ℕ)

@@ -16,7 +16,7 @@ use Rattle.gx_types.specs.declared.built.Built.{Built}
 use Rattle.gx_typing.specs.declared.typing.Typing.{Typing}
 use Rattle.gx_typing.specs.Typed.{IsTyped, leaves, typing_with}
 use Rattle.gx_typing.specs.Whole.{typing_of}
-use Rattle.gx_play.specs.Built.{IsBuiltOf}
+use Rattle.gx_states.specs.Built.{IsBuiltOf}
 use Rattle.gx_play.specs.declared.ending.Ending.{Ending}
 use Rattle.gx_play.specs.declared.ending.Ending.TheVariants as ending
 use Rattle.gx_requests.specs.declared.opened.Stored.{Stored}

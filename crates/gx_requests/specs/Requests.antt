@@ -1,7 +1,7 @@
 -- When a request is refused, by the first reason, and when its texts are accepted.
 use Rattle.std.specs.Prelude.{◌≡◌, ◌≢◌, ◌⊎◌, ℕ, ◌<◌, ◌≤◌, List, length, Bool, IsTrue, Some, None, Result, Err, IsSomeAnd}
 use Rattle.std.specs.FinMap.{get}
-use Rattle.gx_device.specs.Content.{Content, Texts}
+use Rattle.gx_device.specs.Content.{Texts}
 use Rattle.gx_tokens.specs.declared.why.Unread.{Unread}
 use Rattle.gx_tokens.specs.declared.why.Unread.TheVariants as unread
 use Rattle.gx_tokens.specs.Reading.{map_ok, with_fault_line}
@@ -16,11 +16,9 @@ use Rattle.gx_typing.specs.Typed.{IsTyped, leaves, typing_with}
 use Rattle.gx_typing.specs.Whole.{typing_of}
 use Rattle.gx_play.specs.declared.ending.Ending.{Ending}
 use Rattle.gx_play.specs.declared.ending.Ending.TheVariants as ending
-use Rattle.gx_play.specs.declared.summary.Summary.{Summary}
 use Rattle.gx_requests.specs.Lengths.{text_length}
-use Rattle.gx_requests.specs.Words.{Action, checking, working, request_words, IsCounted, IsOnDevice}
+use Rattle.gx_requests.specs.Words.{Action, working, request_words, IsCounted}
 use Rattle.gx_play.specs.Endings.{IsOutside}
-use Rattle.gx_play.specs.Summaries.{summary_of}
 use Rattle.gx_work.specs.Schema.{schema_lines}
 use Rattle.gx_layout.specs.declared.places.TheConstants.{MAX_TEXTS_LEN}
 
@@ -121,17 +119,6 @@ abbrev pub IsAccepted : List (List ℕ) → Texts → Action → Schema → List
     → Type 0
 IsAccepted words texts a schema ds typing =
     (s : List ℕ) × (e : List ℕ) × IsAsked words texts a s e × AreAccepted s e schema ds typing
-
--- no device is attached where the words name one
-abbrev pub IsFree : List (List ℕ) → Content → Type 0
-IsFree words c = (a : Action) (schema equation : List ℕ) → IsOnDevice a
-    → words ≡ request_words a schema equation → c.now.shelf.name ≡ None
-
--- what the checker says of accepted texts
-abbrev pub IsSummary : List (List ℕ) → Texts → Summary → Type 0
-IsSummary words texts summary =
-    (schema : Schema) × (ds : List DefinitionTree) × (typing : Typing)
-    × IsAccepted words texts checking schema ds typing × (summary ≡ summary_of typing.specs)
 
 -- why a request is refused: the first reason in the order of words, texts, schema, equation, types
 -- and lengths

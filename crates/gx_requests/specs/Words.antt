@@ -121,13 +121,3 @@ IsRequest words (request.Inspect schema equation device) =
 IsRequest words (request.Work equation device blocks records) =
     (digits : List ℕ) × (number : List ℕ) × IsCount digits blocks × IsRecordCount number records
     × (words ≡ request_words (working device.now digits number) [] equation.now)
-
--- what is asked for is on a device
-abbrev pub IsOnDevice : Action → Type 0
-IsOnDevice checking = ⊥
-IsOnDevice trying = ⊥
-IsOnDevice explaining = ⊥
-IsOnDevice (making device blocks) = Unit {0}
-IsOnDevice (running device) = Unit {0}
-IsOnDevice (inspecting device) = Unit {0}
-IsOnDevice (working device blocks records) = Unit {0}

@@ -1,4 +1,4 @@
-use Rattle.std.proofs.Common.{◌≡◌, refl, sym, subst, ap, Bool, false, List, ℕ}
+use Rattle.std.proofs.Common.{◌≡◌, ◌∙◌, rules, refl, sym, subst, ap, Bool, false, List, ℕ}
 use Rattle.std.specs.Prelude.{IsTrue}
 use Rattle.gx_device.specs.Content.{Aside, Texts}
 use Rattle.gx_play.specs.declared.ending.Ending.{Ending}
@@ -7,6 +7,7 @@ use Rattle.gx_requests.specs.Requests.{IsNamed, IsText, IsUnfetched, IsUnprepare
 use Rattle.gx_requests.specs.Words.{AskOfTwo}
 use Rattle.gx_requests.proofs.RequestLemmas.{all_checked, asked_of_two, equation_named}
 use Rattle.gx_requests.proofs.RequestLemmas.{passed_on, schema_named, unfetched}
+use Rattle.gx_requests.proofs.FetchLemmas.{fetched_on}
 use Rattle.gx_requests.proofs.reading.read_texts.Goals as goal
 
 -- why it wasn't fetched after another text was
@@ -64,3 +65,19 @@ returns-in_err-equation_text-clause-accepted g c = λ told.
     (ap (λ (aside : Aside). aside.texts) fetched.same.aside)
     (fetched.failures.counted (refl {a = false})) c.in_err-equation_text.ensures.unfetched)
     c.from_residual-in_err-equation_text.ensures.1
+
+pub returns-clause-fetches : goal.returns-clause-fetches
+returns-clause-fetches g c =
+    let content = g.M.Device.content in
+    let first = c.in_ok-schema_text.ensures.fetches in
+    let then = c.in_ok-equation_text.ensures.fetches in
+    record {
+      same = record {
+        now = then.same.now ∙ first.same.now;
+        script = then.same.script ∙ first.same.script;
+        aside = then.same.aside ∙ first.same.aside;
+      };
+      time = fetched_on (content c.args.machine.now) (content c.fetch_text.new.machine)
+          (content c.fetch_text-2.new.machine) first.time then.time;
+      failures = search rules;
+    }
