@@ -1,5 +1,21 @@
 pub mod NameLemmas
 pub mod StoreLemmas
+pub mod UnchangedLemmas
+mod CrashLemmas
+mod EndedLemmas
+pub mod GivenLemmas
+pub mod MemoryLemmas
+mod SaidLemmas
+mod AnswerLemmas
 mod MakeLemmas
 mod ExamineLemmas
+mod LeavingLemmas
 mod WorkingLemmas
+mod WorkLemmas
+mod WrongLemmas
+mod DamageLemmas
+mod ReadLemmas
+mod InspectLemmas
+mod RunHeldLemmas
+mod RunOnLemmas
+mod RunStoreLemmas

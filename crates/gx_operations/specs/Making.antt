@@ -1,11 +1,9 @@
--- What making a device with an empty database did.
-use Rattle.std.specs.Prelude.{◌≡◌, ℕ, List, None, Result, Ok, Err}
-use Rattle.gx_device.specs.Content.{Content, device_at}
+-- Why no device with an empty database is made, and how the request ends then.
+use Rattle.std.specs.Prelude.{ℕ, List, Result, Ok, Err}
+use Rattle.gx_device.specs.Content.{Content}
 use Rattle.gx_ports.specs.declared.kinds.LeafSpec.{LeafSpec}
 use Rattle.gx_layout.specs.Layout.{pages_of}
-use Rattle.gx_store.specs.Device.{IsSize, IsMadeOn}
 use Rattle.gx_store.specs.Making.{IsUnmade}
-use Rattle.gx_store.specs.Store.{OfBlocks}
 use Rattle.gx_store.specs.declared.unopened.Unopened.{Unopened}
 use Rattle.gx_store.specs.declared.unopened.Unopened.TheVariants as unopened
 use Rattle.gx_play.specs.declared.ending.DeviceWhy.{DeviceWhy}
@@ -26,16 +24,3 @@ IsUnmakable specs device blocks before why = ⊥
 abbrev pub making_ending : ℕ → Result (Unit {0}) Unopened → Ending
 making_ending blocks (Ok x) = ending.Made blocks (pages_of blocks)
 making_ending blocks (Err why) = unopened_ending why
-
--- What making a device of so many blocks did, by how the request ends: there was none of that name,
--- and an empty database is on it under these texts; or why not, and then it is as it was.
-abbrev pub IsMaking : List ℕ → List ℕ → List LeafSpec → List ℕ → ℕ → Content → Content → Ending
-    → Type 0
-IsMaking schema equation specs device count old new (ending.Made blocks pages) =
-    (blocks ≡ count) × (pages ≡ pages_of count) × IsSize specs count
-    × (device_at old.now device ≡ None) × OfBlocks device new (IsMadeOn count schema equation specs)
-IsMaking schema equation specs device count old new (ending.Device why) =
-    IsUnmakable specs device count old why × (device_at new.now device ≡ device_at old.now device)
-IsMaking schema equation specs device count old new ending.Fault = Unit {0}
-IsMaking schema equation specs device count old new ending.NoMemory = Unit {0}
-IsMaking schema equation specs device count old new why = ⊥

@@ -1,10 +1,14 @@
 -- The steps by which the workload is played on a device.
-use Rattle.std.specs.Prelude.{◌≡◌, ◌⊎◌, ℕ, List, length, Some, None, Result, Ok, Err}
-use Rattle.gx_device.specs.Content.{Content, device_at}
+use Rattle.std.specs.Prelude.{◌≡◌, ◌⊎◌, ℕ, List, length, Some, None, Result, Ok, Err, OnOk}
+use Rattle.gx_device.specs.Content.{Content, Moment, NonePending, device_at}
+use Rattle.gx_device.specs.Crash.{Image, EachImage, LeavesOnly}
+use Rattle.gx_ports.specs.LeafMaps.{LeafMap}
 use Rattle.gx_model.specs.States.{State, empty_state}
 use Rattle.gx_work.specs.Schema.{work_schema}
 use Rattle.gx_working.specs.Worked.{IsWorkedOut, IsWorkedFirst, IsWorkedFull}
-use Rattle.gx_store.specs.Device.{IsSize, IsNoneOrEmpty}
+use Rattle.gx_states.specs.Internal.{AreInternal}
+use Rattle.gx_store.specs.Crashes.{Attached}
+use Rattle.gx_store.specs.Device.{IsSize, IsNoneOrEmpty, Reopens}
 use Rattle.gx_store.specs.Store.{OfBlocks}
 use Rattle.gx_play.specs.declared.ending.Ending.{Ending}
 use Rattle.gx_play.specs.declared.ending.Ending.TheVariants as ending
@@ -16,6 +20,12 @@ use Rattle.gx_operations.specs.Making.{IsUnmakable}
 abbrev pub IsSettledOf : Stored → List (List ℕ) → State → Type 0
 IsSettledOf x after s =
     IsSettledIn x.schema x.built x.schema_text x.equation_text x.built.specs after s
+
+-- the blocks are opened with the internal form of the state under these texts
+abbrev pub IsHeldOf : Stored → List (List ℕ) → State → Type 0
+IsHeldOf x blocks s = (maps : List LeafMap)
+    × Reopens x.schema_text x.equation_text x.built.specs maps blocks
+    × AreInternal x.schema x.built maps s
 
 -- What is left after want of memory: no database or an empty one, or first lines of the workload
 -- were played, and the blocks are settled with the last state that these kept.
@@ -58,3 +68,36 @@ IsWorking x device count records old new (Err ending.NoMemory) =
     → device_at new.now device ≡ Some blocks → HoldsFirst x records blocks
 IsWorking x device count records old new (Err ending.Fault) = Unit {0}
 IsWorking x device count records old new other = ⊥
+
+-- ---- what a crash leaves
+
+-- no database or an empty one, or the last state that first lines of the workload kept; and nothing
+-- more was said
+pub record IsWorkingImage (x : Stored) (records : ℕ) (start : Moment) (image : Image) : Type 0 where
+  pub is : IsNoneOrEmpty x.schema_text x.equation_text x.built.specs image.blocks
+      ⊎ IsWorkedFirst (empty_state work_schema) (IsHeldOf x image.blocks) records
+  pub said : image.said ≡ start.said
+  pub shelf : image.shelf ≡ start.shelf
+
+-- A device of so many blocks was made, which is a size, and from then on a crash leaves such images.
+pub record WorksThrough (x : Stored) (device : List ℕ) (count records : ℕ)
+    (old new : Content) : Type 0 where
+  pub middle : Content
+  pub attached : Attached device old middle
+  pub fits : IsSize x.built.specs count
+  pub free : device_at old.now device ≡ None
+  pub none_pending : NonePending middle
+  pub named : new.now.shelf.name ≡ Some device
+  pub images : LeavesOnly (IsWorkingImage x records middle.now) middle new
+
+-- each image is opened with the same maps
+abbrev pub EachReopens : Stored → Content → Type 0
+EachReopens x c = (maps : List LeafMap)
+    × EachImage (λ image. Reopens x.schema_text x.equation_text x.built.specs maps image.blocks) c.now
+
+-- What the play on a device with an empty database leaves. Where it was played out, each image is
+-- opened alike.
+pub record LeavesWorking (x : Stored) (records : ℕ) (old new : Content)
+    (r : Result (List ℕ) Ending) : Type 0 where
+  pub images : LeavesOnly (IsWorkingImage x records old.now) old new
+  pub each : OnOk r (EachReopens x new)

@@ -1,14 +1,23 @@
-//! What the requests do with leaves: a database is made on a device, a script is played, leaves are
-//! examined, the workload is played. Of the answers only those of a script are said here, and no
-//! end of a request.
+//! What the requests do: texts are checked, a database is made on a device, a script is played or
+//! explained, a device is inspected, the workload is played. Each says how it ends.
 #![tactic(auto)]
 
+mod checking;
+mod damage;
 mod examine;
-mod make;
-mod play;
-mod work;
+mod explaining;
+mod inspecting;
+mod making;
+mod refusing;
+mod running;
+mod trying;
+mod working;
 
-pub use examine::examine_store;
-pub use make::make_stored;
-pub use play::{play_script, play_stored};
-pub use work::make_and_play;
+pub use checking::check;
+pub use explaining::explain;
+pub use inspecting::inspect;
+pub use making::make;
+pub use refusing::refuse;
+pub use running::run;
+pub use trying::try_script;
+pub use working::work;

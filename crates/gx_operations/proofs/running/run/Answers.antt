@@ -1,0 +1,122 @@
+use Rattle.std.proofs.Common.{◌≡◌, rules, ℕ, false, List, Some, length, sym, ap, subst, ◌∙◌}
+use Rattle.gx_device.specs.Crash.{EachImage}
+use Rattle.gx_ports.specs.declared.kinds.LeafSpec.{LeafSpec}
+use Rattle.gx_ports.specs.LeafMaps.{LeafMap}
+use Rattle.gx_leaves.specs.Paged.{pages_of, places_in, head_of}
+use Rattle.gx_leaves.specs.Wholeness.{limits_of}
+use Rattle.gx_pages.specs.Paged.{ground_of}
+use Rattle.gx_pages.specs.View.{journal_of}
+use Rattle.gx_schema.specs.declared.schema.Schema.{Schema}
+use Rattle.gx_store.specs.Device.{IsHeadOf}
+use Rattle.gx_store.specs.Opening.{IsUnopened, HaveDatabase}
+use Rattle.gx_store.specs.Store.{HoldsMaps, machine_of}
+use Rattle.gx_model.specs.States.{State}
+use Rattle.gx_model.specs.Play.{stopped, end_text}
+use Rattle.gx_play.specs.BadLines.{IsBadEnd}
+use Rattle.gx_play.specs.Endings.{IsEnded, EndsThrough, is_fault}
+use Rattle.gx_play.specs.Plays.{IsPlayedAs}
+use Rattle.gx_operations.specs.Held.{StoreState}
+use Rattle.gx_operations.specs.Settled.{IsSettledIn, limits_on}
+use Rattle.gx_operations.proofs.RunOnLemmas.{AreOf, under_of, run_opened, run_unopened}
+use Rattle.gx_operations.proofs.StoreLemmas.{limit_on}
+use Rattle.gx_operations.proofs.running.run.Goals as goal
+
+pub returns-in-Ok-clause-promised : goal.returns-in-Ok-clause-promised
+returns-in-Ok-clause-promised g c = λ can given of.
+    let content = g.M.Device.content in
+    let x = c.args.stored in
+    let device = c.args.device.now in
+    let old = content c.args.machine in
+    let store = c.in-Ok.store in
+    let opened = content (machine_of store) in
+    let mid = content c.play_stored-machine.result.1 in
+    let played = c.play_stored-machine.result.0 in
+    let schema = c.as_slice.result.now in
+    let equation = c.as_slice-2.result.now in
+    let specs = c.deref.result.now in
+    let o = c.in-Ok.ensures.opened can in
+    let attaches = c.in-Ok.ensures.attaches can in
+    let base = ground_of (journal_of (pages_of store)) in
+    let limit = limits_of base (places_in store) in
+    let built : specs ≡ x.built.specs = first_of (search rules, cc) in
+    let specs_are : specs ≡ given.typing.specs = built ∙ of.specs in
+    run_opened given device (IsBadEnd given.schema old.script) x.schema x.built schema equation specs
+    (head_of store) limit (λ (maps : List LeafMap). HoldsMaps maps store) old opened mid played
+    (record {
+      schema_is = of.schema;
+      trees = of.trees;
+      of = record {
+        schema_is = c.as_slice.ensures ∙ of.schema_text;
+        equation_is = c.as_slice-2.ensures ∙ of.equation_text;
+        specs_are = specs_are;
+      };
+      opens = o.opens;
+      first = o.is.first;
+      attaches = attaches;
+      were = o.is.opened;
+      ground = o.is.ground;
+      is_head = o.is.head;
+      limit_is = λ blocks there. limit_on device old blocks base (places_in store) specs there
+          (o.opens.middle.now.blocks, o.opens.was, o.is.ground) c.in-Ok.ensures.specs
+          ∙ ap (λ (k : List LeafSpec). limits_on k (length blocks)) specs_are;
+      holds = λ blocks maps there reopens. c.in-Ok.ensures.holds can blocks maps there reopens;
+      answered = λ s maps reaches internal.
+          subst (λ k. IsPlayedAs x.schema x.built (Some limit) s
+          (λ (kept : State). IsSettledIn x.schema x.built schema equation k mid.now.blocks kept
+          × (is_fault played ≡ false → EachImage (λ image. StoreState x.schema x.built (head_of store)
+          kept image.blocks) mid.now)) opened.script opened.now.said mid.now.said played)
+          c.in-Ok.ensures.specs
+          (c.play_stored-machine.ensures.answered can.told s maps reaches internal
+          (schema, equation)
+          (subst (λ k. IsHeadOf schema equation k (head_of store)) (sym c.in-Ok.ensures.specs)
+          o.is.head) o.is.calm);
+      images = λ s maps reaches internal. c.play_stored-machine.ensures.crash can.told s maps reaches
+          internal o.is.calm;
+      heard = c.play_stored-machine.ensures.heard can.told;
+      bad = λ number why is.
+          subst (λ (k : Schema). IsBadEnd k old.script (end_text (stopped number why))) of.schema
+          (subst (λ (t : List ℕ). IsBadEnd x.schema t (end_text (stopped number why)))
+          attaches.script (c.play_stored-machine.ensures.bad can.told number why is));
+      stays = c.play_stored-machine.ensures.stays can.told;
+      play = c.play_stored-machine.ensures.ending;
+      damage = c.play_stored-machine.ensures.damage can.told;
+    }) (content c.finish-status.new.machine) c.finish-status.result c.finish-status.ensures.devices
+    (c.finish-status.ensures.finished can.told) (c.finish-status.ensures.moments can.told)
+
+pub returns-in-Err-clause-promised : goal.returns-in-Err-clause-promised
+returns-in-Err-clause-promised g c = λ can given of.
+    let content = g.M.Device.content in
+    let x = c.args.stored in
+    let device = c.args.device.now in
+    let old = content c.args.machine in
+    let mid = content c.in-Err.machine in
+    let new = content c.end-status.new.machine in
+    let why = c.in-Err.why in
+    let schema = c.as_slice.result.now in
+    let equation = c.as_slice-2.result.now in
+    let specs = c.deref.result.now in
+    let left = c.in-Err.ensures.left can in
+    let built : specs ≡ x.built.specs = first_of (search rules, cc) in
+    let specs_are : specs ≡ given.typing.specs = built ∙ of.specs in
+    let told : AreOf given schema equation specs = record {
+      schema_is = c.as_slice.ensures ∙ of.schema_text;
+      equation_is = c.as_slice-2.ensures ∙ of.equation_text;
+      specs_are = specs_are;
+    } in
+    run_unopened given device (IsBadEnd given.schema old.script) old mid new why c.end-status.result
+    (record {
+      unopened = under_of given schema equation specs told (λ t e k. IsUnopened device t e k old why)
+          (c.in-Err.ensures.unopened can);
+      kept = left.kept;
+      recovered = left.recovered;
+      no_database = λ goes blocks there none. left.no_database goes blocks there
+          (subst (λ (ks : List LeafSpec). ¬ HaveDatabase ks blocks) (sym specs_are) none);
+      absent = left.absent;
+      crash = left.crash;
+      refused = left.refused;
+      attaches = c.in-Err.ensures.attaches can;
+    }) c.end-status.ensures.devices
+    (subst (λ w. IsEnded w mid new c.end-status.result) c.unopened_ending.ensures
+    (record { due = c.end-status.ensures.due; words = c.end-status.ensures.words can.told }))
+    (subst (λ w. EndsThrough w mid new) c.unopened_ending.ensures
+    (c.end-status.ensures.moments can.told))

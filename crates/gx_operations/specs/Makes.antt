@@ -1,0 +1,80 @@
+-- `make`: a device with an empty database.
+use Rattle.std.specs.Prelude.{◌≡◌, ℕ, List, length, Some, None, ◌++◌}
+use Rattle.gx_device.specs.Content.{Content, NonePending, device_at}
+use Rattle.gx_device.specs.Crash.{Image, Through}
+use Rattle.gx_layout.specs.Layout.{pages_of}
+use Rattle.gx_model.specs.States.{empty_state}
+use Rattle.gx_store.specs.Device.{IsSize, IsMadeOn, IsNoneOrEmpty}
+use Rattle.gx_store.specs.Store.{OfBlocks}
+use Rattle.gx_play.specs.declared.ending.DeviceWhy.{DeviceWhy}
+use Rattle.gx_play.specs.declared.status.Status.{Status}
+use Rattle.gx_play.specs.declared.status.Status.TheVariants as status
+use Rattle.gx_play.specs.Endings.{device_line, made_line, memory_line}
+use Rattle.gx_operations.specs.Making.{IsUnmakable}
+use Rattle.gx_operations.specs.Given.{Given, under, IsSettledOn, HoldState, KeepsOthers}
+use Rattle.gx_operations.specs.Promises.{Promise, IsKept, IsLine, no_break}
+use Rattle.gx_operations.specs.Crashes.{IsUnchanged, CrashesOn}
+
+-- ---- it can't be had
+
+abbrev pub UnmadeSays : DeviceWhy → Status → List ℕ → List ℕ → Content → Type 0
+UnmadeSays why status.Device whole last new = IsLine (device_line why) whole last
+UnmadeSays why status.Memory whole last new = IsLine memory_line whole last
+UnmadeSays why other whole last new = ⊥
+
+abbrev pub makes_none : DeviceWhy → List ℕ → Content → Promise
+makes_none why device old = record {
+  Says = UnmadeSays why;
+  Breaks = no_break;
+  Due = λ s. s ≡ status.Device;
+  Leaves = λ new s. IsUnchanged old.now new.now × (new.script ≡ old.script);
+  Crashes = Through (IsUnchanged old.now) old;
+}
+
+-- ---- it is made
+
+-- the empty database is on it, and nothing is pending
+pub record IsNew (g : Given) (device : List ℕ) (blocks : ℕ) (new : Content) : Type 0 where
+  pub made : OfBlocks device new (under g (IsMadeOn blocks))
+  pub empty : IsSettledOn g device (empty_state g.schema) new
+  pub rests : NonePending new
+
+abbrev pub MakeSays : Given → List ℕ → ℕ → Status → List ℕ → List ℕ → Content → Type 0
+MakeSays g device blocks status.Done whole last new =
+    IsLine (made_line blocks (pages_of blocks)) whole last × IsNew g device blocks new
+MakeSays g device blocks status.Memory whole last new = IsLine memory_line whole last
+MakeSays g device blocks other whole last new = ⊥
+
+-- one of so many blocks that has no magic, or is the empty database
+abbrev pub IsNoneOrNew : Given → ℕ → List (List ℕ) → Type 0
+IsNoneOrNew g count blocks = (length blocks ≡ count) × under g IsNoneOrEmpty blocks
+
+-- where there is one then, it is such a one
+abbrev pub LeavesNew : Given → List ℕ → ℕ → Content → Content → Type 0
+LeavesNew g device count old new = KeepsOthers device old new
+    × ((blocks : List (List ℕ)) → device_at new.now device ≡ Some blocks → IsNoneOrNew g count blocks)
+    × (new.script ≡ old.script)
+
+-- a crash leaves such a one, and once the line was said whole the empty database
+pub record IsMakeImage (g : Given) (count : ℕ) (old middle : Content) (image : Image) : Type 0 where
+  pub is : IsNoneOrNew g count image.blocks
+  pub done : image.said ≡ old.now.said ++ made_line count (pages_of count)
+      → HoldState g (empty_state g.schema) image.blocks
+
+abbrev pub makes_one : Given → List ℕ → ℕ → Content → Promise
+makes_one g device blocks old = record {
+  Says = MakeSays g device blocks;
+  Breaks = no_break;
+  Due = λ s. s ≡ status.Done;
+  Leaves = λ new s. LeavesNew g device blocks old new;
+  Crashes = CrashesOn device (IsMakeImage g blocks old) old;
+}
+
+-- ---- the request
+
+pub record MakesOn (g : Given) (device : List ℕ) (blocks : ℕ) (old new : Content)
+    (s : Status) : Type 0 where
+  pub unmakable : (why : DeviceWhy) → IsUnmakable g.typing.specs device blocks old why
+      → IsKept (makes_none why device old) old new s
+  pub makable : IsSize g.typing.specs blocks → device_at old.now device ≡ None
+      → IsKept (makes_one g device blocks old) old new s

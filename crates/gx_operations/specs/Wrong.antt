@@ -1,0 +1,73 @@
+-- A device that isn't what was asked for, of `run`, `inspect` and `share`.
+use Rattle.std.specs.Prelude.{◌≡◌, ◌<◌, ℕ, List, [], Some, length, false, get_or}
+use Rattle.gx_device.specs.Content.{Content, NonePending, device_at}
+use Rattle.gx_layout.specs.Layout.{is_open}
+use Rattle.gx_store.specs.Device.{ReadAlike}
+use Rattle.gx_store.specs.Opening.{IsUnopened, IsRecoveryOf}
+use Rattle.gx_store.specs.Store.{OfBlocks}
+use Rattle.gx_store.specs.declared.unopened.Unopened.TheVariants as unopened
+use Rattle.gx_play.specs.declared.ending.DeviceWhy.{DeviceWhy}
+use Rattle.gx_play.specs.declared.ending.DeviceWhy.TheVariants as device_why
+use Rattle.gx_play.specs.declared.status.Status.{Status}
+use Rattle.gx_play.specs.declared.status.Status.TheVariants as status
+use Rattle.gx_play.specs.Endings.{device_line, memory_line}
+use Rattle.gx_operations.specs.Given.{Given, under, KeepsOthers, KeepsNamed, KeepsAbsent}
+use Rattle.gx_operations.specs.Promises.{Promise, IsLine}
+use Rattle.gx_operations.specs.Crashes.{IsUnchanged, CrashesOn, ReadsAsAttached}
+
+-- Why it isn't opened. Each comes only where those before it don't.
+abbrev pub IsWrong : Given → List ℕ → Content → DeviceWhy → Type 0
+IsWrong g device old device_why.Missing = under g (IsUnopened device) old unopened.Missing
+IsWrong g device old device_why.Size = under g (IsUnopened device) old unopened.Size
+IsWrong g device old device_why.NoDatabase = under g (IsUnopened device) old unopened.NoDatabase
+IsWrong g device old (device_why.OtherEquation place) =
+    under g (IsUnopened device) old (unopened.OtherTexts place)
+IsWrong g device old other = ⊥
+
+-- What is left of it: all; of one with other texts, which reads as before, all but the blocks that
+-- recovery writes.
+abbrev pub StaysWrong : DeviceWhy → List ℕ → Content → Content → Type 0
+StaysWrong device_why.Missing device old new = IsUnchanged old.now new.now
+StaysWrong (device_why.OtherEquation place) device old new =
+    (blocks : List (List ℕ)) → device_at old.now device ≡ Some blocks
+    → OfBlocks device new (λ after. IsRecoveryOf blocks after × ReadAlike blocks after)
+StaysWrong why device old new = KeepsNamed device old new
+
+-- What is so where its line was said: where it has other texts recovery is done, and nothing is
+-- pending, as without the magic.
+abbrev pub IsSettledWrong : DeviceWhy → List ℕ → Content → Type 0
+IsSettledWrong (device_why.OtherEquation place) device new =
+    OfBlocks device new (λ blocks. is_open (get_or blocks 1 []) ≡ false) × NonePending new
+IsSettledWrong device_why.NoDatabase device new = NonePending new
+IsSettledWrong why device new = Unit {0}
+
+-- A call failed before the line: nothing was said, and the device reads as it did.
+abbrev pub WrongBreaks : List ℕ → Content → List ℕ → Content → Type 0
+WrongBreaks device old told new =
+    (told ≡ []) × ((blocks : List (List ℕ)) → device_at old.now device ≡ Some blocks
+    → OfBlocks device new (ReadAlike blocks))
+
+abbrev pub WrongSays : DeviceWhy → List ℕ → Content → Status → List ℕ → List ℕ → Content → Type 0
+WrongSays why device old status.Device whole last new =
+    IsLine (device_line why) whole last × StaysWrong why device old new
+    × IsSettledWrong why device new
+WrongSays why device old status.Memory whole last new =
+    IsLine memory_line whole last × StaysWrong why device old new
+WrongSays why device old other whole last new = ⊥
+
+-- No script is heard, and no device is made.
+abbrev pub finds_wrong : Given → DeviceWhy → List ℕ → Content → Promise
+finds_wrong g why device old = record {
+  Says = WrongSays why device old;
+  Breaks = WrongBreaks device old;
+  Due = λ s. s ≡ status.Device;
+  Leaves = λ new s. KeepsOthers device old new × KeepsAbsent device old new
+      × (new.script ≡ old.script);
+  Crashes = CrashesOn device ReadsAsAttached old;
+}
+
+-- the line of damage, in a block that the device has
+abbrev pub IsDamageLine : List ℕ → Content → List ℕ → Type 0
+IsDamageLine device old line =
+    (block : ℕ) × OfBlocks device old (λ blocks. block < length blocks)
+    × (line ≡ device_line (device_why.Damaged block))
