@@ -26,11 +26,12 @@ use Rattle.gx_requests.specs.Lengths.{text_length}
 use Rattle.gx_play.specs.Endings.{ending_line}
 use Rattle.gx_requests.specs.Requests.{IsText, IsThere, IsSchemaOf, IsEither, IsNamed, IsAsked, AreRead, AreUnaccepted, IsRefused, equation_of, text_limit}
 use Rattle.gx_play.specs.Played.{IsPlayText}
-use Rattle.gx_top.specs.Tasks.{Task, IsTask, IsToPlay}
-use Rattle.gx_top.specs.Tries.{IsWholeText, IsUnder, PlayOneScript}
+use Rattle.gx_operations.specs.Given.{Given}
+use Rattle.gx_top.specs.Promised.{IsGiven}
+use Rattle.gx_top.specs.Laws.{IsToPlay, IsWholeText, IsUnder, PlayOneScript}
 use Rattle.gx_requests.specs.Words.{Action, checking, trying, explaining, making, running, inspecting, working, request_words, IsCounted}
 use Rattle.gx_top.proofs.AskedLemmas.{NamesSchema, same_words, one_request, named, not_missing, not_long, text_once}
-use Rattle.gx_top.proofs.CompleteLemmas.{equation_read}
+use Rattle.gx_top.proofs.AcceptedLemmas.{equation_read}
 
 -- ---- the line of a refusal, from what stands in the texts
 
@@ -251,13 +252,13 @@ refused_once words texts why other x y =
 
 -- the schema that is played on is that of the schema text
 played_named : (a : Action) → IsToPlay a → NamesSchema a
-played_named checking is = tt
+played_named checking is = absurd is
 played_named trying is = tt
-played_named explaining is = tt
-played_named (making device blocks) is = tt
+played_named explaining is = absurd is
+played_named (making device blocks) is = absurd is
 played_named (running device) is = tt
-played_named (inspecting device) is = tt
-played_named (working device blocks records) is = is
+played_named (inspecting device) is = absurd is
+played_named (working device blocks records) is = absurd is
 
 played_there : (a : Action) (texts : Texts) (name text : List ℕ) → IsToPlay a
     → IsSchemaOf a texts name text → IsText texts name text
@@ -269,19 +270,18 @@ played_there (making device blocks) texts name text plays is = absurd plays
 played_there (inspecting device) texts name text plays is = absurd plays
 played_there (working device blocks records) texts name text plays is = absurd plays
 
-schema_under : (words : List (List ℕ)) (texts : Texts) (under : List ℕ) (t : Task)
-    → IsUnder words texts under
-    → IsTask words texts t → IsSchemaText under t.schema
-schema_under words texts under t is task =
-    let asked = task.accepted.2 in
-    let same = same_words words t.action is.0 asked.schema_name is.1 asked.equation_name is.2
+schema_under : (words : List (List ℕ)) (texts : Texts) (under : List ℕ) (a : Action) (g : Given)
+    → IsToPlay a → IsUnder words texts under → IsGiven words texts a g
+    → IsSchemaText under g.schema
+schema_under words texts under a g plays is given =
+    let asked = given.2 in
+    let same = same_words words a is.0 asked.schema_name is.1 asked.equation_name is.2
     asked.words_are is.3 in
-    let there = played_there t.action texts asked.schema_name task.accepted.0 task.to_play
-    asked.schema_there in
-    subst (λ s. IsSchemaText s t.schema)
-    (text_once texts asked.schema_name is.1 task.accepted.0 under
-    (same.schemas (played_named t.action task.to_play)) there.0 is.4)
-    task.accepted.3.read.schema_means
+    let there = played_there a texts asked.schema_name given.0 plays asked.schema_there in
+    subst (λ s. IsSchemaText s g.schema)
+    (text_once texts asked.schema_name is.1 given.0 under (same.schemas (played_named a plays))
+    there.0 is.4)
+    given.3.read.schema_means
 
 text_of_play : (schema : Schema) (start : State) (script : List ℕ) (end close : End) (a b : List ℕ)
     (kept left : State) → IsPlayText schema start script end a kept
@@ -296,10 +296,10 @@ pub one_script_once : (words others : List (List ℕ)) (before other : Content) 
     → IsWholeText words before start text
     → IsWholeText others other start more → text ≡ more
 one_script_once words others before other start text more one x y =
-    let same = one_schema one.schema x.task.schema y.task.schema
-    (schema_under words before.aside.texts one.schema x.task one.under x.is)
-    (schema_under others other.aside.texts one.schema y.task one.other_under y.is) in
-    text_of_play y.task.schema start other.script x.end y.end text more x.kept y.kept
-    (subst (λ (t : List ℕ). IsPlayText y.task.schema start t x.end text x.kept) one.script
+    let same = one_schema one.schema x.given.schema y.given.schema
+    (schema_under words before.aside.texts one.schema x.action x.given x.plays one.under x.is)
+    (schema_under others other.aside.texts one.schema y.action y.given y.plays one.other_under y.is) in
+    text_of_play y.given.schema start other.script x.end y.end text more x.kept y.kept
+    (subst (λ (t : List ℕ). IsPlayText y.given.schema start t x.end text x.kept) one.script
     (subst (λ (k : Schema). IsPlayText k start before.script x.end text x.kept) same x.played))
     y.played

@@ -1,12 +1,5 @@
-pub mod Explained
-pub mod Tasks
-pub mod Devices
-pub mod Stays
-pub mod Made
-pub mod Ran
-pub mod Inspected
-pub mod Found
-pub mod Worked
+pub mod Promised
+pub mod Ends
+pub mod Readied
 pub mod Needs
-pub mod Tries
-pub mod Fulfilled
+pub mod Laws

@@ -1,4 +1,4 @@
-// Laws of what a request says.
+// Laws of requests, and of what they say.
 ghost use Rattle.std.specs.Prelude.{◌≡◌, List, ℕ, Some};
 ghost use Rattle.gx_device.specs.Content.{Content, Texts};
 ghost use Rattle.gx_play.specs.declared.ending.Ending.{Ending as TheEnding};
@@ -6,17 +6,52 @@ ghost use Rattle.gx_ports.specs.declared.kinds.LeafSpec.{LeafSpec as Spec};
 ghost use Rattle.gx_ports.specs.LeafMaps.{LeafMap, Limits};
 ghost use Rattle.gx_schema.specs.declared.schema.Schema.{Schema as TheSchema};
 ghost use Rattle.gx_equation.specs.Trees.{DefinitionTree};
-ghost use Rattle.gx_types.specs.declared.built.Built.{Built};
 ghost use Rattle.gx_model.specs.Play.{Playing};
 ghost use Rattle.gx_model.specs.States.{State};
 ghost use Rattle.gx_store.specs.Device.{Reopens};
-ghost use Rattle.gx_requests.specs.Words.{texts_of};
-ghost use Rattle.gx_play.specs.Built.{IsBuiltOf};
 ghost use Rattle.gx_play.specs.Endings.{ending_line};
 ghost use Rattle.gx_play.specs.Played.{MayBeFull};
+ghost use Rattle.gx_requests.specs.Words.{Action, texts_of};
 ghost use Rattle.gx_requests.specs.Requests.{IsRefused};
+ghost use Rattle.gx_requests.specs.Checked.{IsStored};
+ghost use Rattle.gx_operations.specs.Given.{Given, IsStoredAs, IsHeldOn};
+ghost use Rattle.gx_top.specs.Ends.{AreEnds};
+ghost use Rattle.gx_top.specs.Laws.{IsWholeText, PlayOneScript, AreCases};
 ghost use Rattle.gx_top.specs.Needs.{AreEnough};
-ghost use Rattle.gx_top.specs.Tries.{IsWholeText, PlayOneScript};
+ghost use Rattle.gx_top.specs.Promised.{IsGiven};
+
+use gx_requests::Stored;
+
+/// Words whose texts are accepted are refused for no reason. It does nothing.
+pub fn never_both(words: &[String])
+    ensures { (texts : Texts) (why : TheEnding) (a : Action) (g : Given)
+        → IsGiven (texts_of words.now) texts a g → ¬ IsRefused (texts_of words.now) texts why }
+{}
+
+/// They ask for one thing, and their texts mean one thing. It does nothing.
+pub fn one_request(words: &[String])
+    ensures { (texts : Texts) (a b : Action) (g h : Given)
+        → IsGiven (texts_of words.now) texts a g → IsGiven (texts_of words.now) texts b h
+        → (a ≡ b) × (g ≡ h) }
+{}
+
+/// A promise of a request is kept with a status that the request may have. It does nothing.
+pub fn statuses(device: &str)
+    ensures { (g : Given) (old new : Content) → AreEnds g device.now old new }
+{}
+
+/// The device that a request names is wrong for a reason, or it has the size, the magic and the
+/// texts, and never both. It does nothing.
+pub fn wrong_or_opened(device: &str)
+    ensures { (g : Given) (c : Content) → AreCases g device.now c }
+{}
+
+/// Of what is stored, a device holds one state. It does nothing.
+pub fn one_state(device: &str, stored: &Stored)
+    requires { IsStored stored.now }
+    ensures { (g : Given) (c : Content) (s t : State) → IsStoredAs g stored.now
+        → IsHeldOn g device.now s c → IsHeldOn g device.now t c → s ≡ t }
+{}
 
 /// A request is refused for one reason. It does nothing.
 pub fn one_reason(words: &[String])
@@ -48,9 +83,8 @@ pub fn one_list_of_maps(schema: &[u8], equation: &[u8])
 /// Where the pages are enough at each command of a script's play, for the entries of the state
 /// before it and of that behind it, the device is never full. It does nothing.
 pub fn enough_pages(script: &[u8])
-    ensures { (schema : TheSchema) (ds : List DefinitionTree) (built : Built) (limits : Limits)
-        (start : State) (answers : List ℕ) (final : Playing)
-        → IsBuiltOf schema ds built
-        → AreEnough schema built limits start script.now
+    ensures { (schema : TheSchema) (ds : List DefinitionTree) (limits : Limits) (start : State)
+        (answers : List ℕ) (final : Playing)
+        → AreEnough schema ds limits start script.now
         → ¬ MayBeFull schema ds (Some limits) start script.now answers final }
 {}

@@ -4,14 +4,17 @@
 
 mod check;
 mod explain;
-mod finish;
 mod inspect;
 mod laws;
-mod make_database;
+mod make;
+mod ready;
 mod request;
 mod run_script;
 mod try_script;
 mod work;
 
-pub use laws::{enough_pages, one_list_of_maps, one_reason, one_text};
+pub use laws::{
+    enough_pages, never_both, one_list_of_maps, one_reason, one_request, one_state, one_text,
+    statuses, wrong_or_opened,
+};
 pub use request::top;

@@ -1,42 +1,41 @@
-use Rattle.std.proofs.Common.{ap, refl, ◌∙◌}
+use Rattle.std.proofs.Common.{ap, refl}
 use Rattle.gx_requests.specs.Words.{explaining, request_words}
-use Rattle.gx_top.proofs.EndLemmas.{unprepared_answered}
-use Rattle.gx_top.proofs.ExplainRequestLemmas.{explained_by, explain_end, explain_due}
+use Rattle.gx_top.proofs.JoinLemmas.{joined, unprepared, given_by}
+use Rattle.gx_top.proofs.LaterLemmas.{explained_later, fetched_later}
+use Rattle.gx_top.proofs.ReadyLemmas.{refused_counts}
 use Rattle.gx_top.proofs.explain.explain.Goals as goal
 
-pub returns-in-Ok-clause-answered : goal.returns-in-Ok-clause-answered
-returns-in-Ok-clause-answered g c = λ told.
+pub returns-in-Ok-clause-promised : goal.returns-in-Ok-clause-promised
+returns-in-Ok-clause-promised g c = λ told.
     let words = request_words explaining c.args.schema.now c.args.equation.now in
     let content = g.M.Device.content in
-    let old = content c.args.machine.now in
-    let new = content c.explain_script.new.machine in
-    let s = c.explain_script.result in
-    let same = c.in-Ok.ensures.fetches.same in
-    let row =
-    explained_by words old (content c.prepare_nodes.new.machine) new s _ c.in-Ok.schema
-    c.in-Ok.built c.in-Ok.schema-is
-    c.in-Ok.built-is ((c.in-Ok.ensures.prepared told).ready words explaining (tt, refl)) same.script
-    (ap (λ n. n.said) same.now) (c.explain_script.ensures.said told) in
-    record {
-      said = explain_end words old new s row (c.explain_script.ensures.heard told);
-      due = explain_due words old new s row;
-    }
+    let old = content c.args.machine in
+    let mid = content c.prepare_nodes.new.machine in
+    let new = content c.explain-status.new.machine in
+    let s = c.explain-status.result in
+    let is = (c.in-Ok.ensures.prepared told).ready words explaining (tt, refl) in
+    let given = given_by c.in-Ok.schema is.definitions is.typing in
+    let f = c.in-Ok.ensures.fetches in
+    joined words old new s explaining given is.accepted
+    (explained_later old mid (fetched_later old mid f.same f.time) (ap (λ m. m.pending) f.same.now) given
+    new s (c.explain-status.ensures.promised told given refl is.trees))
 
-pub returns-in-Err-clause-answered : goal.returns-in-Err-clause-answered
-returns-in-Err-clause-answered g c = λ told.
+pub returns-in-Err-clause-promised : goal.returns-in-Err-clause-promised
+returns-in-Err-clause-promised g c = λ told.
     let words = request_words explaining c.args.schema.now c.args.equation.now in
-    unprepared_answered words (g.M.Device.content c.args.machine.now)
-    (g.M.Device.content c.prepare_nodes.new.machine)
-    (g.M.Device.content c.end.new.machine) _ _ c.in-Err.ending c.end.result
+    let content = g.M.Device.content in
+    let old = content c.args.machine in
+    let mid = content c.prepare_nodes.new.machine in
+    let f = c.in-Err.ensures.fetches in
+    unprepared words old mid (content c.refuse.result.1) _ _ c.in-Err.ending c.refuse.result.0
     ((c.in-Err.ensures.prepared told).unprepared words explaining (tt, refl))
-    c.in-Err.ensures.fetches.same
-    c.end.ensures.devices
-    (record { due = c.end.ensures.due; words = c.end.ensures.words told })
+    (fetched_later old mid f.same f.time) (ap (λ m. m.pending) f.same.now)
+    (c.refuse.ensures.refused told) (c.refuse.ensures.given_up told)
 
-pub returns-in-Ok-clause-shelf : goal.returns-in-Ok-clause-shelf
-returns-in-Ok-clause-shelf g c = c.explain_script.ensures.shelf
-    ∙ ap (λ n. n.shelf) c.in-Ok.ensures.fetches.same.now
-
-pub returns-in-Err-clause-shelf : goal.returns-in-Err-clause-shelf
-returns-in-Err-clause-shelf g c = c.end.ensures.devices.shelf
-    ∙ ap (λ n. n.shelf) c.in-Err.ensures.fetches.same.now
+pub returns-in-Err-clause-failures : goal.returns-in-Err-clause-failures
+returns-in-Err-clause-failures g c =
+    let faults = g.M.Device.faults in
+    refused_counts (faults c.args.machine) (faults c.prepare_nodes.new.machine)
+    (faults c.refuse.result.1) c.in-Err.ending c.refuse.result.0 c.in-Err.ensures.fetches.failures
+    c.refuse.ensures.outside c.refuse.ensures.fault c.refuse.ensures.counted
+    c.refuse.ensures.later

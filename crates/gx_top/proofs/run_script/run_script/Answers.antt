@@ -1,33 +1,44 @@
-use Rattle.std.proofs.Common.{ap, refl, ◌∙◌}
-use Rattle.gx_store.proofs.ShelfLemmas.{may_still}
+use Rattle.std.proofs.Common.{refl, inr}
 use Rattle.gx_store.specs.Store.{CanAttach}
 use Rattle.gx_requests.specs.Words.{running, request_words}
-use Rattle.gx_top.proofs.RanLemmas.{unprepared_ran}
+use Rattle.gx_top.proofs.JoinLemmas.{joined, unprepared, given_by, stored_as}
+use Rattle.gx_top.proofs.LaterLemmas.{ran_later}
+use Rattle.gx_top.proofs.ReadyLemmas.{refused_counts}
 use Rattle.gx_top.proofs.run_script.run_script.Goals as goal
 
-pub returns-in-Ok-clause-fulfilled : goal.returns-in-Ok-clause-fulfilled
-returns-in-Ok-clause-fulfilled g c = λ can.
-    let words = request_words (running c.args.device.now) c.args.schema.now c.args.equation.now in
-    let same = c.in-Ok.ensures.fetches.same in
-    let free : CanAttach g.M.Device.tells (g.M.Device.content c.prepare_stored.new.machine) =
-    record {
-      told = can.told;
-      may = may_still (g.M.Device.content c.args.machine)
-          (g.M.Device.content c.prepare_stored.new.machine) same.now can.may;
-    } in
-    c.run_stored.ensures.fulfilled free words (g.M.Device.content c.args.machine) same
-    ((c.in-Ok.ensures.prepared can.told).ready words (running c.args.device.now) (tt, refl))
-
-pub returns-in-Err-clause-fulfilled : goal.returns-in-Err-clause-fulfilled
-returns-in-Err-clause-fulfilled g c = λ can.
-    let words = request_words (running c.args.device.now) c.args.schema.now c.args.equation.now in
+pub returns-in-Ok-clause-promised : goal.returns-in-Ok-clause-promised
+returns-in-Ok-clause-promised g c = λ told.
+    let a = running c.args.device.now in
+    let words = request_words a c.args.schema.now c.args.equation.now in
     let content = g.M.Device.content in
-    let same = c.in-Err.ensures.fetches.same in
-    record {
-      answered = c.refuse.ensures.answered can.told words (content c.args.machine) _ _ same
-          ((c.in-Err.ensures.prepared can.told).unprepared words (running c.args.device.now)
-          (tt, refl));
-      left = unprepared_ran words c.args.device.now (content c.args.machine)
-          (content c.prepare_stored.new.machine)
-          (content c.refuse.result.1) c.refuse.result.0 same.now c.refuse.ensures.devices;
-    }
+    let old = content c.args.machine in
+    let mid = content c.ready_stored.new.machine in
+    let new = content c.run.result.1 in
+    let s = c.run.result.0 in
+    let x = c.in-Ok.stored in
+    let is = (c.in-Ok.ensures.prepared told).ready words a (tt, refl) in
+    let given = given_by x.schema is.definitions is.typing in
+    let r = c.in-Ok.ensures.readies in
+    let can : CanAttach g.M.Device.tells mid = record { told = told; may = inr (r.ready told) } in
+    joined words old new s a given is.accepted
+    (ran_later given c.args.device.now old mid r.later new s
+    (c.run.ensures.promised can given (stored_as words old.aside.texts a x is)))
+
+pub returns-in-Err-clause-promised : goal.returns-in-Err-clause-promised
+returns-in-Err-clause-promised g c = λ told.
+    let a = running c.args.device.now in
+    let words = request_words a c.args.schema.now c.args.equation.now in
+    let content = g.M.Device.content in
+    let r = c.in-Err.ensures.readies in
+    unprepared words (content c.args.machine) (content c.ready_stored.new.machine)
+    (content c.refuse.result.1) _ _ c.in-Err.ending c.refuse.result.0
+    ((c.in-Err.ensures.prepared told).unprepared words a (tt, refl)) r.later r.refused
+    (c.refuse.ensures.refused told) (c.refuse.ensures.given_up told)
+
+pub returns-in-Err-clause-failures : goal.returns-in-Err-clause-failures
+returns-in-Err-clause-failures g c =
+    let faults = g.M.Device.faults in
+    refused_counts (faults c.args.machine) (faults c.ready_stored.new.machine)
+    (faults c.refuse.result.1) c.in-Err.ending c.refuse.result.0 c.in-Err.ensures.readies.failures
+    c.refuse.ensures.outside c.refuse.ensures.fault c.refuse.ensures.counted
+    c.refuse.ensures.later

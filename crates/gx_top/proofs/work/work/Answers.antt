@@ -1,35 +1,45 @@
-use Rattle.std.proofs.Common.{[], ap, refl, ◌∙◌}
-use Rattle.gx_store.proofs.ShelfLemmas.{may_still}
+use Rattle.std.proofs.Common.{refl, inr, []}
 use Rattle.gx_store.specs.Store.{CanAttach}
 use Rattle.gx_requests.specs.Words.{working, request_words}
-use Rattle.gx_top.proofs.WorkLemmas.{unprepared_worked}
+use Rattle.gx_top.proofs.JoinLemmas.{joined, unprepared, given_by, stored_as, works_counted}
+use Rattle.gx_top.proofs.LaterLemmas.{worked_later}
+use Rattle.gx_top.proofs.ReadyLemmas.{refused_counts}
 use Rattle.gx_top.proofs.work.work.Goals as goal
 
-pub returns-in-Ok-clause-fulfilled : goal.returns-in-Ok-clause-fulfilled
-returns-in-Ok-clause-fulfilled g c = λ can digits number counted recorded.
-    let a = working c.args.device.now digits number in
-    let words = request_words a [] c.args.equation.now in
-    let same = c.in-Ok.ensures.fetches.same in
-    let free : CanAttach g.M.Device.tells (g.M.Device.content c.prepare_work.new.machine) = record {
-      told = can.told;
-      may = may_still (g.M.Device.content c.args.machine)
-          (g.M.Device.content c.prepare_work.new.machine) same.now can.may;
-    } in
-    c.work_stored.ensures.fulfilled digits number counted recorded free words
-    (g.M.Device.content c.args.machine) same
-    ((c.in-Ok.ensures.prepared can.told).ready words a (((_, counted), (_, recorded)), refl))
-
-pub returns-in-Err-clause-fulfilled : goal.returns-in-Err-clause-fulfilled
-returns-in-Err-clause-fulfilled g c = λ can digits number counted recorded.
+pub returns-in-Ok-clause-promised : goal.returns-in-Ok-clause-promised
+returns-in-Ok-clause-promised g c = λ told digits number counted few.
     let a = working c.args.device.now digits number in
     let words = request_words a [] c.args.equation.now in
     let content = g.M.Device.content in
-    let same = c.in-Err.ensures.fetches.same in
-    record {
-      answered = c.refuse.ensures.answered can.told words (content c.args.machine) _ _ same
-          ((c.in-Err.ensures.prepared can.told).unprepared words a
-          (((_, counted), (_, recorded)), refl));
-      left = unprepared_worked words c.args.device.now (content c.args.machine)
-          (content c.prepare_work.new.machine)
-          (content c.refuse.result.1) c.refuse.result.0 same.now c.refuse.ensures.devices;
-    }
+    let old = content c.args.machine in
+    let mid = content c.ready_work.new.machine in
+    let new = content c.work.result.1 in
+    let s = c.work.result.0 in
+    let x = c.in-Ok.stored in
+    let is = (c.in-Ok.ensures.prepared told).ready words a (((_, counted), (_, few)), refl) in
+    let given = given_by x.schema is.definitions is.typing in
+    let r = c.in-Ok.ensures.readies in
+    let can : CanAttach g.M.Device.tells mid = record { told = told; may = inr (r.ready told) } in
+    joined words old new s a given is.accepted
+    (works_counted given c.args.device.now digits number c.args.blocks c.args.records old new s
+    counted few (worked_later given c.args.device.now old mid r.later c.args.blocks c.args.records new s
+    (c.work.ensures.promised can given (stored_as words old.aside.texts a x is))))
+
+pub returns-in-Err-clause-promised : goal.returns-in-Err-clause-promised
+returns-in-Err-clause-promised g c = λ told digits number counted few.
+    let a = working c.args.device.now digits number in
+    let words = request_words a [] c.args.equation.now in
+    let content = g.M.Device.content in
+    let r = c.in-Err.ensures.readies in
+    unprepared words (content c.args.machine) (content c.ready_work.new.machine)
+    (content c.refuse.result.1) _ _ c.in-Err.ending c.refuse.result.0
+    ((c.in-Err.ensures.prepared told).unprepared words a (((_, counted), (_, few)), refl)) r.later r.refused
+    (c.refuse.ensures.refused told) (c.refuse.ensures.given_up told)
+
+pub returns-in-Err-clause-failures : goal.returns-in-Err-clause-failures
+returns-in-Err-clause-failures g c =
+    let faults = g.M.Device.faults in
+    refused_counts (faults c.args.machine) (faults c.ready_work.new.machine)
+    (faults c.refuse.result.1) c.in-Err.ending c.refuse.result.0 c.in-Err.ensures.readies.failures
+    c.refuse.ensures.outside c.refuse.ensures.fault c.refuse.ensures.counted
+    c.refuse.ensures.later

@@ -1,0 +1,45 @@
+use Rattle.std.proofs.Common.{refl, inr}
+use Rattle.gx_store.specs.Store.{CanAttach}
+use Rattle.gx_requests.specs.Words.{making, request_words}
+use Rattle.gx_top.proofs.JoinLemmas.{joined, unprepared, given_by, stored_as, makes_counted}
+use Rattle.gx_top.proofs.LaterLemmas.{made_later}
+use Rattle.gx_top.proofs.ReadyLemmas.{refused_counts}
+use Rattle.gx_top.proofs.make.make.Goals as goal
+
+pub returns-in-Ok-clause-promised : goal.returns-in-Ok-clause-promised
+returns-in-Ok-clause-promised g c = λ told digits counted.
+    let a = making c.args.device.now digits in
+    let words = request_words a c.args.schema.now c.args.equation.now in
+    let content = g.M.Device.content in
+    let old = content c.args.machine in
+    let mid = content c.ready_stored.new.machine in
+    let new = content c.make.result.1 in
+    let s = c.make.result.0 in
+    let x = c.in-Ok.stored in
+    let is = (c.in-Ok.ensures.prepared told).ready words a ((_, counted), refl) in
+    let given = given_by x.schema is.definitions is.typing in
+    let r = c.in-Ok.ensures.readies in
+    let can : CanAttach g.M.Device.tells mid = record { told = told; may = inr (r.ready told) } in
+    joined words old new s a given is.accepted
+    (makes_counted given c.args.device.now digits c.args.blocks old new s counted
+    (made_later given c.args.device.now old mid r.later c.args.blocks new s
+    (c.make.ensures.promised can given (stored_as words old.aside.texts a x is))))
+
+pub returns-in-Err-clause-promised : goal.returns-in-Err-clause-promised
+returns-in-Err-clause-promised g c = λ told digits counted.
+    let a = making c.args.device.now digits in
+    let words = request_words a c.args.schema.now c.args.equation.now in
+    let content = g.M.Device.content in
+    let r = c.in-Err.ensures.readies in
+    unprepared words (content c.args.machine) (content c.ready_stored.new.machine)
+    (content c.refuse.result.1) _ _ c.in-Err.ending c.refuse.result.0
+    ((c.in-Err.ensures.prepared told).unprepared words a ((_, counted), refl)) r.later r.refused
+    (c.refuse.ensures.refused told) (c.refuse.ensures.given_up told)
+
+pub returns-in-Err-clause-failures : goal.returns-in-Err-clause-failures
+returns-in-Err-clause-failures g c =
+    let faults = g.M.Device.faults in
+    refused_counts (faults c.args.machine) (faults c.ready_stored.new.machine)
+    (faults c.refuse.result.1) c.in-Err.ending c.refuse.result.0 c.in-Err.ensures.readies.failures
+    c.refuse.ensures.outside c.refuse.ensures.fault c.refuse.ensures.counted
+    c.refuse.ensures.later
