@@ -4,6 +4,8 @@
 #[cfg(test)]
 mod bounded;
 #[cfg(test)]
+mod crashes;
+#[cfg(test)]
 mod partner;
 #[cfg(test)]
 mod requests;
