@@ -6,7 +6,7 @@ import collections
 import struct
 
 from formats import (BLOCK, ENTRY_LIMIT, ENTRY_PAGE, INDEX_PAGE, INNER_PAGE, KEY_LIMIT, KINDS, LARGEST, MEMBERS_LIMIT,
-                     NO_PAGE, TABLE_OWNER, TABLE_PAGES, Wrong, entries_of, equation_text, place, schema_text, shown,
+                     NO_PAGE, TABLE_OWNER, Wrong, entries_of, equation_text, place, schema_text, shown,
                      spaced)
 
 # Where a fault is: a block, or none where each page is whole; then what it is of, and what is wrong.
@@ -105,6 +105,7 @@ class Layout:
     def __init__(self, device, owners, leaf, name):
         self.device, self.owners, self.leaf = device, owners, leaf
         self.where, self.owner = f"leaf {leaf.leaf} {name}", leaf.leaf + 1
+        self.root = device.tables + leaf.root
         self.entries, self.faults, self.reached, self.keys = [], [], set(), set()
         {"heap": self.heap, "hash": self.hash, "isam": self.isam, "bplus": self.bplus}[leaf.head]()
         for page, owner in enumerate(owners):
@@ -120,7 +121,7 @@ class Layout:
     def take(self, page, origin):
         """The bytes of a page of the leaf that is reached now, or none where it is no such page. The origin
         is the page that leads to it."""
-        if not TABLE_PAGES <= page < self.device.count:
+        if not self.device.tables <= page < self.device.count:
             self.fault(origin, f"it leads to page {page}, which is no page of a leaf")
         elif page in self.reached:
             self.fault(page, f"page {origin} leads to it, and so does another way")
@@ -134,7 +135,7 @@ class Layout:
         return None
 
     def is_root(self, page):
-        return 0 <= page - self.leaf.root < self.leaf.roots
+        return 0 <= page - self.root < self.leaf.roots
 
     def head(self, page, octets, kind, name):
         """The count and the page number of a page of this kind, or none where it is of another kind."""
@@ -182,10 +183,10 @@ class Layout:
         return found
 
     def heap(self):
-        self.chain(self.leaf.root, self.leaf.root, (self.leaf.root,))
+        self.chain(self.root, self.root, (self.root,))
 
     def hash(self):
-        roots, is_int = range(self.leaf.root, self.leaf.root + self.leaf.roots), self.leaf.keys[0].kind == "int"
+        roots, is_int = range(self.root, self.root + self.leaf.roots), self.leaf.keys[0].kind == "int"
         for number, root in enumerate(roots):
             for page, key in self.chain(root, root, (root,)):
                 if fnv(front(key, is_int)) % self.leaf.roots != number:
@@ -209,7 +210,7 @@ class Layout:
         return found
 
     def isam(self):
-        root = self.leaf.root
+        root = self.root
         octets = self.take(root, root)
         head = self.head(root, octets, INDEX_PAGE, "index") if octets else None
         if head is None:
@@ -228,14 +229,14 @@ class Layout:
                     self.fault(first, f"page {page} of its chain has the key {spaced(key)} of another bucket")
 
     def bplus(self):
-        todo = [(self.leaf.root, self.leaf.root, b"", None)]
+        todo = [(self.root, self.root, b"", None)]
         while todo:
             page, origin, least, end = todo.pop()
             octets = self.take(page, origin)
             if octets is None:
                 continue
             if octets[0] != INNER_PAGE:
-                keys, following = self.entry_page(page, octets, page == self.leaf.root)
+                keys, following = self.entry_page(page, octets, page == self.root)
                 if following != NO_PAGE:
                     self.fault(page, "an entry page of a tree has a next page")
                 if any(one >= two for one, two in zip(keys, keys[1:])):
@@ -291,20 +292,20 @@ class Database:
         device = self.device
         if device.blocks > LARGEST:
             raise Wrong(f"a device of {device.blocks} blocks is too large")
-        if device.blocks < 7 + 2 * (TABLE_PAGES + self.equation.roots):
+        if device.count < device.tables + self.equation.roots:
             self.faults.append(Fault(0, "the device", f"{device.blocks} blocks are too few"))
         if not device.has_magic:
             self.faults.append(Fault(0, "the device", "there is no magic"))
         texts = schema_text(self.schema), equation_text(self.schema, self.equation)
         area = struct.pack(">HH", *map(len, texts)) + "".join(texts).encode("ascii")
-        if device.data[3 * BLOCK:7 * BLOCK] != area.ljust(4 * BLOCK, b"\0"):
-            self.faults.append(Fault(3, "the device", "its texts are others, or aren't in their canonical form"))
+        if device.text_area() != area.ljust(4 * BLOCK, b"\0"):
+            self.faults.append(Fault(device.first_text, "the device", "its texts are others, or aren't in their canonical form"))
 
     def check_owners(self, owners):
         for page, owner in enumerate(owners):
             block = self.device.block_of(page)
             is_known = owner == TABLE_OWNER or owner <= len(self.equation.leaves)
-            if not is_known or (owner == TABLE_OWNER) != (page < TABLE_PAGES):
+            if not is_known or (owner == TABLE_OWNER) != (page < self.device.tables):
                 self.faults.append(Fault(block, "the table of owners", f"the owner of page {page} can't be {owner}"))
 
     # The layers, from the leaves up: each term gives the data of its records, by their keys

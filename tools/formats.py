@@ -3,14 +3,15 @@ blocks, pages and entries of a device. It goes by docs/FORMATS.md alone, and has
 
 import collections
 import itertools
+import mmap
 import os
 import re
 import struct
 import sys
 
-BLOCK, TABLE_PAGES, TABLE_OWNER, NO_PAGE = 4096, 16, 65535, 0xFFFFFFFF
+BLOCK, TABLE_OWNER, NO_PAGE = 4096, 65535, 0xFFFFFFFF
 PAGE_NUMBERS = BLOCK // 2
-LARGEST = 65543
+FIRST_LARGEST, LARGEST, TEXT_BLOCKS = 65543, 524303, 4
 ENTRY_PAGE, INNER_PAGE, INDEX_PAGE = 0x44, 0x49, 0x58
 KINDS = ("heap", "hash", "isam", "bplus")
 LINKSETS = {"array": 1, "ring": 2, "inverted": 2}
@@ -52,6 +53,14 @@ def read(name):
     """The bytes of a file."""
     with open(name, "rb") as it:
         return it.read()
+
+
+def device_bytes(name):
+    """The bytes of a device. It may have 2 GiB: of a file a part is read where it is looked at. What
+    tells no size, as a pipe or a block device, is read whole."""
+    with open(name, "rb") as it:
+        has_size = os.fstat(it.fileno()).st_size > 0
+        return mmap.mmap(it.fileno(), 0, access=mmap.ACCESS_READ) if has_size else it.read()
 
 
 def text_of(name):
@@ -371,7 +380,8 @@ def give_link_forms(side, link):
 
 
 def read_equation(text, schema, what="the equation"):
-    """An equation's sides under a schema, with their forms, and its leaves with their root pages."""
+    """An equation's sides under a schema, with their forms, and its leaves. The first root page of a leaf
+    is counted from that of the first leaf."""
     found = read_terms(text, what)
     names = [it.name for it in schema.files + schema.links]
     if [name for name, _ in found] != names:
@@ -384,11 +394,11 @@ def read_equation(text, schema, what="the equation"):
         give_form(side, file.fields[:1], file.fields[1:])
     for link, side in zip(schema.links, links):
         give_link_forms(side, link)
-    leaves, root = [it for side in sides for it in side.leaves()], TABLE_PAGES
+    leaves, root = [it for side in sides for it in side.leaves()], 0
     for number, leaf in enumerate(leaves):
         leaf.leaf, leaf.root = number, root
         root += leaf.roots
-    return Equation(files, links, leaves, root - TABLE_PAGES)
+    return Equation(files, links, leaves, root)
 
 
 def equation_text(schema, equation):
@@ -472,20 +482,27 @@ def write_scripts(pieces, folder):
 
 # Devices
 
+Layout = collections.namedtuple("Layout", "magic bitmap tables")
+FIRST, SECOND = Layout(b"GENESIS1", 1, 16), Layout(b"GENESIS2", 8, 128)
+
+
 class Device:
     """The blocks of a device, and its pages as they stand."""
 
     def __init__(self, data):
         self.data, self.blocks = data, len(data) // BLOCK
-        self.count = max(0, (self.blocks - 7) // 2)
-        self.has_magic = data[:8] == b"GENESIS1"
+        layout = FIRST if self.blocks <= FIRST_LARGEST else SECOND
+        self.tables, self.first_text = layout.tables, 2 + layout.bitmap
+        self.head = self.first_text + TEXT_BLOCKS
+        self.count = max(0, (self.blocks - self.head) // 2)
+        self.has_magic = self.blocks <= LARGEST and data[:8] == layout.magic
         self.is_open = self.blocks > 1 and data[BLOCK] == 0xA5
-        self.bitmap = data[2 * BLOCK:3 * BLOCK]
+        self.bitmap = data[2 * BLOCK:self.first_text * BLOCK]
 
     def block_of(self, page):
         """The block where a page stands."""
         is_named = self.is_open and self.bitmap[page // 8] >> (7 - page % 8) & 1
-        return 7 + page if is_named else 7 + self.count + page
+        return self.head + page if is_named else self.head + self.count + page
 
     def page(self, number):
         at = self.block_of(number) * BLOCK
@@ -493,13 +510,17 @@ class Device:
 
     def owners(self):
         """The number in the table of owners for each page."""
-        table = b"".join(map(self.page, range(min(TABLE_PAGES, self.count))))
+        table = b"".join(map(self.page, range(min(self.tables, self.count))))
         count = min(self.count, len(table) // 2)
         return struct.unpack(f">{count}H", table[:2 * count])
 
+    def text_area(self):
+        """The bytes of the blocks of the texts, and zeros for those that aren't there."""
+        return self.data[self.first_text * BLOCK:self.head * BLOCK].ljust(TEXT_BLOCKS * BLOCK, b"\0")
+
     def texts(self):
         """The canonical texts of the schema and of the equation that it keeps."""
-        area = self.data[3 * BLOCK:7 * BLOCK].ljust(4 * BLOCK, b"\0")
+        area = self.text_area()
         schema, equation = struct.unpack(">HH", area[:4])
         if 4 + schema + equation > len(area):
             raise Wrong("the texts on it can't be read: they are longer than their room")
@@ -511,10 +532,10 @@ class Device:
 
 def device_of(name, is_any=False):
     """The device of this name, which has to begin as one where not any is wanted."""
-    device = Device(read(name))
+    device = Device(device_bytes(name))
     if not is_any and not device.has_magic:
         raise Wrong(f"{name}: there is no database on it")
-    if not is_any and device.count <= TABLE_PAGES:
+    if not is_any and device.count <= device.tables:
         raise Wrong(f"{name}: it has {device.blocks} blocks, which are too few for a database")
     return device
 

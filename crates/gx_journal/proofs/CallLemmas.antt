@@ -1,6 +1,6 @@
 -- What calls on the working pages keep, and what two of them keep together.
-use Rattle.std.proofs.Common.{◌≡◌, ◌≢◌, ◌<◌, ℕ, Bool, false, List, length, get_or, Option, Some, Result, Ok, Err, IsTrue, refl, ap, sym, subst, ◌∙◌, arith}
-use Rattle.std.specs.Prelude.{IsSomeAnd, IsErr}
+use Rattle.std.proofs.Common.{◌≡◌, ◌≢◌, ◌<◌, ℕ, Bool, false, List, length, get_or, Result, Ok, Err, IsTrue, refl, ap, sym, subst, ◌∙◌, arith}
+use Rattle.std.specs.Prelude.{IsErr}
 use Rattle.gx_device.specs.declared.device.Device as device
 use Rattle.gx_device.specs.declared.device.Failed.{Failed}
 use Rattle.gx_device.specs.Content.{Moment}
@@ -8,7 +8,7 @@ use Rattle.gx_device.specs.Faults.{IsCounted}
 use Rattle.gx_device.proofs.RunLemmas.{outside_same}
 use Rattle.gx_layout.specs.Layout.{bitmap_blocks, slot}
 use Rattle.gx_layout.proofs.BlockLemmas.{blocks_twice, blocks_more}
-use Rattle.gx_frames.specs.Pool.{Resident, Pool, IsChanged, find_page, to_front, with_residents}
+use Rattle.gx_frames.specs.Pool.{Pool, IsChanged, find_page, to_front, with_residents}
 use Rattle.gx_journal.specs.declared.working.WorkingPages.{WorkingPages}
 use Rattle.gx_journal.specs.DeviceCalls.{HasPlaces, ReadsOnly, WritesBlock, TouchesOnly}
 use Rattle.gx_journal.specs.Publishing.{SameResidents}
@@ -16,15 +16,10 @@ use Rattle.gx_journal.specs.Sources.{IsSlot, OnlySlots, SamePages, IsCommitted, 
 use Rattle.gx_journal.specs.Working.{size_in, page_in, IsCachedIn}
 use Rattle.gx_journal.specs.WorkingCalls.{IsBacked, WritesSlots, KeepsWorking, KeepsHead}
 use Rattle.gx_journal.proofs.CleanLemmas.{changed_at}
-use Rattle.gx_journal.proofs.DeviceLemmas.{failed_counted}
+use Rattle.gx_layout.proofs.CallLemmas.{failed_counted}
 use Rattle.gx_journal.proofs.PublishLemmas.{moved_cached, moved_pages, slots_body, committed_body}
 use Rattle.gx_journal.proofs.SlotLemmas.{slots_twice, slots_read, slots_write, front_found, write_pages, write_cached}
 use Rattle.gx_journal.proofs.SourceLemmas.{length_front}
-
--- what is found has what holds of it
-pub found_has : (o : Option Resident) (P : Resident → Type 0) (r : Resident) → o ≡ Some r
-    → IsSomeAnd o P → P r
-found_has o P r is has = subst (λ (k : Option Resident). IsSomeAnd k P) is has
 
 -- a page that is used comes to the front
 pub front_residents : (p : ℕ) (old new : Pool)

@@ -5,9 +5,10 @@ use Rattle.std.proofs.lemmas.Bool.{true≢false}
 use Rattle.gx_device.specs.declared.device.Device as device
 use Rattle.gx_device.specs.declared.device.Failed.{Failed}
 use Rattle.gx_device.specs.Content.{NonePending, Syncs, block_of}
-use Rattle.gx_device.specs.Faults.{HasCause, IsCounted}
+use Rattle.gx_device.specs.Faults.{IsCounted}
 use Rattle.gx_device.proofs.RunLemmas.{outside_joined, outside_write}
 use Rattle.gx_layout.specs.Layout.{slot}
+use Rattle.gx_layout.proofs.CallLemmas.{failed_counted}
 use Rattle.gx_layout.proofs.BlockLemmas.{blocks_twice, blocks_more, blocks_read, blocks_sync, blocks_write}
 use Rattle.gx_layout.proofs.FlushLemmas.{unflushed}
 use Rattle.gx_layout.proofs.FormatLemmas.{run_more}
@@ -16,20 +17,10 @@ use Rattle.gx_frames.specs.Pool.{Pool}
 use Rattle.gx_journal.specs.DeviceCalls.{ReadsOnly, WritesBlock, TouchesOnly, WritesOnly, FlushesOnly}
 use Rattle.gx_journal.specs.Publishing.{SameResidents, IsInSlot}
 
-pub counted : {T E : Type 0} {before now : ℕ} {result : Result T E} → HasCause before now result
-    → OnOk result (now ≡ before) → IsCounted before now result
-counted cause same = record { later = cause.later; failed = cause.failed; same = same }
-
--- a call that fails where one within it did
+-- a call that fails answers no Ok
 pub no_ok : {T E : Type 0} (A : Type 0) (result : Result T E) → IsErr result → OnOk result A
 no_ok A (Ok x) is = absurd (true≢false (sym is))
 no_ok A (Err e) is = tt
-
-pub failed_counted : {T U E : Type 0} {before now : ℕ} {e : E} (result : Result U E)
-    → IsErr result → IsCounted {T = T} before now (Err e) → IsCounted before now result
-failed_counted (Ok x) is count = absurd (true≢false (sym is))
-failed_counted (Err e) is count =
-    record { later = count.later; failed = count.failed; same = tt }
 
 pub residents_joined : {a b c : Pool} → SameResidents a b → SameResidents b c → SameResidents a c
 residents_joined first then = record {

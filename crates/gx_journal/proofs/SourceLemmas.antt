@@ -5,7 +5,6 @@ use Rattle.std.specs.List.{AllByRecursion}
 use Rattle.std.specs.Option.{option_map_or}
 use Rattle.std.proofs.lemmas.Bool.Decides.{eqb_tells}
 use Rattle.std.proofs.lemmas.Option.{same_Some}
-use Rattle.std.proofs.lemmas.Bool.{true≢false}
 use Rattle.gx_frames.specs.Order.{IsUnique, IsAbsent}
 use Rattle.gx_frames.specs.Pool.{Resident, Pool, find_page, without, to_front, IsLast, IsPool}
 use Rattle.gx_frames.specs.Calls.{placed_first}
@@ -105,10 +104,6 @@ length_front p rs = by (find_page p rs) refl
         → length (option_map_or (λ r. r ∷ without p rs) o rs) ≤ length rs
     by None e = omega arith
     by (Some r) e = omega (arith, fewer_without p rs r e)
-
-pub some_is : (o : Option Resident) → IsSome o → (r : Resident) × (o ≡ Some r)
-some_is None e = absurd (true≢false (sym e))
-some_is (Some r) e = (r, refl)
 
 absent_off : (x p : ℕ) (others : List Resident) (r : Resident)
     → IsAbsent x (map (λ (y : Resident). y.page) (others ++ r ∷ [])) → x ≢ r.page

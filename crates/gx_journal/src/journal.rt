@@ -5,6 +5,7 @@ ghost use Rattle.gx_device.specs.Content.{Silent, block_of};
 ghost use Rattle.gx_device.specs.Crash.{LeavesOnly};
 ghost use Rattle.gx_device.specs.Faults.{IsCounted};
 ghost use Rattle.gx_layout.specs.Layout.{OnlyBlocks, head_blocks, home, pages_of, is_open};
+ghost use Rattle.gx_layout.specs.Places.{layout_of};
 ghost use Rattle.gx_layout.specs.Head.{HasMagic, IsFormatted, DifferFirst, text_at, text_area};
 ghost use Rattle.gx_layout.specs.Besides.{IsImageBesides};
 ghost use Rattle.gx_layout.specs.Recovered.{Recovers, IsOfRecovery, replayed_pages, view_now};
@@ -18,7 +19,7 @@ use crate::forget::forget;
 use crate::opening::Unopened;
 use crate::working::WorkingPages;
 use gx_device::{Device, Failed};
-use gx_layout::{format, home, recover, seal, texts_differ};
+use gx_layout::{format, home, layout, recover, seal, texts_differ};
 use std::alloc::Global;
 
 /// Pages that are committed all at once.
@@ -163,6 +164,13 @@ impl<D: Device> Journal<D> {
         ensures reads { Reads self.old self.new result }
     {
         texts_differ(&mut self.device, schema, equation)
+    }
+
+    /// The layout of the device: 1 or 2, by the number of its blocks.
+    pub fn layout(&self) -> u8
+        ensures { result ≡ layout_of (D.size (device_of self.now)) }
+    {
+        layout(self.device.blocks())
     }
 
     /// The number of blocks of the device.

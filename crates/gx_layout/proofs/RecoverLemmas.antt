@@ -1,14 +1,16 @@
 -- What recovery finds, and what it copies.
-use Rattle.std.proofs.Common.{◌≡◌, inl, inr, ℕ, zero, suc, ◌+◌, ◌*◌, ◌<◌, ◌≤◌, Bool, true, false, List, [], ◌∷◌, ◌++◌, length, get_or, refl, sym, ◌∙◌, ap, subst, arith, length-append}
-use Rattle.std.proofs.lemmas.Bool.{cases_eq}
+use Rattle.std.proofs.Common.{◌≡◌, inl, inr, ℕ, zero, suc, ◌+◌, ◌*◌, ◌/◌, ◌%◌, ◌<◌, ◌≤◌, Bool, true, false, List, [], ◌∷◌, ◌++◌, length, get_or, refl, sym, ◌∙◌, ap, subst, arith, length-append}
+use Rattle.std.specs.Prelude.{◌&&◌, ◌==◌}
+use Rattle.std.proofs.lemmas.Bool.{cases_eq, and_parts}
+use Rattle.std.proofs.lemmas.Bool.Decides.{Decides-eqb}
 use Rattle.gx_device.specs.Content.{Shelf, Moment, Content, block_of, is_pending, OnlyTime, Syncs, NonePending}
 use Rattle.gx_device.specs.Crash.{Image, IsImage, EachImage, Through, LeavesOnly, Outside}
 use Rattle.gx_device.proofs.RunLemmas.{ticked, joined, weakened, synced, outside_same, outside_joined, outside_more}
-use Rattle.gx_layout.specs.Layout.{is_open, has_bit, has_bit_on, bitmap_blocks, first_text, head_blocks, pages_of, most_pages, slot, head_in, View, StandsFor, ReadsAs, flags, CopiedBelow, IsIn, Holds, Fits, AtRest, IsReady, IsOpened, OnlyBlocks, home}
+use Rattle.gx_layout.specs.Layout.{is_open, has_bit, has_bit_on, bit_in, bitmap_blocks, first_text, head_blocks, pages_of, most_pages, slot, head_in, View, StandsFor, ReadsAs, flags, CopiedBelow, IsIn, Holds, Fits, AtRest, IsReady, IsOpened, OnlyBlocks, home}
+use Rattle.gx_layout.specs.declared.bitmap.TheConstants.{BITS}
 use Rattle.gx_layout.specs.Recovered.{IsUnwritten, Recovers, IsOfRecovery}
-use Rattle.gx_layout.proofs.BlockLemmas.{blocks_twice, blocks_more, blocks_read, blocks_sync}
+use Rattle.gx_layout.proofs.BlockLemmas.{blocks_twice, blocks_more, blocks_read}
 use Rattle.gx_layout.specs.PhaseLaws.{bool_cases, shut, set_bit, no_bit, opened_leaves, opened_homes, rest_leaves}
-use Rattle.gx_layout.proofs.BitLemmas.{first_bits, one_block}
 use Rattle.gx_layout.proofs.CommitLemmas.{home_images, homes_ready}
 
 pub length-flags : (bit : ℕ → Bool) (n : ℕ) → length (flags bit n) ≡ n
@@ -37,21 +39,17 @@ get_or-flags bit (suc n) p below = elim (cases_eq p n) [
       ∙ get_or-flags bit n p (omega arith)
 ]
 
--- pages with the same bits have the same flags
-pub same_flags : (x y : ℕ → Bool) (n : ℕ) → ((p : ℕ) → p < n → x p ≡ y p) → flags x n ≡ flags y n
-same_flags x y zero same = refl
-same_flags x y (suc n) same =
-    let front = same_flags x y n (λ p below. same p (omega (arith, below))) in
-    let last = same n (omega arith) in
-    λ i. front i ++ last i ∷ []
+-- bit p of a block of the bitmap
+pub bit_here : (i : ℕ) (block : List ℕ) (p : ℕ) → p / BITS ≡ i
+    → bit_in i block p ≡ has_bit block (p % BITS)
+bit_here i block p here =
+    ap (λ (b : Bool). b && has_bit block (p % BITS)) ((Decides-eqb (p / BITS) i).1 here)
 
--- the block of bits that was read is that of the bitmap
-pub read_bits : (size P : ℕ) (bitmap : List ℕ) (blocks : List (List ℕ))
-    → bitmap ≡ get_or blocks 2 [] → P ≤ most_pages size
-    → (p : ℕ) → p < P → has_bit bitmap p ≡ has_bit_on blocks p
-read_bits size P bitmap blocks is few p below =
-    ap (λ (b : List ℕ). has_bit b p) is
-    ∙ first_bits blocks p (omega (arith, below, one_block size P few))
+pub bit_parts : (i : ℕ) (block : List ℕ) (p : ℕ) → bit_in i block p ≡ true
+    → (p / BITS ≡ i) × (has_bit block (p % BITS) ≡ true)
+bit_parts i block p on =
+    let both = and_parts (p / BITS == i) (has_bit block (p % BITS)) on in
+    ((Decides-eqb (p / BITS) i).0 both.0, both.1)
 
 -- a read leaves everything
 pub read_run : (free : ℕ → Type 0) (old new : Content) → OnlyTime old new
@@ -181,61 +179,133 @@ module _ (c : Content) (v : View) (room : head_blocks (length c.now.blocks) ≤ 
         };
       }
 
--- the bitmap was read, and then the pages were copied and synced
-module _ (v : View) (a b : Content) (r : OnlyTime a b)
-    (room : head_blocks (length a.now.blocks) ≤ length a.now.blocks)
+-- of P pages each has been copied from its slot whose bit is set before block i of the bitmap
+abbrev pub CopiedBefore : ℕ → ℕ → ℕ → Moment → Moment → Type 0
+CopiedBefore i size P old m = (p : ℕ) → p < P → p < BITS * i → has_bit_on old.blocks p ≡ true
+    → block_of m (home size P p) ≡ block_of old (slot size p)
+
+-- one block of the bitmap after another was read, and the pages that it names were copied
+module _ (size P : ℕ) (a : Content) where
+  abbrev any_named : ℕ → Type 0
+  any_named = IsIn (home size P 0) (flags (has_bit_on a.now.blocks) P)
+
+  abbrev named_in : ℕ → List ℕ → ℕ → Type 0
+  named_in i block = IsIn (home size P 0) (flags (bit_in i block) P)
+
+  -- the next block of the bitmap is still as it was
+  module _ (i : ℕ) (within : i < bitmap_blocks size) (b c d : Content) (block : List ℕ)
+      (r : OnlyTime b c) (is : block ≡ block_of b.now (2 + i)) where
+    of_bitmap : Outside (IsIn (home size P 0) (flags (has_bit_on a.now.blocks) P)) a.now b.now
+        → (p : ℕ) → p < P → bit_in i block p ≡ true → has_bit_on a.now.blocks p ≡ true
+    of_bitmap o p below on =
+        let parts = bit_parts i block p on in
+        let same : block ≡ block_of a.now (2 + p / BITS) =
+        is ∙ o.blocks (2 + i) (λ (x : any_named (2 + i)). absurd (omega (arith, x.is, within)))
+        ∙ ap (λ (n : ℕ). block_of a.now (2 + n)) (sym parts.0) in
+        ap (λ (x : List ℕ). has_bit x (p % BITS)) (sym same) ∙ parts.1
+
+    is_named : Outside (IsIn (home size P 0) (flags (has_bit_on a.now.blocks) P)) a.now b.now
+        → (n : ℕ) → named_in i block n → any_named n
+    is_named o n x =
+        let below : x.page < P =
+        omega (arith, x.below, length-flags (bit_in i block) P) in
+        record {
+          page = x.page;
+          below = omega (arith, below, length-flags (has_bit_on a.now.blocks) P);
+          is = x.is;
+          changes = get_or-flags (has_bit_on a.now.blocks) P x.page below
+              ∙ of_bitmap o x.page below
+              (sym (get_or-flags (bit_in i block) P x.page below) ∙ x.changes);
+        }
+
+    pub more_named_run : Through (Outside any_named a.now) a b
+        → Through (Outside (IsIn (home size P 0) (flags (bit_in i block) P)) c.now) c d
+        → Through (Outside (IsIn (home size P 0) (flags (has_bit_on a.now.blocks) P)) a.now) a d
+    more_named_run run w =
+        outside_joined any_named a b d run
+        (outside_joined any_named b c d (read_run any_named b c r)
+        (weakened (Outside (named_in i block) c.now) (Outside any_named c.now)
+        (λ m o. outside_more (named_in i block) any_named (is_named run.now) c.now m o) c d w))
+
+    pub more_named : Outside any_named a.now b.now → OnlyBlocks any_named a b
+        → OnlyBlocks (IsIn (home size P 0) (flags (bit_in i block) P)) c d
+        → OnlyBlocks (IsIn (home size P 0) (flags (has_bit_on a.now.blocks) P)) a d
+    more_named o so_far w =
+        blocks_twice any_named a b d so_far
+        (blocks_twice any_named b c d (blocks_read any_named b c r)
+        (blocks_more (named_in i block) any_named (is_named o) c d w))
+
+    pub more_copied_named : Through (Outside any_named a.now) a b → CopiedBefore i size P a.now b.now
+        → Through (Outside (named_in i block) c.now) c d
+        → CopiedBelow P size P (bit_in i block) c.now d.now → CopiedBefore (i + 1) size P a.now d.now
+    more_copied_named run so_far w copied p below before on = elim (cases_eq (p / BITS) i) [
+      | inl here ↦
+          let same : block ≡ block_of a.now (2 + p / BITS) =
+          is ∙ run.now.blocks (2 + i) (λ (x : any_named (2 + i)). absurd (omega (arith, x.is, within)))
+          ∙ ap (λ (n : ℕ). block_of a.now (2 + n)) (sym here) in
+          copied p below (bit_here i block p here
+          ∙ ap (λ (x : List ℕ). has_bit x (p % BITS)) same ∙ on)
+          ∙ ap (λ (m : Moment). block_of m (slot size p)) r.now
+          ∙ run.now.blocks (slot size p)
+          (λ (x : any_named (slot size p)). absurd (omega (arith, x.is, below)))
+      | inr other ↦ w.now.blocks (home size P p)
+          (λ (x : named_in i block (home size P p)).
+          let at : x.page ≡ p = omega (arith, x.is) in
+          let bit_on : bit_in i block p ≡ true =
+          sym (get_or-flags (bit_in i block) P p below)
+          ∙ ap (λ (n : ℕ). get_or (flags (bit_in i block) P) n false) (sym at) ∙ x.changes in
+          other (bit_parts i block p bit_on).0)
+          ∙ ap (λ (m : Moment). block_of m (home size P p)) r.now
+          ∙ so_far p below (omega (arith, before, other)) on
+    ]
+
+-- the pages that the bitmap names were copied, and then there was a sync
+module _ (v : View) (a : Content) (room : head_blocks (length a.now.blocks) ≤ length a.now.blocks)
     (few : length v.pages ≤ most_pages (length a.now.blocks)) (none : NonePending a)
-    (reads : ReadsAs a.now v) (opened : is_open (block_of a.now 1) ≡ true) where
-  abbrev all : List Bool
-  all = flags (has_bit_on a.now.blocks) (length v.pages)
+    (reads : ReadsAs a.now v) (opened : is_open (block_of a.now 1) ≡ true) (size : ℕ)
+    (size_is : length a.now.blocks ≡ size) (P : ℕ) (counts : length v.pages ≡ P) (d : Content)
+    (run : Through (Outside (IsIn (home size P 0) (flags (has_bit_on a.now.blocks) P)) a.now) a d)
+  where
+    abbrev all : List Bool
+    all = flags (has_bit_on a.now.blocks) (length v.pages)
 
-  pub back_read : LeavesOnly (StandsFor v) a b
-  back_read = read_images (StandsFor v) a b r
-      (opened_leaves a.now v all (found_open a v room few none reads opened))
+    start_open : IsOpened a.now v all
+    start_open = found_open a v room few none reads opened
 
-  module _ (bit : ℕ → Bool) (size : ℕ) (size_is : length a.now.blocks ≡ size) (P : ℕ)
-      (counts : length v.pages ≡ P)
-      (bits : (p : ℕ) → p < P → bit p ≡ has_bit_on a.now.blocks p) (d : Content)
-      (run : Through (Outside (IsIn (home size P 0) (flags bit P)) b.now) b d) where
-    still_open : IsOpened b.now v all
-    still_open = subst (λ (m : Moment). IsOpened m v all) (sym r.now)
-        (found_open a v room few none reads opened)
-
-    all_is : flags bit P ≡ all
-    all_is = same_flags bit (has_bit_on a.now.blocks) P bits
-        ∙ ap (flags (has_bit_on a.now.blocks)) (sym counts)
+    all_is : flags (has_bit_on a.now.blocks) P ≡ all
+    all_is = ap (flags (has_bit_on a.now.blocks)) (sym counts)
 
     base : home size P 0 ≡ home v.size (length v.pages) 0
     base = omega (arith, counts, ap bitmap_blocks size_is, ap bitmap_blocks reads.size)
 
-    here : Through (Outside (IsIn (home v.size (length v.pages) 0) all) b.now) b d
-    here = subst (λ (n : ℕ). Through (Outside (IsIn n all) b.now) b d) base
-        (subst (λ (f : List Bool). Through (Outside (IsIn (home size P 0) f) b.now) b d) all_is run)
+    here : Through (Outside (IsIn (home v.size (length v.pages) 0) all) a.now) a d
+    here = subst (λ (n : ℕ). Through (Outside (IsIn n all) a.now) a d) base
+        (subst (λ (f : List Bool). Through (Outside (IsIn (home size P 0) f) a.now) a d) all_is run)
 
     pub back_copied : LeavesOnly (StandsFor v) a d
-    back_copied = joined (EachImage (StandsFor v)) a b d back_read
-        (home_images v all b d still_open here)
+    back_copied = home_images v all a d start_open here
 
     pub back_synced : (e : Content) → Syncs d e → LeavesOnly (StandsFor v) a e
     back_synced e s = joined (EachImage (StandsFor v)) a d e back_copied
         (synced (StandsFor v) d e s back_copied.now)
 
     pub back_ready : (e : Content) → Syncs d e → NonePending e
-        → CopiedBelow P size P bit b.now d.now
+        → CopiedBelow P size P (has_bit_on a.now.blocks) a.now d.now
         → IsReady e.now v v (flags (has_bit_on a.now.blocks) P)
     back_ready e s settled copied =
         let held : Holds (home v.size (length v.pages) 0) v.pages all d.now =
         λ p below on.
         let under : p < P = omega (arith, below, counts) in
-        let on_bit : bit p ≡ true =
-        sym (get_or-flags bit P p under) ∙ ap (λ (f : List Bool). get_or f p false) all_is ∙ on in
+        let on_bit : has_bit_on a.now.blocks p ≡ true =
+        sym (get_or-flags (has_bit_on a.now.blocks) P p under)
+        ∙ ap (λ (f : List Bool). get_or f p false) all_is ∙ on in
         ap (block_of d.now)
         (omega (arith, counts, ap bitmap_blocks size_is, ap bitmap_blocks reads.size))
         ∙ copied p under on_bit
-        ∙ ap (block_of b.now) (omega (arith, ap bitmap_blocks size_is, ap bitmap_blocks reads.size))
-        ∙ (still_open.logged.slots p below on).reads in
+        ∙ ap (block_of a.now) (omega (arith, ap bitmap_blocks size_is, ap bitmap_blocks reads.size))
+        ∙ (start_open.logged.slots p below on).reads in
         let q = homes_ready d e s settled v all
-        (opened_homes b.now d.now v all here.now still_open) held in
+        (opened_homes a.now d.now v all here.now start_open) held in
         subst (λ (n : ℕ). IsReady e.now v v (flags (has_bit_on a.now.blocks) n)) counts q
 
 -- where nothing is pending, a crash leaves what is read
@@ -260,14 +330,6 @@ pub still_gate : (a b : Content) (g : Bool) → OnlyTime a b → is_open (block_
     → is_open (block_of b.now 1) ≡ g
 still_gate a b g r is = ap (λ (m : Moment). is_open (block_of m 1)) r.now ∙ is
 
-pub still_rest : (a b : Content) (v : View) → OnlyTime a b
-    → head_blocks (length a.now.blocks) ≤ length a.now.blocks
-    → length v.pages ≤ most_pages (length a.now.blocks) → NonePending a
-    → ReadsAs a.now v
-    → is_open (block_of a.now 1) ≡ false → AtRest b.now v
-still_rest a b v r room few none reads closed =
-    subst (λ (m : Moment). AtRest m v) (sym r.now) (found_rest a v room few none reads closed)
-
 -- what is asked of the device holds of its blocks
 pub room_of : (size P : ℕ) (blocks : List (List ℕ)) → size ≡ length blocks
     → head_blocks size + 2 * P ≤ size → head_blocks (length blocks) ≤ length blocks
@@ -287,17 +349,6 @@ reads_same v old mid s reads =
     (record { blocks = bs; said = mid.now.said; shelf = old.now.shelf })) (sym s.blocks)
     (subst (λ (t : List ℕ). StandsFor v
     (record { blocks = old.now.blocks; said = t; shelf = old.now.shelf })) (sym s.said) reads))
-
--- the bitmap was read, and pages that it names were copied
-pub back_touched : (base P : ℕ) (a b d : Content) (bit : ℕ → Bool) → OnlyTime a b
-    → ((p : ℕ) → p < P → bit p ≡ has_bit_on a.now.blocks p)
-    → OnlyBlocks (IsIn base (flags bit P)) b d
-    → OnlyBlocks (IsIn base (flags (has_bit_on a.now.blocks) P)) a d
-back_touched base P a b d bit r same touched =
-    let free = IsIn base (flags (has_bit_on a.now.blocks) P) in
-    blocks_twice free a b d (blocks_read free a b r)
-    (subst (λ (f : List Bool). OnlyBlocks (IsIn base f) b d)
-    (same_flags bit (has_bit_on a.now.blocks) P same) touched)
 
 -- behind an open gate pages were copied, and the gate was written
 module _ (size P : ℕ) (a b d : Content) (r : OnlyTime a b) (size_is : size ≡ length b.now.blocks)
@@ -333,17 +384,6 @@ module _ (size P : ℕ) (a b d : Content) (r : OnlyTime a b) (size_is : size ≡
       (blocks_more (λ n. n ≡ 1) (IsOfRecovery P a.now.blocks)
       (λ n is. (ap (λ (m : Moment). is_open (block_of m 1)) (sym r.now) ∙ opened, inl is)) d e
       gate)
-
--- a sync and a read come before
-pub settled_after : (P : ℕ) (a b c d : Content) → Syncs a b → OnlyTime b c
-    → OnlyBlocks (IsOfRecovery P c.now.blocks) c d
-    → OnlyBlocks (IsOfRecovery P a.now.blocks) a d
-settled_after P a b c d s r touched =
-    let free = IsOfRecovery P a.now.blocks in
-    blocks_twice free a b d (blocks_sync free a b s)
-    (blocks_twice free b c d (blocks_read free b c r)
-    (subst (λ (bs : List (List ℕ)). OnlyBlocks (IsOfRecovery P bs) c d)
-    (ap (λ (m : Moment). m.blocks) r.now ∙ s.blocks) touched))
 
 -- only a sync came
 pub unwritten_sync : (a b : Content) → Syncs a b → IsUnwritten a b

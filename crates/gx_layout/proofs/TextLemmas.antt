@@ -8,9 +8,6 @@ use Rattle.gx_layout.specs.Head.{DifferFirst, text_at, block_in}
 use Rattle.gx_layout.specs.Calm.{OnlyReads}
 use Rattle.gx_layout.proofs.CalmLemmas.{calm_read}
 
-pub no_reads : (a : Content) → OnlyReads a a
-no_reads a = record { now = refl; script = refl; aside = refl; calm = λ start v calm. calm }
-
 pub one_read : (a b : Content) → OnlyTime a b → OnlyReads a b
 one_read a b r = record {
   now = r.now;

@@ -1,5 +1,5 @@
 -- What the blocks of a device stand for.
-use Rattle.std.specs.Prelude.{◌≡◌, ◌↔◌, ◌⊎◌, ◌<◌, ◌≤◌, zero, suc, ◌++◌, ◌+◌, ◌-◌, ◌/◌, ◌%◌, ◌&&◌, ◌==◌, if◌then◌else◌, ℕ, Bool, true, false, List, [], ◌∷◌, length, get_or, Contains}
+use Rattle.std.specs.Prelude.{◌≡◌, ◌↔◌, ◌⊎◌, ◌<◌, ◌≤◌, zero, suc, ◌++◌, ◌+◌, ◌*◌, ◌-◌, ◌/◌, ◌%◌, ◌&&◌, ◌==◌, if◌then◌else◌, ℕ, Bool, true, false, List, [], ◌∷◌, length, get_or, Contains}
 use Rattle.std.specs.Int.{bit_at}
 use Rattle.gx_device.specs.Content.{Shelf, Moment, Content, Silent, block_of, is_pending}
 use Rattle.gx_device.specs.Crash.{Image}
@@ -17,6 +17,15 @@ has_bit bitmap p = bit_at (get_or bitmap (p / 8) 0) (7 - p % 8) == 1
 -- bit p of the bitmap, whose blocks are one list of bits
 abbrev pub has_bit_on : List (List ℕ) → ℕ → Bool
 has_bit_on blocks p = has_bit (get_or blocks (2 + p / BITS) []) (p % BITS)
+
+-- bit p of the bitmap, where it stands on block i of it, which has these bytes
+abbrev pub bit_in : ℕ → List ℕ → ℕ → Bool
+bit_in i block p = (p / BITS == i) && has_bit block (p % BITS)
+
+-- on block i of the bitmap exactly those bits are set whose pages are listed
+abbrev pub NamesBlock : List ℕ → ℕ → List ℕ → Type 0
+NamesBlock listed i block =
+    (p : ℕ) → p < BITS → (has_bit block p ≡ true) ↔ Contains listed (BITS * i + p)
 
 -- of the bits below n exactly those are set whose pages are listed
 abbrev pub NamesListed : List ℕ → (ℕ → Bool) → ℕ → Type 0

@@ -1,12 +1,16 @@
--- Where the blocks of a device stand, by how many there are. All follows from how many blocks the
--- bitmap has.
-use Rattle.std.specs.Prelude.{◌≡◌, ◌⊎◌, ◌<◌, ◌≤◌, ◌+◌, ◌*◌, ◌-◌, ◌/◌, ℕ, List, codes}
+-- Where the blocks of a device stand, by how many there are. In the first layout the bitmap has one
+-- block, in the second, which larger devices have, eight. All places follow from that number.
+use Rattle.std.specs.Prelude.{◌≡◌, ◌⊎◌, ◌<◌, ◌≤◌, ◌+◌, ◌*◌, ◌-◌, ◌/◌, nat_le, if◌then◌else◌, ℕ, List, codes}
 use Rattle.gx_layout.specs.declared.bitmap.TheConstants.{BITS}
-use Rattle.gx_layout.specs.declared.places.TheConstants.{TEXT_BLOCKS, TABLES}
+use Rattle.gx_layout.specs.declared.places.TheConstants.{FIRST_MOST, TEXT_BLOCKS, TABLES}
+
+-- the layout of a device of so many blocks
+abbrev pub layout_of : ℕ → ℕ
+layout_of size = if nat_le size FIRST_MOST then 1 else 2
 
 -- the blocks of the bitmap
 unfoldable pub bitmap_blocks : ℕ → ℕ
-bitmap_blocks size = 1
+bitmap_blocks size = if nat_le size FIRST_MOST then 1 else 8
 
 -- the first of the text blocks: those of the magic, the gate and the bitmap stand before it
 abbrev pub first_text : ℕ → ℕ
@@ -30,7 +34,7 @@ table_pages size = TABLES * bitmap_blocks size
 
 -- the bytes that the first block of a database begins with
 abbrev pub magic_of : ℕ → List ℕ
-magic_of size = codes "GENESIS1"
+magic_of size = if nat_le size FIRST_MOST then codes "GENESIS1" else codes "GENESIS2"
 
 -- the slot of page p, and its home where there are P pages
 abbrev pub slot : ℕ → ℕ → ℕ

@@ -8,14 +8,19 @@ ghost use Rattle.gx_layout.specs.Head.{HasMagic};
 ghost use Rattle.gx_layout.specs.Places.{magic_of};
 ghost use Rattle.gx_layout.specs.Besides.{IsUnsealed};
 
+use crate::places::FIRST_MOST;
 use gx_bytes::overwrite;
 use gx_device::{BLOCK_LEN, Device, Failed};
 
 // The bytes that the first block of a database begins with, on a device of so many blocks.
-fn magic_of(_size: u32) -> &'static [u8]
-    ensures { result.now ≡ magic_of _size }
+fn magic_of(size: u32) -> &'static [u8]
+    ensures { result.now ≡ magic_of size }
 {
-    b"GENESIS1"
+    if size <= FIRST_MOST {
+        b"GENESIS1"
+    } else {
+        b"GENESIS2"
+    }
 }
 
 /// Whether the device has the magic.

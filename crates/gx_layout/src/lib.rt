@@ -15,7 +15,8 @@ pub use formatting::format;
 pub use gate::{close_gate, open_gate, set_gate};
 pub use head::seal;
 pub use places::{
-    MAX_BLOCKS, MAX_TEXTS_LEN, TEXT_AREA_LEN, head_blocks, home, page_count, slot, table_pages,
+    FIRST_MOST, MAX_BLOCKS, MAX_TEXTS_LEN, TEXT_AREA_LEN, head_blocks, home, layout, page_count,
+    slot, table_pages,
 };
 pub use recovery::recover;
 pub use texts::texts_differ;

@@ -1,13 +1,17 @@
 // Where the blocks of a device stand, by how many there are.
 ghost use Rattle.std.specs.Prelude.{◌≡◌, ◌≤◌, ◌<◌};
-ghost use Rattle.gx_layout.specs.Places.{bitmap_blocks, first_text, head_blocks, table_pages, pages_of, slot, home};
+ghost use Rattle.gx_layout.specs.Places.{layout_of, bitmap_blocks, first_text, head_blocks, table_pages, pages_of, slot, home};
 ghost use Rattle.gx_layout.specs.declared.places.TheConstants.{MAX_BLOCKS};
 
 use gx_device::BLOCK_LEN;
 
-/// The most blocks of a device: those before its pages, and a slot and a home for each page that
-/// the bitmap has a bit for.
-pub const MAX_BLOCKS: u32 = 65_543;
+/// The most blocks of a device of the first layout: those before its pages, and a slot and a home
+/// for each bit of the one block of its bitmap. A larger device has the second layout.
+pub const FIRST_MOST: u32 = 65_543;
+
+/// The most blocks of a device. Of so many the last one isn't used: the others are those before
+/// the pages, and a slot and a home for each bit of the eight blocks of the bitmap.
+pub const MAX_BLOCKS: u32 = 524_303;
 
 /// How many blocks hold the texts.
 pub(crate) const TEXT_BLOCKS: u32 = 4;
@@ -24,20 +28,27 @@ pub(crate) const LENGTH_LEN: usize = 2;
 /// The most bytes of the two texts: with their lengths they fill the text blocks.
 pub const MAX_TEXTS_LEN: usize = TEXT_AREA_LEN - 2 * LENGTH_LEN;
 
-// How many blocks the bitmap of a device of so many blocks has.
-#[tactic(auto, unfolding(crate::specs::Places::bitmap_blocks))]
-fn bitmap_blocks(_size: u32) -> u32
-    ensures count { result ≡ bitmap_blocks _size }
-    ensures few { result ≤ 1 }
+/// The layout of a device of so many blocks: 1 or 2.
+pub fn layout(size: u32) -> u8
+    ensures { result ≡ layout_of size }
 {
-    1
+    if size <= FIRST_MOST { 1 } else { 2 }
+}
+
+/// How many blocks the bitmap of a device of so many blocks has.
+#[tactic(auto, unfolding(crate::specs::Places::bitmap_blocks))]
+pub(crate) fn bitmap_blocks(size: u32) -> u32
+    ensures count { result ≡ bitmap_blocks size }
+    ensures few { result ≤ 8 }
+{
+    if size <= FIRST_MOST { 1 } else { 8 }
 }
 
 /// The first of the blocks that hold the texts, of a device of so many blocks. Before it stand
 /// those of the magic, the gate and the bitmap.
 pub(crate) fn first_text(size: u32) -> u32
     ensures block { result ≡ first_text size }
-    ensures few { result ≤ 3 }
+    ensures few { result ≤ 10 }
 {
     2 + bitmap_blocks(size)
 }
@@ -45,7 +56,7 @@ pub(crate) fn first_text(size: u32) -> u32
 /// How many blocks stand before the pages, of a device of so many blocks.
 pub fn head_blocks(size: u32) -> u32
     ensures count { result ≡ head_blocks size }
-    ensures few { result ≤ 7 }
+    ensures few { result ≤ 14 }
 {
     first_text(size) + TEXT_BLOCKS
 }

@@ -3,7 +3,7 @@ ghost use Rattle.std.specs.Prelude.{◌≡◌, ◌↔◌, ◌<◌, ◌≤◌, �
 ghost use Rattle.gx_device.specs.Content.{OnlyTime, NonePending, Silent, block_of};
 ghost use Rattle.gx_device.specs.Faults.{IsCounted};
 ghost use Rattle.gx_device.specs.Crash.{Through, Outside, LeavesOnly};
-ghost use Rattle.gx_layout.specs.Layout.{View, is_open, has_bit, has_bit_on, IsIn, flags, StandsFor, ReadsAs, AtRest, IsReady, CopiedBelow, OnlyBlocks};
+ghost use Rattle.gx_layout.specs.Layout.{View, is_open, has_bit, has_bit_on, bit_in, IsIn, flags, StandsFor, ReadsAs, AtRest, IsReady, CopiedBelow, OnlyBlocks};
 ghost use Rattle.gx_layout.specs.Places.{head_blocks, home, most_pages};
 ghost use Rattle.gx_layout.specs.Calls.{RecoversOnly};
 ghost use Rattle.gx_layout.specs.Head.{HasMagic};
@@ -11,9 +11,10 @@ ghost use Rattle.gx_layout.specs.Recovered.{Recovers, IsOfRecovery};
 ghost use Rattle.gx_device.specs.declared.device.TheConstants.{BLOCK_LEN};
 ghost use Rattle.gx_layout.specs.declared.bitmap.TheConstants.{BITS};
 
+use crate::bitmap::BITS;
 use crate::gate::close_gate;
 use crate::head::has_magic;
-use crate::places::head_blocks;
+use crate::places::{bitmap_blocks, head_blocks};
 use gx_device::{BLOCK_LEN, Device, Failed};
 
 fn bit_of(bitmap: &[u8], p: usize) -> bool
@@ -54,35 +55,64 @@ fn copy_page<D: Device>(device: &mut D, slot: u32, home: u32) -> Result<(), Fail
     device.write_block(home, &page)
 }
 
-// The pages whose bits are set go from their slots to their homes.
-fn copy_home<D: Device>(device: &mut D, bitmap: &[u8], pages: u32) -> Result<(), Failed>
+// The pages that block i of the bitmap names, which has these bytes, go from their slots to their
+// homes.
+fn copy_named<D: Device>(device: &mut D, block: &[u8], i: u32, pages: u32) -> Result<(), Failed>
     requires room { head_blocks (D.size device.old) + 2 * pages ≤ D.size device.old }
-    requires limit { pages ≤ BITS }
-    requires bits { length bitmap.now ≡ BLOCK_LEN }
+    requires below { i < 8 }
+    requires bits { length block.now ≡ BLOCK_LEN }
     ensures copied { IsTrue D.tells →
         OnOk result
-        (CopiedBelow pages (D.size device.old) pages (has_bit bitmap.now)
+        (CopiedBelow pages (D.size device.old) pages (bit_in i block.now)
         (D.content device.old).now (D.content device.new).now) }
     ensures rest { Through (Outside
-        (IsIn (home (D.size device.old) pages 0) (flags (has_bit bitmap.now) pages))
+        (IsIn (home (D.size device.old) pages 0) (flags (bit_in i block.now) pages))
         (D.content device.old).now) (D.content device.old) (D.content device.new) }
     ensures touched { OnlyBlocks
-        (IsIn (home (D.size device.old) pages 0) (flags (has_bit bitmap.now) pages))
+        (IsIn (home (D.size device.old) pages 0) (flags (bit_in i block.now) pages))
         (D.content device.old) (D.content device.new) }
     ensures size { D.size device.new ≡ D.size device.old }
     ensures faults { IsCounted (D.faults device.old) (D.faults device.new) result }
 {
     let first = head_blocks(device.blocks());
-    for p in 0..pages {
-        if bit_of(bitmap, p as usize) {
+    let from = i * BITS as u32;
+    for p in from..pages.min(from + BITS as u32) {
+        if bit_of(block, p as usize % BITS) {
             copy_page(device, first + p, first + pages + p)?;
         }
     }
     Ok(())
 }
 
+// The pages that the bitmap names go from their slots to their homes.
+fn copy_home<D: Device>(device: &mut D, pages: u32) -> Result<(), Failed>
+    requires room { head_blocks (D.size device.old) + 2 * pages ≤ D.size device.old }
+    requires limit { pages ≤ most_pages (D.size device.old) }
+    ensures copied { IsTrue D.tells →
+        OnOk result
+        (CopiedBelow pages (D.size device.old) pages (has_bit_on (D.content device.old).now.blocks)
+        (D.content device.old).now (D.content device.new).now) }
+    ensures rest { IsTrue D.tells → Through (Outside
+        (IsIn (home (D.size device.old) pages 0)
+        (flags (has_bit_on (D.content device.old).now.blocks) pages))
+        (D.content device.old).now) (D.content device.old) (D.content device.new) }
+    ensures touched { IsTrue D.tells → OnlyBlocks
+        (IsIn (home (D.size device.old) pages 0)
+        (flags (has_bit_on (D.content device.old).now.blocks) pages))
+        (D.content device.old) (D.content device.new) }
+    ensures silent { Silent (D.content device.old) (D.content device.new) }
+    ensures size { D.size device.new ≡ D.size device.old }
+    ensures faults { IsCounted (D.faults device.old) (D.faults device.new) result }
+{
+    for i in 0..bitmap_blocks(device.blocks()) {
+        let mut block = [0; BLOCK_LEN];
+        device.read_block(2 + i, &mut block)?;
+        copy_named(device, &block, i, pages)?;
+    }
+    Ok(())
+}
+
 // Where the gate is open, the pages that the bitmap names go home.
-#[tactic(auto, unfolding(crate::specs::Places::bitmap_blocks))]
 fn bring_back<D: Device>(device: &mut D, pages: u32) -> Result<(), Failed>
     requires room { head_blocks (D.size device.old) + 2 * pages ≤ D.size device.old }
     requires limit { pages ≤ most_pages (D.size device.old) }
@@ -105,9 +135,7 @@ fn bring_back<D: Device>(device: &mut D, pages: u32) -> Result<(), Failed>
     ensures size { D.size device.new ≡ D.size device.old }
     ensures faults { IsCounted (D.faults device.old) (D.faults device.new) result }
 {
-    let mut bitmap = [0; BLOCK_LEN];
-    device.read_block(2, &mut bitmap)?;
-    copy_home(device, &bitmap, pages)?;
+    copy_home(device, pages)?;
     device.sync()
 }
 

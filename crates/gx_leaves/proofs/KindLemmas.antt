@@ -1,5 +1,5 @@
 -- Files by the kind of their place.
-use Rattle.std.proofs.Common.{◌≡◌, ◌≢◌, ◌≤◌, refl, sym, IsTrue, ℕ, subst}
+use Rattle.std.proofs.Common.{◌≡◌, ◌≢◌, ◌<◌, ◌≤◌, refl, sym, IsTrue, ℕ, subst}
 use Rattle.gx_ports.specs.declared.kinds.LeafKind.{LeafKind}
 use Rattle.gx_ports.specs.declared.kinds.LeafKind.TheVariants as kinds
 use Rattle.gx_ports.specs.declared.pages.Place.{Place}
@@ -10,7 +10,8 @@ use Rattle.gx_btree.specs.Bplus.{IsBplus}
 use Rattle.gx_btree.proofs.BplusLaws.{bplus_laws}
 use Rattle.gx_heap.specs.Heap.{IsHeap}
 use Rattle.gx_heap.proofs.HeapLaws.{heap_laws}
-use Rattle.std.proofs.lemmas.Bool.{ltb-true}
+use Rattle.std.specs.Prelude.{nat_lt, nat_le}
+use Rattle.std.proofs.lemmas.Bool.{ltb-true, and_parts}
 use Rattle.gx_hash.specs.Buckets.{IsHashed}
 use Rattle.gx_hash.specs.Hash.{IsHash}
 use Rattle.gx_hash.proofs.PagesLemmas.{hash_laws}
@@ -70,11 +71,15 @@ pub fresh_with : (base : Ground) (place : Place) → base.tables ≤ place.root
     → IsFreshOf place.spec.kind place new map
 fresh_with base place = fresh_kind base place place.spec.kind
 
+some_chain : (buckets : ℕ) → IsTrue (is_built (kinds.Hash buckets)) → 0 < buckets
+some_chain buckets built =
+    ltb-true 0 buckets (and_parts (nat_lt 0 buckets) (nat_le buckets 64) built).0
+
 -- of at least one chain
 pub hashed : (place : Place) (buckets : ℕ) → place.spec.kind ≡ kinds.Hash buckets
     → IsTrue (is_built place.spec.kind) → IsHashed place.spec.kind
 hashed place buckets e built =
-    subst IsHashed (sym e) (ltb-true 0 buckets
+    subst IsHashed (sym e) (some_chain buckets
     (subst (λ (k : LeafKind). IsTrue (is_built k)) e built))
 
 -- each kind that is built keeps the laws of files
@@ -83,7 +88,7 @@ laws_of : (base : Ground) (place : Place) (kind : LeafKind) → place.spec.kind 
     → AreFileLaws base place (IsFileOf kind base place) (map_of kind base place)
 laws_of base place kinds.Heap e built is = heap_laws base place e is
 laws_of base place (kinds.Hash buckets) e built is =
-    hash_laws base place (subst IsHashed (sym e) (ltb-true 0 buckets built)) is
+    hash_laws base place (subst IsHashed (sym e) (some_chain buckets built)) is
 laws_of base place kinds.Isam e built is = isam_laws base place e is
 laws_of base place kinds.Bplus e built is = bplus_laws base place e is
 

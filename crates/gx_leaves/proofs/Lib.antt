@@ -3,6 +3,7 @@ pub mod SumLemmas
 pub mod PlaceLemmas
 pub mod FrameLemmas
 pub mod CrowdLemmas
+pub mod SpaceLemmas
 pub mod ChangeLemmas
 pub mod MakeLemmas
 pub mod TableLemmas

@@ -1,8 +1,8 @@
 -- Sums over lists, and lists of what functions give of the same list.
-use Rattle.std.proofs.Common.{◌≡◌, ◌≢◌, ℕ, zero, suc, ◌+◌, ◌*◌, ◌<◌, ◌≤◌, ◌==◌, cond, List, [], ◌∷◌, length, get_or, set, map, refl, sym, ap, ◌∙◌, arith, eq-eqb}
+use Rattle.std.proofs.Common.{◌≡◌, ◌≢◌, inl, inr, Bool, true, false, ℕ, zero, suc, ◌+◌, ◌*◌, ◌<◌, ◌≤◌, ◌==◌, cond, List, [], ◌∷◌, length, get_or, set, map, refl, sym, ap, ◌∙◌, arith, eq-eqb}
 use Rattle.std.specs.Prelude.{slice_get, Some, count_by, replicate}
 use Rattle.std.specs.List.{sum_by}
-use Rattle.std.proofs.lemmas.Bool.{cond-true}
+use Rattle.std.proofs.lemmas.Bool.{cond-true, cond-false, cases_Bool}
 use Rattle.std.proofs.lemmas.List.Sums.{sum_by-cons, sum_by-le-sum_by}
 use Rattle.std.proofs.lemmas.Option.{same_Some}
 
@@ -98,6 +98,10 @@ module _ {X : Type 0} (key : X → ℕ) (xs : List X) where
       → count_by (λ p. p == key x) os ≤ count_by (λ p. p == key x) (o ∷ os)
   count_more o os x = let e = sum_by-cons (λ p. cond (p == key x) 1 0) o os in omega (arith, e)
 
+  one_most : (b : Bool) → cond b 1 0 ≤ 1
+  one_most true = omega arith
+  one_most false = omega arith
+
   count_here : (o : ℕ) (os : List ℕ) (x : X) → key x ≡ o
       → count_by (λ p. p == key x) os + 1 ≤ count_by (λ p. p == key x) (o ∷ os)
   count_here o os x is =
@@ -105,25 +109,46 @@ module _ {X : Type 0} (key : X → ℕ) (xs : List X) where
       let one = cond-true {A = ℕ} (o == key x) 1 0 (eq-eqb o (key x) (sym is)) in
       omega (arith, e, one)
 
+  -- where each number behind the first ones that is counted is that of an element, they are few
+  pub counted_some : (is : ℕ → Bool) (first : ℕ) (os : List ℕ)
+      → ((page o : ℕ) → first ≤ page → slice_get os page ≡ Some o → is o ≡ true
+      → (j : ℕ) × (x : X) × (slice_get xs j ≡ Some x) × (key x ≡ o))
+      → count_by is os ≤ first + total os
+  counted_some is first [] each = omega arith
+  counted_some is zero (o ∷ os) each =
+      let rest = counted_some is zero os (λ page p le at. each (suc page) p (omega arith) at) in
+      let e = sum_by-cons (λ p. cond (is p) 1 0) o os in elim (cases_Bool (is o)) [
+        | inl counts ↦ (let w = each 0 o (omega arith) refl counts in
+            let more = sum_more (λ x. count_by (λ p. p == key x) os)
+            (λ x. count_by (λ p. p == key x) (o ∷ os)) xs w.0 w.1 w.2 (count_here o os w.1 w.3)
+            (count_more o os) in
+            omega (arith, rest, more, e, cond-true {A = ℕ} (is o) 1 0 counts))
+        | inr passed ↦ (let more = sum_by-le-sum_by (λ x. count_by (λ p. p == key x) os)
+            (λ x. count_by (λ p. p == key x) (o ∷ os)) xs (count_more o os) in
+            omega (arith, rest, more, e, cond-false {A = ℕ} (is o) 1 0 passed))
+      ]
+  counted_some is (suc first) (o ∷ os) each =
+      let rest = counted_some is first os
+      (λ page p le at. each (suc page) p (let l = le in omega (arith, l)) at) in
+      let more = sum_by-le-sum_by (λ x. count_by (λ p. p == key x) os)
+      (λ x. count_by (λ p. p == key x) (o ∷ os)) xs (count_more o os) in
+      let e = sum_by-cons (λ p. cond (is p) 1 0) o os in
+      let one = one_most (is o) in
+      omega (arith, rest, more, e, one)
+
+  count_all : (os : List ℕ) → count_by (λ o. true) os ≡ length os
+  count_all [] = refl
+  count_all (o ∷ os) =
+      let rest = count_all os in omega (arith, rest, sum_by-cons (λ (p : ℕ). 1) o os)
+
   -- where each number behind the first ones is that of an element, they are few
   pub counted_all : (first : ℕ) (os : List ℕ)
       → ((page o : ℕ) → first ≤ page → slice_get os page ≡ Some o
       → (j : ℕ) × (x : X) × (slice_get xs j ≡ Some x) × (key x ≡ o))
       → length os ≤ first + total os
-  counted_all first [] each = omega arith
-  counted_all zero (o ∷ os) each =
-      let rest = counted_all zero os (λ page p le at. each (suc page) p (omega arith) at) in
-      let w = each 0 o (omega arith) refl in
-      let more = sum_more (λ x. count_by (λ p. p == key x) os)
-      (λ x. count_by (λ p. p == key x) (o ∷ os)) xs w.0 w.1 w.2 (count_here o os w.1 w.3)
-      (count_more o os) in
-      omega (arith, rest, more)
-  counted_all (suc first) (o ∷ os) each =
-      let rest = counted_all first os
-      (λ page p le at. each (suc page) p (let l = le in omega (arith, l)) at) in
-      let more = sum_by-le-sum_by (λ x. count_by (λ p. p == key x) os)
-      (λ x. count_by (λ p. p == key x) (o ∷ os)) xs (count_more o os) in
-      omega (arith, rest, more)
+  counted_all first os each =
+      let few = counted_some (λ o. true) first os (λ page o past at counts. each page o past at) in
+      omega (arith, few, count_all os)
 
 -- each element has the same value
 pub map_all_same : {X Y : Type 0} (f : X → Y) (y : Y) (xs : List X)

@@ -1,5 +1,5 @@
 -- What the pages of each kind of file hold.
-use Rattle.std.specs.Prelude.{Bool, true, List, nat_lt}
+use Rattle.std.specs.Prelude.{Bool, true, ◌&&◌, List, nat_lt, nat_le}
 use Rattle.std.specs.List.{list_all}
 use Rattle.gx_ports.specs.declared.kinds.LeafKind.{LeafKind}
 use Rattle.gx_ports.specs.declared.kinds.LeafKind.TheVariants as kinds
@@ -17,10 +17,10 @@ use Rattle.gx_isam.specs.Map.{isam_map}
 use Rattle.gx_chain.specs.Map.{owned_map}
 use Rattle.gx_heap.specs.Map.{heap_map}
 
--- a file can be made of this kind: a hashed one has at least one chain
+-- a file can be made of this kind: a hashed one has 1 to 64 chains
 abbrev pub is_built : LeafKind → Bool
 is_built kinds.Heap = true
-is_built (kinds.Hash buckets) = nat_lt 0 buckets
+is_built (kinds.Hash buckets) = nat_lt 0 buckets && nat_le buckets 64
 is_built kinds.Isam = true
 is_built kinds.Bplus = true
 

@@ -3,7 +3,9 @@
 
 mod checking;
 mod files;
+mod laws;
 mod making;
 mod paged;
 
+pub use laws::few_pages;
 pub use paged::PagedLeaves;

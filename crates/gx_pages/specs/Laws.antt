@@ -7,7 +7,7 @@ use Rattle.gx_device.specs.Content.{Content}
 use Rattle.gx_device.specs.Quiet.{QuietSince}
 use Rattle.gx_layout.specs.Layout.{Shows}
 use Rattle.gx_layout.specs.Places.{table_pages}
-use Rattle.gx_layout.specs.PlaceLaws.{one_bitmap, pages_fit}
+use Rattle.gx_layout.specs.PlaceLaws.{few_bitmaps, pages_fit}
 use Rattle.gx_ports.specs.QuietLaws.{quiet_weaker}
 use Rattle.gx_journal.specs.Sources.{page_of}
 use Rattle.gx_journal.specs.State.{pages_told}
@@ -42,7 +42,7 @@ module _ {D : Type 0} {g : device.Ghosts D} where
 
   -- and the numbers of its own pages stand on its first one
   pub few_tables : (j : Journal D g) → table_pages (g.size (device_of j)) ≤ 2048
-  few_tables j = omega (arith, one_bitmap (g.size (device_of j)) j.limit)
+  few_tables j = omega (arith, few_bitmaps (g.size (device_of j)))
 
   -- each page has an owner and bytes
   pub many_pages : (j : Journal D g)

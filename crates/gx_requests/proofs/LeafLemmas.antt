@@ -1,7 +1,7 @@
 -- There are files of the kind of each leaf of an equation that some text means, and one leaf at
 -- least.
 use Rattle.std.proofs.Common.{◌≡◌, ℕ, zero, suc, ◌+◌, ◌<◌, ◌≤◌, List, [], ◌∷◌, ◌++◌, length, map, Bool, true, refl, ap, subst, sym, ◌∙◌, arith}
-use Rattle.std.specs.Prelude.{nat_lt, ◌&&◌}
+use Rattle.std.specs.Prelude.{nat_lt, nat_le, ◌&&◌}
 use Rattle.std.specs.List.{list_all, AllByRecursion}
 use Rattle.std.proofs.lemmas.Bool.Decides.{nat_tests}
 use Rattle.std.proofs.lemmas.List.{length-map}
@@ -39,13 +39,18 @@ HaveFiles ls = list_all has_files ls ≡ true
 both : (xs ys : List Leaf) → HaveFiles xs → HaveFiles ys → HaveFiles (xs ++ ys)
 both xs ys p q = list_all-append has_files xs ys ∙ (λ i. p i && q i)
 
-some_chains : (buckets : ℕ) → 0 < buckets → (nat_lt 0 buckets && true) ≡ true
-some_chains buckets some = let is : nat_lt 0 buckets ≡ true = grind (arith, nat_tests) in
-    ap (λ b. b && true) is
+some_chains : (buckets : ℕ) → (0 < buckets) × (buckets ≤ 64)
+    → ((nat_lt 0 buckets && nat_le buckets 64) && true) ≡ true
+some_chains buckets many =
+    let least = many.0 in
+    let most = many.1 in
+    let low : nat_lt 0 buckets ≡ true = grind (arith, nat_tests) in
+    let high : nat_le buckets 64 ≡ true = grind (arith, nat_tests) in
+    λ i. (low i && high i) && true
 
 at_head : (owner : ℕ) (top : Head) (form : Form) → IsHead top → HaveFiles (leaf_here owner top form)
 at_head owner (heads.Leaf leaf.Heap) form is = refl
-at_head owner (heads.Leaf (leaf.Hash buckets)) form is = some_chains buckets is.0
+at_head owner (heads.Leaf (leaf.Hash buckets)) form is = some_chains buckets is
 at_head owner (heads.Leaf leaf.Isam) form is = refl
 at_head owner (heads.Leaf leaf.Bplus) form is = refl
 at_head owner heads.Actual form is = refl

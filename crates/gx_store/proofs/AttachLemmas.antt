@@ -1,12 +1,7 @@
 -- A device that has been attached, and a refusal to attach one.
-use Rattle.std.proofs.Common.{◌≡◌, ◌∙◌, ℕ, ◌≤◌, true, false, not, List, Some, refl, sym, ap}
+use Rattle.std.proofs.Common.{◌≡◌, ◌∙◌, ℕ, List, Some, sym, ap}
 use Rattle.std.proofs.lemmas.Option.{same_Some}
 use Rattle.gx_device.specs.Content.{Content, IsOpened, device_at, Silent}
-use Rattle.gx_device.specs.Faults.{Counted, Rose}
-use Rattle.gx_device.specs.declared.device.AttachStop.{AttachStop}
-use Rattle.gx_device.specs.declared.device.AttachStop.TheVariants as attach
-use Rattle.gx_store.specs.Causes.{not_attached}
-use Rattle.gx_store.specs.Store.{is_fault}
 use Rattle.gx_store.proofs.ShelfLemmas.{attached_at}
 
 -- the blocks of the device are those that are attached
@@ -24,22 +19,3 @@ left_alone name old mid last o silent same =
     attached_at name o.blocks old mid last o.attached silent
     ∙ ap (λ (bs : List (List ℕ)). Some bs) (same ∙ o.attached.blocks_are)
     ∙ sym o.was
-
-pub counted_refusal : (stop : AttachStop) (a b : ℕ) → a ≤ b → (stop ≡ attach.Fault → Rose a b)
-    → ((stop ≡ attach.Fault → ⊥) → b ≡ a)
-    → Counted (not (is_fault (not_attached stop))) a b
-counted_refusal attach.Fault a b later rose same =
-    record {
-      later = later;
-      rose = λ e. rose refl;
-      same = λ e. absurd (let f : false ≡ true = e in cc);
-    }
-counted_refusal attach.Missing a b later rose same =
-    let still = same (λ (e : attach.Missing ≡ attach.Fault). cc) in
-    record { later = later; rose = λ e. absurd (let f : true ≡ false = e in cc); same = λ e. still }
-counted_refusal attach.Exists a b later rose same =
-    let still = same (λ (e : attach.Exists ≡ attach.Fault). cc) in
-    record { later = later; rose = λ e. absurd (let f : true ≡ false = e in cc); same = λ e. still }
-counted_refusal attach.NoMemory a b later rose same =
-    let still = same (λ (e : attach.NoMemory ≡ attach.Fault). cc) in
-    record { later = later; rose = λ e. absurd (let f : true ≡ false = e in cc); same = λ e. still }

@@ -1,5 +1,5 @@
 -- Causes of refusals, and faults that are counted over several calls.
-use Rattle.std.proofs.Common.{◌≡◌, ◌∙◌, ℕ, ◌↔◌, IsTrue, Bool, true, false, List, [], Some, None, length, get_or, refl, subst, arith}
+use Rattle.std.proofs.Common.{◌≡◌, ◌∙◌, ℕ, ◌↔◌, IsTrue, Bool, true, List, [], Some, None, length, get_or, refl, subst, arith}
 use Rattle.std.specs.Prelude.{slice_index_or}
 use Rattle.gx_device.specs.Content.{Content, device_at}
 use Rattle.gx_device.specs.Faults.{Counted, Rose}
@@ -12,7 +12,7 @@ use Rattle.gx_journal.specs.declared.opening.Unopened.{Unopened as NoJournal}
 use Rattle.gx_journal.specs.declared.opening.Unopened.TheVariants as journal
 use Rattle.gx_store.specs.Causes.{not_attached, no_journal}
 use Rattle.gx_store.specs.Device.{IsSize}
-use Rattle.gx_store.specs.Opening.{AreUnopened, AreUnread, IsUnopened, is_untouched}
+use Rattle.gx_store.specs.Opening.{AreUnopened, AreUnread, IsUnopened}
 use Rattle.gx_store.specs.declared.unopened.Unopened.{Unopened}
 use Rattle.gx_store.specs.declared.unopened.Unopened.TheVariants as unopened
 
@@ -68,12 +68,6 @@ module _ (schema equation : List ℕ) (specs : List LeafSpec) (blocks : List (Li
   unopened_on name before unopened.Size was are = (blocks, was, are)
   unopened_on name before unopened.NoDatabase was are = (blocks, was, are)
   unopened_on name before (unopened.OtherTexts place) was are = (blocks, was, are)
-
-pub untouched_by : (why : NoJournal) → is_untouched (no_journal why) ≡ true
-    → why ≡ journal.NoDatabase
-untouched_by journal.Fault e = absurd (let f : false ≡ true = e in cc)
-untouched_by journal.NoMemory e = absurd (let f : false ≡ true = e in cc)
-untouched_by journal.NoDatabase e = refl
 
 pub refused_by : (stop : AttachStop) (name schema equation : List ℕ) (specs : List LeafSpec)
     (before : Content)

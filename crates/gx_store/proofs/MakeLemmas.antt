@@ -1,9 +1,10 @@
 -- Why nothing is made, and how faults are counted while a database is made.
-use Rattle.std.proofs.Common.{◌≡◌, ◌≢◌, ◌∙◌, ℕ, zero, suc, true, false, not, List, [], get_or, refl, sym, ap, arith}
+use Rattle.std.proofs.Common.{◌≡◌, ◌≢◌, ◌∙◌, ℕ, zero, suc, Bool, true, false, not, List, [], ◌++◌, get_or, refl, sym, ap, arith}
 use Rattle.std.proofs.lemmas.List.{get_or-replicate}
 use Rattle.gx_device.specs.Content.{Content, device_at, zero_blocks}
 use Rattle.gx_layout.specs.Head.{HasMagic}
-use Rattle.std.specs.Prelude.{IsSome}
+use Rattle.std.specs.Prelude.{IsSome, nat_le, if◌then◌else◌, codes}
+use Rattle.gx_layout.specs.declared.places.TheConstants.{FIRST_MOST}
 use Rattle.gx_device.specs.Faults.{Counted}
 use Rattle.gx_device.specs.declared.device.AttachStop.{AttachStop}
 use Rattle.gx_device.specs.declared.device.AttachStop.TheVariants as attach
@@ -78,10 +79,17 @@ unmade_touched specs count unopened.Exists size are so = are
 unmade_touched specs count unopened.NoDatabase size are so = are
 unmade_touched specs count (unopened.OtherTexts place) size are so = are
 
+magic_first : (is_first : Bool) (rest : List ℕ)
+    → get_or ((if is_first then codes "GENESIS1" else codes "GENESIS2") ++ rest) 0 0 ≡ 71
+magic_first true rest = refl
+magic_first false rest = refl
+
 -- a block that begins with a zero doesn't begin with the magic
 pub zero_first : (size : ℕ) (block : List ℕ) → get_or block 0 0 ≡ 0 → ¬ HasMagic size block
-zero_first size block none is = let first : 71 ≡ 0 = sym (ap (λ (bytes : List ℕ). get_or bytes 0 0) is.1)
-    ∙ none in absurd (omega (arith, first))
+zero_first size block none is =
+    let first : 71 ≡ 0 = sym (magic_first (nat_le size FIRST_MOST) is.0)
+    ∙ sym (ap (λ (bytes : List ℕ). get_or bytes 0 0) is.1) ∙ none in
+    absurd (omega (arith, first))
 
 -- so no block of a device that was made has it
 pub none_made : (size n : ℕ) → ¬ HasMagic size (get_or (zero_blocks n) 0 [])

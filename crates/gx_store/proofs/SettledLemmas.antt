@@ -1,14 +1,21 @@
 -- What a journal at rest leaves on its device.
-use Rattle.std.proofs.Common.{◌≡◌, ℕ, ◌+◌, ◌*◌, ◌<◌, ◌≤◌, Bool, false, List, [], length, get_or, take, drop, IsTrue, refl, sym, ap, subst, ◌∙◌, arith}
+use Rattle.std.proofs.Common.{◌≡◌, inl, inr, ℕ, ◌+◌, ◌*◌, ◌<◌, ◌≤◌, Bool, false, List, [], ◌∷◌, map, length, get_or, take, drop, IsTrue, refl, sym, ap, subst, ◌∙◌, arith}
+use Rattle.std.specs.Prelude.{nat_lt, nat_le}
+use Rattle.std.proofs.lemmas.Bool.{cases_lt, and_parts, leb-true}
+use Rattle.std.proofs.lemmas.List.Sums.{sum_by-cons}
 use Rattle.std.proofs.lemmas.List.{same_lists, get_or-take, get_or-drop, get_or_default}
 use Rattle.std.proofs.lemmas.List.FromFn.{get_or-map-range_with_len}
 use Rattle.gx_device.specs.Content.{Content, block_of}
 use Rattle.gx_ports.specs.declared.kinds.LeafSpec.{LeafSpec}
 use Rattle.gx_ports.specs.LeafMaps.{LeafMap}
-use Rattle.gx_ports.specs.Roots.{root_pages}
+use Rattle.gx_ports.specs.declared.kinds.LeafKind.{LeafKind}
+use Rattle.gx_ports.specs.declared.kinds.LeafKind.TheVariants as kinds
+use Rattle.gx_ports.specs.declared.kinds.TheConstants.{MAX_LEAVES}
+use Rattle.gx_ports.specs.Roots.{roots_of_kind, roots_of, root_pages}
+use Rattle.gx_leaves.specs.Kinds.{is_built, are_built}
 use Rattle.gx_ports.specs.Sheets.{Ground}
 use Rattle.gx_layout.specs.Layout.{first_text, head_blocks, table_pages, pages_of, head_of, home, is_open, replayed}
-use Rattle.gx_layout.specs.PlaceLaws.{one_bitmap}
+use Rattle.gx_layout.specs.PlaceLaws.{one_bitmap, eight_bitmaps, few_bitmaps}
 use Rattle.gx_layout.specs.PhaseLaws.{shut}
 use Rattle.gx_layout.specs.Recovered.{replayed_pages}
 use Rattle.gx_layout.specs.Head.{HasMagic, text_at, text_area, text_blocks, block_in}
@@ -17,8 +24,8 @@ use Rattle.gx_layout.proofs.TextLemmas.{more_same}
 use Rattle.gx_journal.specs.State.{homes_told, head_told}
 use Rattle.gx_journal.specs.Opening.{IsDeviceSize}
 use Rattle.gx_pages.specs.Owners.{sheets_of}
-use Rattle.gx_store.specs.Device.{IsSize, AreMaps, AreTexts, IsDatabase, IsSettled, Reopens, home_pages, ground_on}
-use Rattle.gx_layout.specs.declared.places.TheConstants.{MAX_BLOCKS}
+use Rattle.gx_store.specs.Device.{smallest_device, IsSize, AreMaps, AreTexts, IsDatabase, IsSettled, Reopens, home_pages, ground_on}
+use Rattle.gx_layout.specs.declared.places.TheConstants.{FIRST_MOST, MAX_BLOCKS}
 use Rattle.gx_store.proofs.GroundLemmas.{maps_moved}
 
 -- the text blocks of a device, byte by byte
@@ -66,15 +73,17 @@ home_replayed blocks room gate =
 pub fits_head : (specs : List LeafSpec) (size : ℕ) → IsSize specs size → head_blocks size ≤ size
 fits_head specs size is =
     let least = is.least in
-    let one = one_bitmap size is.most in
-    let none = one_bitmap 0 (omega arith) in
-    omega (arith, least, one, none)
+    let first = one_bitmap 0 (omega arith) in
+    elim (cases_lt FIRST_MOST size) [
+      | inl many ↦ omega (arith, many, few_bitmaps size)
+      | inr few ↦ omega (arith, least, one_bitmap size few, first)
+    ]
 
 pub sized_device : (specs : List LeafSpec) (size : ℕ) → IsSize specs size → IsDeviceSize size
 sized_device specs size is =
     let least = is.least in
-    let none = one_bitmap 0 (omega arith) in
-    record { least = omega (arith, least, none); most = is.most }
+    let first = one_bitmap 0 (omega arith) in
+    record { least = omega (arith, least, first); most = is.most }
 
 -- so a device that is settled is opened with the same maps
 pub settled_reopens : (schema equation : List ℕ) (specs : List LeafSpec) (maps : List LeafMap)
@@ -96,17 +105,43 @@ homes_are tells P c told many = ap (λ (b : Bool). homes_told b P c) told
 pub sized_for : (specs : List LeafSpec) (P size : ℕ) → size ≤ MAX_BLOCKS
     → table_pages size + root_pages specs ≤ P → P ≡ pages_of size → IsSize specs size
 sized_for specs P size most least many =
-    let one = one_bitmap size most in
-    let none = one_bitmap 0 (omega arith) in
-    record { least = omega (arith, least, many, one, none); most = most }
+    let first = one_bitmap 0 (omega arith) in
+    let enough : smallest_device specs ≤ size = elim (cases_lt FIRST_MOST size) [
+      | inl large ↦ omega (arith, least, many, eight_bitmaps size large, first)
+      | inr small ↦ omega (arith, least, many, one_bitmap size small, first)
+    ] in
+    record { least = enough; most = most }
 
-pub rooms : (specs : List LeafSpec) (size P : ℕ) → IsSize specs size → P ≡ pages_of size
+-- a leaf has at most 64 root pages
+few_roots : (kind : LeafKind) → IsTrue (is_built kind) → roots_of_kind kind ≤ 64
+few_roots kinds.Heap built = omega arith
+few_roots (kinds.Hash buckets) built =
+    leb-true buckets 64 (and_parts (nat_lt 0 buckets) (nat_le buckets 64) built).1
+few_roots kinds.Isam built = omega arith
+few_roots kinds.Bplus built = omega arith
+
+few_root_pages : (specs : List LeafSpec) → IsTrue (are_built specs)
+    → root_pages specs ≤ 64 * length specs
+few_root_pages [] built = omega arith
+few_root_pages (spec ∷ specs) built =
+    let parts = and_parts (is_built spec.kind) (are_built specs) built in
+    let front = few_roots spec.kind parts.0 in
+    let rest = few_root_pages specs parts.1 in
+    let whole = sum_by-cons (λ (n : ℕ). n) (roots_of spec) (map roots_of specs) in
+    omega (arith, front, rest, whole)
+
+-- a device of the second layout has room for all leaves that a database may have
+pub rooms : (specs : List LeafSpec) (size P : ℕ) → length specs ≤ MAX_LEAVES
+    → IsTrue (are_built specs) → IsSize specs size → P ≡ pages_of size
     → table_pages size + root_pages specs ≤ P
-rooms specs size P is many =
+rooms specs size P few built is many =
     let least = is.least in
-    let one = one_bitmap size is.most in
-    let none = one_bitmap 0 (omega arith) in
-    omega (arith, least, many, one, none)
+    let first = one_bitmap 0 (omega arith) in
+    let roots = few_root_pages specs built in
+    elim (cases_lt FIRST_MOST size) [
+      | inl large ↦ omega (arith, few, roots, large, many, eight_bitmaps size large)
+      | inr small ↦ omega (arith, least, many, one_bitmap size small, first)
+    ]
 
 -- Behind a closed gate the blocks hold what the kept pages hold.
 pub closed_settled : (schema equation : List ℕ) (specs : List LeafSpec) (maps : List LeafMap)

@@ -1,10 +1,10 @@
 -- The device of a name, and the others, while one is attached.
-use Rattle.std.proofs.Common.{◌≡◌, ◌≢◌, ◌∙◌, inl, inr, ℕ, Bool, false, List, Some, None, cond, refl, ap}
+use Rattle.std.proofs.Common.{◌≡◌, ◌≢◌, ◌∙◌, ℕ, Bool, false, List, Some, None, cond, refl, ap}
 use Rattle.std.specs.FinMap as fin
 use Rattle.std.specs.Ordering.{eq_by_cmp}
 use Rattle.std.specs.Cmp.Lexicographic.{nat_list_cmp_total}
 use Rattle.std.proofs.lemmas.Bool.{false_from_ne_true}
-use Rattle.gx_device.specs.Content.{Moment, Content, Shelf, Devices, Silent, SameContent, IsAttached, MayAttach, device_at, devices_of, is_pending, with_named}
+use Rattle.gx_device.specs.Content.{Moment, Content, Shelf, Devices, Silent, SameContent, IsAttached, device_at, devices_of, with_named}
 use Rattle.gx_ports.specs.Keyed.{key_cmp}
 use Rattle.gx_ports.proofs.KeyLemmas.{same_key, tied}
 use Rattle.gx_store.specs.Store.{Attaches}
@@ -61,9 +61,3 @@ refused_rest name a b same = record {
   aside = same.aside;
   others = λ other differ. ap (λ (m : Moment). device_at m other) same.now;
 }
-
--- whether a device may be attached is told by what stands now
-pub may_still : (old new : Content) → new.now ≡ old.now → MayAttach old → MayAttach new
-may_still old new same (inl free) = inl (ap (λ (m : Moment). m.shelf.name) same ∙ free)
-may_still old new same (inr none) =
-    inr (λ n. ap (λ (m : Moment). is_pending m n) same ∙ none n)

@@ -217,7 +217,7 @@ fn is_unmade(alloc: Global, machine: MemoryMachine, blocks: u32) -> bool {
 
 #[test]
 fn a_device_of_another_size_is_not_made(rt: HostRuntime) -> Result<(), Fail> {
-    for blocks in [0, 7, 40, 65544, 4_294_967_295] {
+    for blocks in [0, 7, 40, 524304, 4_294_967_295] {
         assert!(rt;
             is_unmade(rt.alloc(), machine(rt.alloc())?, blocks),
             "{blocks} blocks"

@@ -8,7 +8,7 @@ use std::alloc::Global;
 use std::process::Abort;
 use std::test::Fail;
 
-const CHOICES: [Choice; 4] = [
+pub(crate) const CHOICES: [Choice; 4] = [
     Choice::Old,
     Choice::New,
     Choice::Fill(165),

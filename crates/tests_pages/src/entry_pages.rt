@@ -1,7 +1,7 @@
 // Pages of entries, byte for byte.
 ghost use Rattle.std.specs.Prelude.{◌≤◌, length};
 
-use gx_slots::{add, clear, count, entries, entry, find, is_entries, next, set_next, take};
+use gx_slots::{add, clear, count, entries, entry, find, is_entries, next, seek, set_next, take};
 
 /// A page that begins with these bytes, with zeros behind them.
 fn page_of(front: &[u8]) -> [u8; 4096]
@@ -49,6 +49,38 @@ fn keeps_the_order_of_entries(rt: HostRuntime) {
         0x44, 0, 0, 2, 0, 0, 0, 7, 0, 1, 0, 1, b'b', b'2', 0, 2, 0, 0, b'a', b'b',
     ];
     assert!(rt; page.starts_with(&front));
+}
+
+#[test]
+fn seeks_a_key_among_ascending_ones(rt: HostRuntime) {
+    let page = page_of(&[
+        0x44, 0, 0, 2, 0, 0, 0, 7, 0, 1, 0, 1, b'b', b'2', 0, 2, 0, 0, b'd', b'd',
+    ]);
+    let cases: [(&[u8], u16, usize, bool); 6] = [
+        (b"", 0, 8, false),
+        (b"b", 0, 8, true),
+        (b"ba", 1, 14, false),
+        (b"d", 1, 14, false),
+        (b"dd", 1, 14, true),
+        (b"e", 2, 20, false),
+    ];
+    for (key, place, at, is_there) in cases {
+        let sought = seek(&page, key);
+        assert!(rt;
+            matches!(sought, Some(it) if it.spot.place == place && it.spot.at == at
+            && it.spot.end == 20 && it.is_there == is_there)
+        );
+    }
+    let others: [&[u8]; 3] = [
+        &[0x44, 1],
+        &[
+            0x44, 0, 0, 2, 0, 0, 0, 7, 0, 1, 0, 0, b'b', 0, 1, 0, 0, b'a',
+        ],
+        &[0x44, 0, 0, 1, 0, 0, 0, 7, 0x01, 0x91, 0, 0],
+    ];
+    for front in others {
+        assert!(rt; seek(&page_of(front), b"a").is_none());
+    }
 }
 
 #[test]

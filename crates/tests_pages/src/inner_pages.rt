@@ -2,8 +2,8 @@
 ghost use Rattle.std.specs.Prelude.{◌≤◌, length};
 
 use gx_bnode::{
-    branches, child, child_of, drop_child, has_room, insert, is_inner, make_inner, separator,
-    separators, split,
+    branches, child, child_of, drop_child, fork_for, has_room, insert, is_inner, make_inner,
+    separator, separators, split,
 };
 
 /// A page that begins with these bytes, with zeros behind them.
@@ -67,6 +67,28 @@ fn finds_the_child_of_a_key(rt: HostRuntime) {
     assert!(rt; child(&page, 0) == 1);
     assert!(rt; child(&page, 3) == 4);
     assert!(rt; branches(&page).count() == 3);
+}
+
+#[test]
+fn leads_to_the_child_of_a_key(rt: HostRuntime) {
+    let page = page_of(&THREE);
+    let cases: [(&[u8], u16, u32, bool); 5] = [
+        (b"b", 0, 1, false),
+        (b"c", 1, 2, false),
+        (b"ca", 1, 2, false),
+        (b"s", 2, 3, false),
+        (b"t", 3, 4, true),
+    ];
+    for (key, place, child, is_last) in cases {
+        let fork = fork_for(&page, key);
+        assert!(rt;
+            matches!(fork, Some(it) if it.place == place && it.child == child
+            && it.is_last == is_last && it.has_room)
+        );
+    }
+    assert!(rt; fork_for(&page_of(&[0x49, 0, 0, 0, 0, 0, 0, 1]), b"b").is_none());
+    let full = full_page();
+    assert!(rt; matches!(fork_for(&full, &[10]), Some(it) if it.child == 10 && !it.has_room));
 }
 
 #[test]

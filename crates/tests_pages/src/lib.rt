@@ -1,6 +1,6 @@
-//! Tests of pages, byte for byte, of the frames that hold them, of their owners on a device, and of
-//! a commit with a crash at each of its moments, by their public calls. There is no code here beside
-//! them.
+//! Tests of pages, byte for byte, of the frames that hold them, of their owners on a device, of a
+//! commit with a crash at each of its moments, and of large devices, by their public calls. There
+//! is no code here beside them.
 #![tactic(auto)]
 
 #[cfg(test)]
@@ -18,4 +18,8 @@ mod inner_pages;
 #[cfg(test)]
 mod journals;
 #[cfg(test)]
+mod large;
+#[cfg(test)]
 mod owned_pages;
+#[cfg(test)]
+mod sparse;

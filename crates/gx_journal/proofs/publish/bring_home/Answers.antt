@@ -1,7 +1,8 @@
 use Rattle.std.proofs.Common.{List, ℕ, [], get_or, ap, ◌∙◌}
 use Rattle.gx_laws.proofs.ResultLemmas.{on_ok_always}
 use Rattle.gx_layout.specs.Layout.{home}
-use Rattle.gx_journal.proofs.DeviceLemmas.{counted, not_flushed, flushed}
+use Rattle.gx_layout.proofs.CallLemmas.{counted}
+use Rattle.gx_journal.proofs.DeviceLemmas.{not_flushed, flushed}
 use Rattle.gx_journal.proofs.publish.bring_home.Goals as goal
 
 pub returns-clause-homes : goal.returns-clause-homes

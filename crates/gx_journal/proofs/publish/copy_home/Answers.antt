@@ -1,6 +1,7 @@
 use Rattle.std.proofs.Common.{◌≡◌, ◌∙◌, ap, ℕ}
 use Rattle.gx_layout.specs.Layout.{home}
-use Rattle.gx_journal.proofs.DeviceLemmas.{counted, failed_counted, writes_joined, read_writes, block_writes}
+use Rattle.gx_layout.proofs.CallLemmas.{counted, failed_counted}
+use Rattle.gx_journal.proofs.DeviceLemmas.{writes_joined, read_writes, block_writes}
 use Rattle.gx_journal.proofs.publish.copy_home.Goals as goal
 
 pub returns-in_err-read_block-clause-writes : goal.returns-in_err-read_block-clause-writes

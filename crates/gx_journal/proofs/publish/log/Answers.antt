@@ -1,7 +1,8 @@
 use Rattle.std.proofs.Common.{ℕ, List, subst, sym}
 use Rattle.gx_laws.proofs.ResultLemmas.{on_ok_always}
 use Rattle.gx_layout.specs.Layout.{NamesListed, has_bit_on, most_pages}
-use Rattle.gx_journal.proofs.DeviceLemmas.{counted, not_flushed, flushed}
+use Rattle.gx_layout.proofs.CallLemmas.{counted}
+use Rattle.gx_journal.proofs.DeviceLemmas.{not_flushed, flushed}
 use Rattle.gx_journal.proofs.publish.log.Goals as goal
 
 pub returns-in_err-write_bitmap-clause-flushes : goal.returns-in_err-write_bitmap-clause-flushes

@@ -1,7 +1,8 @@
 use Rattle.std.proofs.Common.{◌≡◌, ◌∙◌, ap, ℕ}
 use Rattle.gx_layout.specs.Layout.{home}
 use Rattle.gx_journal.proofs.CallLemmas.{front_residents}
-use Rattle.gx_journal.proofs.DeviceLemmas.{counted, block_writes}
+use Rattle.gx_layout.proofs.CallLemmas.{counted}
+use Rattle.gx_journal.proofs.DeviceLemmas.{block_writes}
 use Rattle.gx_journal.proofs.publish.write_home.Goals as goal
 
 pub returns-in-Some-clause-frames : goal.returns-in-Some-clause-frames

@@ -1,4 +1,4 @@
-use Rattle.gx_layout.proofs.RecoverLemmas.{recovers_none, recovers_read, recovers_settled, room_of, few_of, still_none}
+use Rattle.gx_layout.proofs.RecoverLemmas.{recovers_none, recovers_read, recovers_settled, room_of, few_of}
 use Rattle.gx_layout.proofs.recovery.recover.Goals as goal
 
 pub returns-in_err-sync-clause-images : goal.returns-in_err-sync-clause-images

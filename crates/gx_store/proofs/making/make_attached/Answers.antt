@@ -126,6 +126,7 @@ make_over-requires g c =
       room = record {
         few = c.requires.few;
         room = rooms c.args.specs.now (g.M.Device.size j.device) (size_of j)
+            c.requires.few c.requires.built
             (subst (λ (n : ℕ). IsSize c.args.specs.now n) (asked ∙ sym blocks)
             (c.is_size.ensures.0 c.if-not-is_size.false))
             (c.in-Ok.ensures.laid_out.opened.size ∙ ap pages_of (sym blocks));

@@ -223,6 +223,7 @@ open_journal-requires-clause-room g c =
     record {
       few = c.requires.few;
       room = rooms c.args.specs.now (g.M.Device.size j.device) (size_of j)
+          c.requires.few c.requires.built
           (subst (λ (n : ℕ). IsSize c.args.specs.now n) (asked ∙ sym blocks)
           (c.is_size.ensures.0 c.if-not-is_size.false))
           (c.in-Ok.ensures.recovered.opened.size ∙ ap pages_of (sym blocks));

@@ -4,7 +4,7 @@ use Rattle.gx_layout.specs.Layout.{is_open, pages_of}
 use Rattle.gx_layout.proofs.CalmLemmas.{calm_listens}
 use Rattle.gx_journal.specs.Sources.{IsCached}
 use Rattle.gx_journal.specs.State.{pages_told}
-use Rattle.gx_journal.proofs.DeviceLemmas.{counted}
+use Rattle.gx_layout.proofs.CallLemmas.{counted}
 use Rattle.gx_journal.proofs.OpenLemmas.{room_at}
 use Rattle.gx_journal.proofs.PageLemmas.{still_homes, still_head, still_pages, still_cached, still_calm}
 use Rattle.gx_journal.proofs.journal.Journal.hear.Goals as goal

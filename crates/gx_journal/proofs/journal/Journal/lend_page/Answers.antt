@@ -1,7 +1,7 @@
 use Rattle.std.proofs.Common.{◌∙◌, length, refl, sym, rules}
 use Rattle.gx_frames.specs.Pool.{find_page}
 use Rattle.gx_journal.specs.Sources.{stored}
-use Rattle.gx_journal.proofs.DeviceLemmas.{failed_counted}
+use Rattle.gx_layout.proofs.CallLemmas.{failed_counted}
 use Rattle.gx_journal.proofs.OpenLemmas.{places_of}
 use Rattle.gx_journal.proofs.PageLemmas.{pages_at}
 use Rattle.gx_journal.proofs.ReadLemmas.{reads_by, found_bytes}
