@@ -1,4 +1,5 @@
 pub mod BranchLemmas
+pub mod ForkLemmas
 pub mod OrderLemmas
 pub mod PageLemmas
 pub mod ScanLemmas

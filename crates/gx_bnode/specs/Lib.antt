@@ -1,3 +1,4 @@
 pub mod Branches
+pub mod Forks
 pub mod Page
 pub mod Scan

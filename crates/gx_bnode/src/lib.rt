@@ -3,12 +3,14 @@
 
 mod format;
 mod iter;
+mod leading;
 mod page;
 mod splitting;
 mod validity;
 
 pub use format::{MAX_SEPARATOR_LEN, split_branch};
 pub use iter::Branches;
+pub use leading::{Fork, fork_for};
 pub use page::{
     KIND, branches, child, child_of, drop_child, has_room, insert, make_inner, separator,
     separators,

@@ -206,7 +206,7 @@ module _ {S : Type 0} (g : Ghosts S) (place : Place) (key : List ℕ) (start : S
   module _ {steps : ℕ} (now : S) (at : ℕ) (page : List ℕ)
       (d : IsDescent g place key start now at page steps) (next : ℕ)
       (goes : next ≡ child_for (bnode.first_of page) (bnode.branches_of page) key) where
-    child_hand : (map : LeafMap) (holds : Holds g (IsBplus (g.ground start) place) start map)
+    pub child_hand : (map : LeafMap) (holds : Holds g (IsBplus (g.ground start) place) start map)
         → IsAtHand (bytes_at (g.working start))
         (IsOwned place.owner (g.working start)) place.root next key holds.file.tree (steps + 1)
     child_hand map holds = next_hand

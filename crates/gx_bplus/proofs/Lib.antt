@@ -3,6 +3,7 @@ pub mod FileLemmas
 pub mod GrowthLemmas
 pub mod HalfLemmas
 pub mod InsertLemmas
+pub mod LandingLemmas
 pub mod PutLemmas
 pub mod PuttingLemmas
 pub mod RemovalLemmas

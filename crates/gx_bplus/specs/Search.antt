@@ -64,3 +64,10 @@ pub record HasReached (ground : Ground) (sheets : Sheets) (page child : ℕ)
   pub tree : BplusTree
   pub steps : ℕ
   pub reached : IsReached ground owner sheets root page child key tree steps bytes below
+
+-- The search for a key has come to a page with these bytes, in a tree that the pages hold.
+pub record HasLanded (owner : ℕ) (sheets : Sheets) (root : ℕ) (key : List ℕ) (tree : BplusTree)
+    (page : ℕ) (bytes : List ℕ) : Type 0 where
+  pub steps : ℕ
+  pub hand : IsAtHand (bytes_at sheets) (IsOwned owner sheets) root page key tree steps
+  pub bytes_are : bytes_at sheets page ≡ bytes

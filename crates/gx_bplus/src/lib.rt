@@ -3,6 +3,7 @@
 
 mod bplus;
 mod insertion;
+mod landing;
 mod putting;
 mod removal;
 mod splitting;

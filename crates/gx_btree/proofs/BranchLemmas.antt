@@ -9,10 +9,13 @@ use Rattle.std.proofs.lemmas.Bool.{cases_Bool, cases_eq, cond-true, cond-false, 
 use Rattle.std.proofs.lemmas.List.{length-map, get_or-map}
 use Rattle.std.proofs.lemmas.List.Elements.{All-head, All-tail}
 use Rattle.std.proofs.lemmas.List.Sums.{count_by-le-length}
+use Rattle.gx_bnode.specs.declared.leading.Fork.{Fork}
 use Rattle.gx_bnode.specs.Branches.{Branch}
+use Rattle.gx_bnode.specs.Forks.{IsFork}
 use Rattle.gx_bnode.specs.Page.{IsInnerPage, separators_in, first_of, branches_of, separators_of, children_of}
 use Rattle.gx_bnode.proofs.PageLemmas.{page_of as inner_page_of, map-insert, map-remove, children-insert}
 use Rattle.gx_btree.specs.Order.{is_below}
+use Rattle.gx_btree.specs.Reading.{IsLed}
 use Rattle.gx_btree.specs.Tree.{In, ShowsInner, child_for, bound_for, with_branch, without_from, without_branch, first_without}
 use Rattle.gx_btree.proofs.OrderLemmas.{is_below_of, not_below_of}
 
@@ -262,3 +265,22 @@ separator_short page i inner below =
     (get_or-map (λ (b : Branch). b.separator) (branches_of page) i d [] (omega (arith, below, n)))
     in
     omega (arith, fit.separator, s)
+
+-- where an inner page leads is the child on the way to the key
+pub led_is : (page key : List ℕ) (fork : Fork) → IsFork page key fork → IsLed key page fork
+led_is page key fork is =
+    let bs = branches_of page in
+    let at : IsPlaceFor bs key fork.place = record {
+      within = is.way.within;
+      before = is.way.before;
+      behind = is.way.behind;
+    } in
+    let last = last_is bs key fork.place (length (separators_in bs)) at refl in
+    record {
+      child = is.way.child_is ∙ child_is (first_of page) bs key fork.place at;
+      last = (
+        λ is_last. last.0 (eq-eqb fork.place (length (separators_in bs)) (is.last.0 is_last)),
+        λ none. is.last.1 (eqb-true fork.place (length (separators_in bs)) (last.1 none)),
+      );
+      room = is.room;
+    }

@@ -8,5 +8,5 @@ mod searching;
 mod selection;
 
 pub use checking::check;
-pub use reading::{Shape, child_for, leads_last, read_page};
+pub use reading::{Shape, Step, child_for, leads_last, read_page, read_step};
 pub use selection::select;

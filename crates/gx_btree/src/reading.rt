@@ -3,13 +3,13 @@ ghost use Rattle.std.specs.Prelude.{◌≡◌, ◌<◌, ◌↔◌, None, Some, l
 ghost use Rattle.gx_bytes.specs.declared.page.TheConstants.{PAGE_LEN};
 ghost use Rattle.gx_bnode.specs.Page.{IsInnerPage, first_of, branches_of};
 ghost use Rattle.gx_btree.specs.Bplus.{Shows, Seems};
-ghost use Rattle.gx_btree.specs.Reading.{Passes, ReadsTreePage};
+ghost use Rattle.gx_btree.specs.Reading.{Passes, Tells, ReadsTreePage};
 ghost use Rattle.gx_btree.specs.Tree.{child_for, bound_for};
 
-use gx_bnode::{child, child_of, is_inner, separators};
+use gx_bnode::{Fork, child, child_of, fork_for, is_inner, separators};
 use gx_bytes::{has_kind, page_number};
 use gx_ports::{Pages, Stop};
-use gx_slots::{NONE, is_ascending, next};
+use gx_slots::{NONE, Sought, is_ascending, next, seek};
 
 /// What a page of a tree is.
 #[derive(Clone, Copy, Debug, PartialEq, Eq)]
@@ -18,6 +18,15 @@ pub enum Shape {
     Entries,
     /// an inner page
     Inner,
+}
+
+/// What a page of a tree tells a search for a key.
+#[derive(Clone, Copy, Debug)]
+pub enum Step {
+    /// an entry page as `Shape::Entries`: where the key stands on it
+    Entries(Sought),
+    /// an inner page: where it leads
+    Inner(Fork),
 }
 
 /// Reads a page of a tree, whose number stands on the page `from`. `Damaged`: there is no such page
@@ -97,6 +106,43 @@ fn tested_shape(page: &[u8], whole: bool) -> Option<Shape>
         (λ shape. Passes whole shape page.now) }
 {
     if whole { shape_of(page) } else { kind_of(page) }
+}
+
+/// Reads a page of a tree as `read_page` does, and seeks a key on it by the same walk.
+pub fn read_step<P: Pages>(
+    pages: &mut P,
+    from: u32,
+    page: u32,
+    key: &[u8],
+    into: &mut [u8],
+) -> Result<Step, Stop>
+    requires from { from < (P.ground pages.old).size }
+    requires bytes { length into.old ≡ PAGE_LEN }
+    ensures { ReadsTreePage P.PageView (Tells key.now) page into.new pages.old pages.new result }
+{
+    if page < pages.tables() || page >= pages.pages() {
+        return Err(Stop::Damaged(pages.block(from)));
+    }
+    pages.read(page, into)?;
+    match step_of(into, key) {
+        Some(step) => Ok(step),
+        None => Err(Stop::Damaged(pages.block(page))),
+    }
+}
+
+// What the bytes tell a search for a key. None where they are no page of a tree.
+fn step_of(page: &[u8], key: &[u8]) -> Option<Step>
+    requires { length page.now ≡ PAGE_LEN }
+    ensures { MatchOption result ((shape : Shape) → ¬ Shows shape page.now)
+        (λ step. Tells key.now step page.now) }
+{
+    if let Some(fork) = fork_for(page, key) {
+        return Some(Step::Inner(fork));
+    }
+    match seek(page, key) {
+        Some(sought) if next(page) == NONE => Some(Step::Entries(sought)),
+        _ => None,
+    }
 }
 
 // What the bytes are, if they are a page of a tree, by their header alone.

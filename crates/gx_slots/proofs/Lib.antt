@@ -5,3 +5,4 @@ pub mod PageLemmas
 pub mod ScanLemmas
 pub mod SearchLemmas
 pub mod SplitLemmas
+pub mod SpotLemmas

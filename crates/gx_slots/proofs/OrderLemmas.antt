@@ -13,7 +13,7 @@ use Rattle.gx_bytes.proofs.SearchLemmas.{IsAt, at_next, at_end}
 use Rattle.gx_slots.specs.Entries.{Entry, AreAscending}
 
 -- a key that is at or below one is so to all behind that
-le_less : (a b c : List ℕ) → is_le (cmp a b) ≡ true → cmp b c ≡ Less → is_le (cmp a c) ≡ true
+pub le_less : (a b c : List ℕ) → is_le (cmp a b) ≡ true → cmp b c ≡ Less → is_le (cmp a c) ≡ true
 le_less a b c le less = go (is_lt (cmp c a)) refl where
   go : (answer : Bool) → is_lt (cmp c a) ≡ answer → is_le (cmp a c) ≡ true
   go true e =

@@ -1,3 +1,4 @@
 pub mod Entries
 pub mod Page
 pub mod Scan
+pub mod Spots

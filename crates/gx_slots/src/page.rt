@@ -5,9 +5,11 @@ ghost use Rattle.std.specs.List.{All, HoldsAt, insert, remove};
 ghost use Rattle.gx_bytes.specs.declared.page.TheConstants.{PAGE_LEN};
 ghost use Rattle.gx_slots.specs.Entries.{IsFit, lent};
 ghost use Rattle.gx_slots.specs.Page.{IsEntryPage, entries_of, next_of, used_by};
+ghost use Rattle.gx_slots.specs.Spots.{IsSpot};
 
 use crate::format::{entries_len, entry_len, write_entry};
 use crate::iter::{Entries, place_of};
+use crate::seeking::Spot;
 use gx_bytes::{
     HEADER_LEN, NONE, PAGE_LEN, page_body, page_number, record_count, set_page_number,
     set_record_count, write_header,
@@ -99,14 +101,36 @@ pub fn add(page: &mut [u8], i: u16, key: &[u8], body: &[u8]) -> bool
     ensures full { OnFalse result (page.new ≡ page.old) }
     ensures next { next_of page.new ≡ next_of page.old }
 {
+    let (at, end) = offsets(page, i);
+    let spot = Spot { place: i, at, end };
+    add_at(page, spot, key, body)
+}
+
+/// Puts an entry at a spot, as `add` does, and walks no entry for it.
+pub fn add_at(page: &mut [u8], spot: Spot, key: &[u8], body: &[u8]) -> bool
+    requires page { IsEntryPage page.old }
+    requires spot { IsSpot (entries_of page.old) spot }
+    requires other { All (λ entry. entry.key ≢ key.now) (entries_of page.old) }
+    requires fit { IsFit (record { key = key.now; body = body.now }) }
+    ensures page { IsEntryPage page.new }
+    ensures room { IsTrue result ↔
+        (used_by
+        (insert (entries_of page.old) spot.place (record { key = key.now; body = body.now }))
+        ≤ PAGE_LEN) }
+    ensures few { length (entries_of page.old) ≤ 3 → IsTrue result }
+    ensures added { OnTrue result
+        (entries_of page.new
+        ≡ insert (entries_of page.old) spot.place (record { key = key.now; body = body.now })) }
+    ensures full { OnFalse result (page.new ≡ page.old) }
+    ensures next { next_of page.new ≡ next_of page.old }
+{
     let len = entry_len(key, body);
     let count = count(page);
-    let (at, end) = offsets(page, i);
-    if len > PAGE_LEN - end {
+    if len > PAGE_LEN - spot.end {
         return false;
     }
-    page.copy_within(at..end, at + len);
-    write_entry(page, at, key, body);
+    page.copy_within(spot.at..spot.end, spot.at + len);
+    write_entry(page, spot.at, key, body);
     set_record_count(page, count + 1);
     true
 }
@@ -119,12 +143,31 @@ pub fn take(page: &mut [u8], i: u16)
     ensures entries { entries_of page.new ≡ remove (entries_of page.old) i }
     ensures next { next_of page.new ≡ next_of page.old }
 {
-    let count = count(page);
     let (at, end) = offsets(page, i);
-    let (_, rest) = page.split_at(at);
-    let behind = at + entries_len(rest, 1);
-    page.copy_within(behind..end, at);
+    take_at(page, Spot { place: i, at, end });
+}
+
+/// Takes the entry at a spot away, as `take` does, and walks no entry for it. Gives the spot that
+/// is free then.
+pub fn take_at(page: &mut [u8], spot: Spot) -> Spot
+    requires page { IsEntryPage page.old }
+    requires spot { IsSpot (entries_of page.old) spot }
+    requires place { spot.place < length (entries_of page.old) }
+    ensures page { IsEntryPage page.new }
+    ensures entries { entries_of page.new ≡ remove (entries_of page.old) spot.place }
+    ensures next { next_of page.new ≡ next_of page.old }
+    ensures place { result.place ≡ spot.place }
+    ensures spot { IsSpot (entries_of page.new) result }
+{
+    let count = count(page);
+    let (_, rest) = page.split_at(spot.at);
+    let len = entries_len(rest, 1);
+    page.copy_within(spot.at + len..spot.end, spot.at);
     set_record_count(page, count - 1);
+    Spot {
+        end: spot.end - len,
+        ..spot
+    }
 }
 
 /// Where the entry at place `i` begins, which is at most the count, and where the last entry ends.
