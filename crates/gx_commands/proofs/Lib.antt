@@ -3,3 +3,4 @@ pub mod CuttingLaws
 pub mod LineCounts
 pub mod LineLaws
 pub mod WordLaws
+pub mod TurnLaws

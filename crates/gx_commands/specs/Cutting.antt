@@ -1,5 +1,5 @@
 -- How the words of a line are found, from left to right.
-use Rattle.std.specs.Prelude.{ℕ, zero, suc, Bool, true, false, not, List, [], ◌∷◌, length, take, drop, Option, Some, None, Result, Ok, Err, ◌==◌, if◌then◌else◌}
+use Rattle.std.specs.Prelude.{◌≡◌, ◌≤◌, ℕ, zero, suc, Bool, true, false, not, List, [], ◌∷◌, length, take, drop, Option, Some, None, Result, Ok, Err, ◌==◌, if◌then◌else◌}
 use Rattle.std.specs.List.{prefix_len}
 use Rattle.gx_tokens.specs.Lexemes.{split_quoted}
 use Rattle.gx_commands.specs.declared.words.LineWord.{LineWord}
@@ -7,6 +7,12 @@ use Rattle.gx_commands.specs.declared.words.LineWord.TheVariants as slices
 use Rattle.gx_commands.specs.declared.command.LineWhy.{LineWhy}
 use Rattle.gx_commands.specs.declared.command.LineWhy.TheVariants as why
 use Rattle.gx_commands.specs.Words.{Word, Bare, Quoted, is_line_blank, past_blanks}
+
+-- what is left of a line behind so many of its bytes
+pub record IsRestOf (line rest : List ℕ) : Type 0 where
+  pub from : ℕ
+  pub is : rest ≡ drop from line
+  pub within : from ≤ length line
 
 -- a word without where its bytes lie
 abbrev pub word_of : LineWord → Word

@@ -8,6 +8,7 @@ abbrev pub word_of : LineWhy → List ℕ
 word_of why.Character = codes "character"
 word_of why.TooLong = codes "too long"
 word_of why.Quote = codes "quote"
+word_of why.Session = codes "session"
 word_of why.Word = codes "word"
 word_of why.File = codes "file"
 word_of why.Link = codes "link"

@@ -109,6 +109,8 @@ pub enum LineWhy {
     TooLong,
     /// a quoted text that isn't closed, has a tab inside, or isn't followed by a blank or the end
     Quote,
+    /// the first word is no number of a session, from 1 to 8 in one digit
+    Session,
     /// an unknown command, keyword or operator, a word too many or a word missing
     Word,
     /// no file of this name; for `reorganize` no link either
@@ -138,6 +140,7 @@ impl LineWhy {
             LineWhy::Character => "character",
             LineWhy::TooLong => "too long",
             LineWhy::Quote => "quote",
+            LineWhy::Session => "session",
             LineWhy::Word => "word",
             LineWhy::File => "file",
             LineWhy::Link => "link",

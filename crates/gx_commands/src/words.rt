@@ -1,9 +1,9 @@
 // The words of a line.
-ghost use Rattle.std.specs.Prelude.{◌≡◌, ◌≤◌, ◌↔◌, length, not, option_map, List, IsTrue};
+ghost use Rattle.std.specs.Prelude.{◌≡◌, ◌≤◌, ◌↔◌, length, not, option_map, List, IsTrue, IfOk};
 ghost use Rattle.std.specs.List.{list_all, prefix_len};
 ghost use Rattle.gx_tokens.specs.Reading.{map_ok};
 ghost use Rattle.gx_commands.specs.Words.{Word, AreWords, is_line_blank, is_character, past_blanks, is_comment};
-ghost use Rattle.gx_commands.specs.Cutting.{word_of, ends_word, quoted_word, split_word, first_word, words_in, taken, is_end};
+ghost use Rattle.gx_commands.specs.Cutting.{word_of, ends_word, quoted_word, split_word, first_word, words_in, taken, is_end, IsRestOf};
 ghost use Rattle.gx_tokens.specs.Lexemes.{split_quoted};
 
 use crate::command::LineWhy;
@@ -18,7 +18,7 @@ pub enum LineWord<'a> {
     Quoted(&'a [u8]),
 }
 
-fn is_blank(byte: u8) -> bool
+pub(crate) fn is_blank(byte: u8) -> bool
     ensures { result ≡ is_line_blank byte }
 {
     matches!(byte, b' ' | b'\t')
@@ -43,7 +43,7 @@ pub fn are_characters(line: &[u8]) -> bool
 }
 
 // What follows the blanks at the front.
-fn after_blanks(line: &[u8]) -> &[u8]
+pub(crate) fn after_blanks(line: &[u8]) -> &[u8]
     ensures { result.now ≡ past_blanks line.now }
 {
     let mut rest = line;
@@ -156,7 +156,9 @@ pub fn are_words(line: &[u8]) -> bool
 
 /// The first word, and what follows it. `Word` where there is none.
 pub fn take_word(line: &[u8]) -> Result<(LineWord<'_>, &[u8]), LineWhy>
-    ensures { map_ok (λ x. (word_of x.0, words_in x.1.now)) result ≡ taken (words_in line.now) }
+    ensures word { map_ok (λ x. (word_of x.0, words_in x.1.now)) result
+        ≡ taken (words_in line.now) }
+    ensures left { IfOk result (λ x. IsRestOf line.now x.1.now) }
 {
     match first_word(line) {
         None => Err(LineWhy::Word),

@@ -1,3 +1,5 @@
 pub mod ListedLemmas
 pub mod AnswerLemmas
+pub mod LanguageLemmas
 pub mod RunLemmas
+pub mod PathLemmas

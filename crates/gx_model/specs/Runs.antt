@@ -1,13 +1,15 @@
--- The play of a script by its steps, from any start.
-use Rattle.std.specs.Prelude.{◌≡◌, ◌⊎◌, ℕ, ◌+◌, List, [], ◌∷◌, ◌++◌, length, Bool, Option, Some, None, Result, Ok, Err}
+-- The language of commands, and the play of a script in it.
+use Rattle.std.specs.Prelude.{◌≡◌, ◌⊎◌, ℕ, List, Bool, Option, Some, None, Result, Err}
 use Rattle.gx_schema.specs.declared.schema.Schema.{Schema}
 use Rattle.gx_commands.specs.declared.command.Command.{Command}
 use Rattle.gx_commands.specs.declared.command.LineWhy.{LineWhy}
 use Rattle.gx_commands.specs.Commands.{place_reason}
+use Rattle.gx_commands.specs.Lines.{Lines}
 use Rattle.gx_script.specs.Grammar.{IsLineOf}
-use Rattle.gx_commands.specs.Lines.{Lines, script_lines}
 use Rattle.gx_script.specs.Reading.{IsReading}
-use Rattle.gx_model.specs.Play.{Playing, End, stopped, end_at, end_text, is_inside, after_command, IsAnswered}
+use Rattle.gx_model.specs.Play.{Playing, End, is_inside, after_command, IsAnswered}
+pub use Rattle.gx_model.specs.Languages.{AreFirstLines}
+use Rattle.gx_model.specs.Languages.{Language, RunsIn, IsEndIn, IsPlayIn, IsPlayTextIn, AreFirstAnswersIn}
 
 -- a good line that may stand where the play is: the command that it means, its answer, and the play
 -- after it
@@ -19,13 +21,6 @@ pub record Step (schema : Schema) (p : Playing) (line answer : List ℕ)
   pub answered : IsAnswered schema p command answer
   pub next_is : next ≡ after_command schema p command
 
--- steps one after another: all their answers, and the play after the last
-abbrev pub Runs : Schema → Playing → List (List ℕ) → List ℕ → Playing → Type 0
-Runs schema p [] text final = (text ≡ []) × (final ≡ p)
-Runs schema p (line ∷ lines) text final =
-    (answer : List ℕ) × (more : List ℕ) × (next : Playing)
-    × Step schema p line answer next × Runs schema next lines more final × (text ≡ answer ++ more)
-
 -- the line means no command, or one that may not stand there
 abbrev pub IsBadLine : Schema → Bool → List ℕ → LineWhy → Type 0
 IsBadLine schema inside line why =
@@ -33,43 +28,27 @@ IsBadLine schema inside line why =
     ⊎ ((command : Command) × IsLineOf schema line command
     × (place_reason inside command ≡ Some why))
 
--- how a play ends where `ran` lines ran: at the next, which is bad; with the last of them, where
--- there is none; or at one that can't be had
+-- each line means a command
+abbrev pub commands : Schema → Language Playing ℕ
+commands schema = record {
+  Goes = λ p line answer next. Step schema p line answer next;
+  IsBad = λ p line why. IsBadLine schema (is_inside p) line why;
+  is_open = λ p. is_inside p;
+}
+
+-- ---- the play of commands
+
+abbrev pub Runs : Schema → Playing → List (List ℕ) → List ℕ → Playing → Type 0
+Runs schema = RunsIn (commands schema)
+
 abbrev pub IsEnd : Schema → Playing → ℕ → Result (Option (List ℕ)) LineWhy → End → Type 0
-IsEnd schema p ran (Ok (Some line)) end =
-    (why : LineWhy) × IsBadLine schema (is_inside p) line why × (end ≡ stopped (ran + 1) why)
-IsEnd schema p ran (Ok None) end = end ≡ end_at ran (is_inside p)
-IsEnd schema p ran (Err why) end = end ≡ stopped (ran + 1) why
+IsEnd schema = IsEndIn (commands schema)
 
--- the first lines of all, and the next: a line, none, or one that can't be had
-abbrev pub AreFirstLines : Lines → List (List ℕ) → Result (Option (List ℕ)) LineWhy → Type 0
-AreFirstLines all first (Ok (Some line)) =
-    (later : List (List ℕ)) × (all.lines ≡ first ++ line ∷ later)
-AreFirstLines all first (Ok None) = (all.lines ≡ first) × (all.stop ≡ None)
-AreFirstLines all first (Err why) = (all.lines ≡ first) × (all.stop ≡ Some why)
+abbrev pub IsPlayFrom : Schema → Playing → Lines → List ℕ → Playing → End → Type 0
+IsPlayFrom schema = IsPlayIn (commands schema)
 
--- the play of lines from a start: the first of them run, up to a next one that doesn't
-pub record IsPlayFrom (schema : Schema) (start : Playing) (all : Lines) (text : List ℕ)
-    (final : Playing) (end : End) : Type 0 where
-  pub ran : List (List ℕ)
-  pub next : Result (Option (List ℕ)) LineWhy
-  pub first : AreFirstLines all ran next
-  pub runs : Runs schema start ran text final
-  pub ends : IsEnd schema final (length ran) next end
+abbrev pub IsPlayTextFrom : Schema → Playing → List ℕ → List ℕ → Type 0
+IsPlayTextFrom schema = IsPlayTextIn (commands schema)
 
--- the whole text of a script's play from a start: the answers, and what is said of its end
-pub record IsPlayTextFrom (schema : Schema) (start : Playing) (script text : List ℕ) : Type 0 where
-  pub answers : List ℕ
-  pub final : Playing
-  pub end : End
-  pub played : IsPlayFrom schema start (script_lines script) answers final end
-  pub is : text ≡ answers ++ end_text end
-
--- the answers of some first lines of a script from a start, and no more
-pub record AreFirstAnswersFrom (schema : Schema) (start : Playing)
-    (script text : List ℕ) : Type 0 where
-  pub ran : List (List ℕ)
-  pub later : List (List ℕ)
-  pub parts : (script_lines script).lines ≡ ran ++ later
-  pub final : Playing
-  pub runs : Runs schema start ran text final
+abbrev pub AreFirstAnswersFrom : Schema → Playing → List ℕ → List ℕ → Type 0
+AreFirstAnswersFrom schema = AreFirstAnswersIn (commands schema)

@@ -5,4 +5,4 @@
 
 mod laws;
 
-pub use laws::{one_play_text, runs_go_on};
+pub use laws::{one_play_text, one_text_with_paths, runs_go_on};

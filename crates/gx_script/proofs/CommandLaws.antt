@@ -204,7 +204,7 @@ arguments_found schema verb.Owner words y whole all e =
 arguments_found schema verb.Find words y whole all e = find_found schema words y whole all e
 arguments_found schema verb.Reorganize words y whole all e = structure_found schema words y e
 
-no_more : (words : List Word) → is_end words ≡ true → words ≡ []
+pub no_more : (words : List Word) → is_end words ≡ true → words ≡ []
 no_more [] e = refl
 no_more (w ∷ ws) e = absurd cc
 

@@ -10,3 +10,4 @@ pub mod LocalParts
 pub mod LocalLoops
 pub mod LocalClauses
 pub mod FewConds
+pub mod PathLaws

@@ -338,6 +338,7 @@ bad_words : (schema : Schema) (line : List ℕ) (reason : LineWhy)
 bad_words schema line why.Character w = tt
 bad_words schema line why.Quote w = tt
 bad_words schema line why.TooLong w = w
+bad_words schema line why.Session w = w
 bad_words schema line why.Word w = w
 bad_words schema line why.File w = w
 bad_words schema line why.Link w = w

@@ -19,12 +19,12 @@ use Rattle.gx_script.proofs.WordMeanings.{AllWords}
 use Rattle.gx_commands.proofs.CuttingLaws.{HasWords, words_of_line}
 use Rattle.gx_script.proofs.CommandLaws.{reading_found, reading_again}
 
-words_are : (line : List ℕ) (words : List Word) → AreWords line words → AllWords words
+pub words_are : (line : List ℕ) (words : List Word) → AreWords line words → AllWords words
 words_are line [] h = tt
 words_are line (w ∷ ws) h = let f = h.1 in (f.is_word, words_are h.0 ws h.2)
 
-words_same : (line : List ℕ) (words others : List Word) → AreWords line words → AreWords line others
-    → words ≡ others
+pub words_same : (line : List ℕ) (words others : List Word) → AreWords line words
+    → AreWords line others → words ≡ others
 words_same line words others h k = sym (words_of_line line words h) ∙ words_of_line line others k
 
 pub words_read : (schema : Schema) (line : List ℕ) (r : Result Command NoCommand)
@@ -71,7 +71,7 @@ pub is_of_schema : (schema : Schema) (line : List ℕ) (r : Result Command NoCom
 is_of_schema schema line (Ok c) h = rules_of schema line c h
 is_of_schema schema line (Err e) h = tt
 
-differ : {A : Type 0} (b : Bool) → b ≡ true → b ≡ false → A
+pub differ : {A : Type 0} (b : Bool) → b ≡ true → b ≡ false → A
 differ b t f = absurd cc
 
 pub reading_of_line : (schema : Schema) (line : List ℕ) (c : Command) → IsLineOf schema line c

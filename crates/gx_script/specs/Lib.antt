@@ -3,3 +3,4 @@ pub mod Reading
 pub mod Grammar
 pub mod Shape
 pub mod Faults
+pub mod Paths

@@ -332,8 +332,8 @@ IsReading schema line given =
     × ((words : List Word) × AreWords line words × (given ≡ reading schema words)))
 
 -- the call answered this, or there was no memory
-abbrev pub AnswersUnlessNoMemory : Result Command NoCommand → (Result Command LineWhy → Type 0)
+abbrev pub AnswersUnlessNoMemory : {A : Type 0} → Result A NoCommand → (Result A LineWhy → Type 0)
     → Type 0
-AnswersUnlessNoMemory (Ok c) P = P (Ok c)
+AnswersUnlessNoMemory (Ok x) P = P (Ok x)
 AnswersUnlessNoMemory (Err (no_command.Bad reason)) P = P (Err reason)
 AnswersUnlessNoMemory (Err no_command.NoMemory) P = Unit {0}

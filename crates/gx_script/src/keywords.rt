@@ -1,8 +1,8 @@
 // The words of the grammar: those that begin a command, operators, and those between the parts of a
 // command.
-ghost use Rattle.std.specs.Prelude.{◌≡◌, option_map};
+ghost use Rattle.std.specs.Prelude.{◌≡◌, option_map, IfOk, IfSome};
 ghost use Rattle.gx_tokens.specs.Reading.{map_ok};
-ghost use Rattle.gx_commands.specs.Cutting.{words_in};
+ghost use Rattle.gx_commands.specs.Cutting.{words_in, IsRestOf};
 ghost use Rattle.gx_script.specs.Names.{verb_of, op_of};
 ghost use Rattle.gx_script.specs.Reading.{want, behind, a_verb, an_op};
 
@@ -98,7 +98,9 @@ pub fn read_verb(line: &[u8]) -> Result<(Verb, &[u8]), LineWhy>
 
 /// The operator that the first word is, and what follows it. `Word` where it is none.
 pub fn read_op(line: &[u8]) -> Result<(Op, &[u8]), LineWhy>
-    ensures { map_ok (λ x. (x.0, words_in x.1.now)) result ≡ want an_op (words_in line.now) }
+    ensures exact { map_ok (λ x. (x.0, words_in x.1.now)) result
+        ≡ want an_op (words_in line.now) }
+    ensures left { IfOk result (λ x. IsRestOf line.now x.1.now) }
 {
     match take_word(line)? {
         (LineWord::Bare(text), rest) => match op_of(text) {
@@ -111,7 +113,9 @@ pub fn read_op(line: &[u8]) -> Result<(Op, &[u8]), LineWhy>
 
 /// What follows the first word, where it is this keyword.
 pub fn after_keyword<'a>(line: &'a [u8], keyword: &[u8]) -> Option<&'a [u8]>
-    ensures { option_map (λ x. words_in x.now) result ≡ behind keyword.now (words_in line.now) }
+    ensures exact { option_map (λ x. words_in x.now) result
+        ≡ behind keyword.now (words_in line.now) }
+    ensures left { IfSome result (λ rest. IsRestOf line.now rest.now) }
 {
     match take_word(line) {
         Ok((LineWord::Bare(text), rest)) if text == keyword => Some(rest),

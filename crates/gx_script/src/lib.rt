@@ -7,4 +7,7 @@ mod parts;
 mod reading;
 mod values;
 
+pub use keywords::after_keyword;
+pub use names::{read_file, read_link};
+pub use parts::where_part;
 pub use reading::read_command;

@@ -3,7 +3,7 @@ ghost use Rattle.std.specs.Prelude.{◌≡◌, ◌<◌, length, IfOk, IfSome};
 ghost use Rattle.gx_tokens.specs.Reading.{map_ok};
 ghost use Rattle.gx_schema.specs.Lookups.{file_at, link_at, field_at};
 ghost use Rattle.gx_schema.specs.WellFormed.{HasFields, IsWellFormed};
-ghost use Rattle.gx_commands.specs.Cutting.{words_in};
+ghost use Rattle.gx_commands.specs.Cutting.{words_in, IsRestOf};
 ghost use Rattle.gx_script.specs.Names.{file_number, link_number, field_number};
 ghost use Rattle.gx_script.specs.Reading.{want, a_file, a_link, a_link_to, a_field, a_new_field, a_structure, is_changed};
 
@@ -182,6 +182,7 @@ pub fn read_field<'a>(file: &FileDef, line: &'a [u8]) -> Result<(u16, &'a [u8]),
     ensures exact { map_ok (λ x. (x.0, words_in x.1.now)) result
         ≡ want (a_field file.now) (words_in line.now) }
     ensures within { IfOk result (λ x. x.0 < length file.now.fields) }
+    ensures left { IfOk result (λ x. IsRestOf line.now x.1.now) }
 {
     match take_word(line)? {
         (LineWord::Bare(name), rest) => match field_number(file, name) {

@@ -1,8 +1,9 @@
 // The parts of commands: a record, an owner, a member, changes, conditions, and the order.
-ghost use Rattle.std.specs.Prelude.{◌≡◌, ◌<◌, [], length, IfOk};
+ghost use Rattle.std.specs.Prelude.{◌≡◌, ◌<◌, ◌≤◌, [], length, drop, IfOk};
 ghost use Rattle.gx_tokens.specs.Reading.{map_ok};
+ghost use Rattle.gx_schema.specs.Lookups.{file_at};
 ghost use Rattle.gx_schema.specs.WellFormed.{HasFields, IsWellFormed};
-ghost use Rattle.gx_commands.specs.Cutting.{words_in};
+ghost use Rattle.gx_commands.specs.Cutting.{words_in, IsRestOf};
 ghost use Rattle.gx_script.specs.Reading.{Gives, record_at, link_and_owner, member_at, change_at, changes_at, cond_at, conds_at, where_at, owner_of_at, of_at, desc_at, order_at};
 
 use crate::keywords::{after_keyword, read_op};
@@ -116,7 +117,9 @@ fn read_cond<'a>(
     line: &'a [u8],
 ) -> Result<(Cond, &'a [u8]), NoCommand>
     requires { HasFields file.now }
-    ensures { Gives (λ x. (x.0, words_in x.1.now)) result (cond_at file.now (words_in line.now)) }
+    ensures exact { Gives (λ x. (x.0, words_in x.1.now)) result
+        (cond_at file.now (words_in line.now)) }
+    ensures left { IfOk result (λ x. IsRestOf line.now x.1.now) }
 {
     let (field, rest) = read_field(file, line)?;
     let (op, rest) = read_op(rest)?;
@@ -131,8 +134,9 @@ fn read_conds<'a>(
     line: &'a [u8],
 ) -> Result<(Conds, &'a [u8]), NoCommand>
     requires { HasFields file.now }
-    ensures { Gives (λ x. (x.0, words_in x.1.now)) result
+    ensures exact { Gives (λ x. (x.0, words_in x.1.now)) result
         (conds_at (length (words_in line.now)) file.now [] (words_in line.now)) }
+    ensures left { IfOk result (λ x. IsRestOf line.now x.1.now) }
 {
     let mut conds = Vec::new(alloc);
     let mut rest = line;
@@ -154,12 +158,33 @@ pub fn read_where<'a>(
     line: &'a [u8],
 ) -> Result<(Conds, &'a [u8]), NoCommand>
     requires { HasFields file.now }
-    ensures { Gives (λ x. (x.0, words_in x.1.now)) result (where_at file.now (words_in line.now)) }
+    ensures exact { Gives (λ x. (x.0, words_in x.1.now)) result
+        (where_at file.now (words_in line.now)) }
+    ensures left { IfOk result (λ x. IsRestOf line.now x.1.now) }
 {
     match after_keyword(line, b"where") {
         None => Ok((Conds(Vec::new(alloc)), line)),
         Some(rest) => read_conds(alloc, file, rest),
     }
+}
+
+/// The conditions at the front of the bytes, for records of the file, and how many bytes they take
+/// with their `where`: none and 0 where the first word isn't `where`. `Bad`: exactly the first
+/// reason why no conditions stand behind that word. `NoMemory`: only where there was none for them.
+pub fn where_part(
+    alloc: Global,
+    schema: &Schema,
+    file: u16,
+    bytes: &[u8],
+) -> Result<(Conds, usize), NoCommand>
+    requires well_formed { IsWellFormed schema.now }
+    requires file { file < length schema.now.files }
+    ensures exact { Gives (λ x. (x.0, words_in (drop x.1 bytes.now))) result
+        (where_at (file_at schema.now file) (words_in bytes.now)) }
+    ensures within { IfOk result (λ x. x.1 ≤ length bytes.now) }
+{
+    let (conds, rest) = read_where(alloc, file_def(schema, file), bytes)?;
+    Ok((conds, bytes.len() - rest.len()))
 }
 
 // LINK OWNER, with a link whose members are of the file, and what follows them.

@@ -1,6 +1,6 @@
 // Values as they are written in a line.
-ghost use Rattle.std.specs.Prelude.{[]};
-ghost use Rattle.gx_commands.specs.Cutting.{word_of, words_in};
+ghost use Rattle.std.specs.Prelude.{[], IfOk};
+ghost use Rattle.gx_commands.specs.Cutting.{word_of, words_in, IsRestOf};
 ghost use Rattle.gx_script.specs.Reading.{Gives, want, a_value, values_at};
 
 use gx_commands::{LineWhy, LineWord, NoCommand, take_word};
@@ -31,8 +31,9 @@ fn value_of(alloc: Global, kind: Kind, word: LineWord) -> Result<Value, NoComman
 
 /// The value of this kind that the first word is, and what follows it. `Value` where it is none.
 pub fn read_value(alloc: Global, kind: Kind, line: &[u8]) -> Result<(Value, &[u8]), NoCommand>
-    ensures { Gives (λ x. (x.0, words_in x.1.now)) result
+    ensures exact { Gives (λ x. (x.0, words_in x.1.now)) result
         (want (a_value kind) (words_in line.now)) }
+    ensures left { IfOk result (λ x. IsRestOf line.now x.1.now) }
 {
     let (word, rest) = take_word(line)?;
     let value = value_of(alloc, kind, word)?;

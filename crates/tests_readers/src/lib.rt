@@ -6,10 +6,14 @@
 #[cfg(test)]
 mod equations;
 #[cfg(test)]
+mod paths;
+#[cfg(test)]
 mod row;
 #[cfg(test)]
 mod schemas;
 #[cfg(test)]
 mod scripts;
+#[cfg(test)]
+mod turns;
 #[cfg(test)]
 mod workload;

@@ -149,12 +149,12 @@ fn is_printed(alloc: Global, command: &Command, text: &str) -> Result<bool, Fail
     Ok(format!(in alloc; "{command:?}")?.as_str() == text)
 }
 
-// Whether the command of a line is as `Debug` prints it.
+// Whether a copy of the command of a line is as `Debug` prints it.
 fn is_read(alloc: Global, schema: &Schema, case: &Case) -> Result<bool, Fail>
     requires { IsWellFormed schema.now }
 {
     let command = read_command(alloc, schema, case.line.as_bytes())?;
-    is_printed(alloc, &command, case.command)
+    is_printed(alloc, &command.copy(alloc)?, case.command)
 }
 
 #[test]
