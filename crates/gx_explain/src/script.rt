@@ -34,6 +34,7 @@ pub fn explain_script<M: Machine>(
         (M.content machine.old) (M.content machine.new) result }
     ensures heard { IsTrue M.tells → result ≡ Status.Done → (M.content machine.new).script ≡ [] }
     ensures devices { SameDevices (M.content machine.old) (M.content machine.new) }
+    ensures aside { (M.content machine.new).aside ≡ (M.content machine.old).aside }
     ensures failures { CountsOutside (M.faults machine.old) (M.faults machine.new) result }
 {
     match explain_heard(alloc, schema, built, machine) {
@@ -57,6 +58,7 @@ fn explain_heard<M: Machine>(
         (M.content machine.new) result }
     ensures heard { IsTrue M.tells → result ≡ Ok tt → (M.content machine.new).script ≡ [] }
     ensures devices { SameDevices (M.content machine.old) (M.content machine.new) }
+    ensures aside { (M.content machine.new).aside ≡ (M.content machine.old).aside }
     ensures cause { IfErr result (HasEndCause (M.faults machine.old) (M.faults machine.new)) }
     ensures counted { is_play_fault result ≡ false → M.faults machine.new ≡ M.faults machine.old }
     ensures later { M.faults machine.old ≤ M.faults machine.new }

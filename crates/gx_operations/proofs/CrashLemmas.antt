@@ -165,18 +165,6 @@ unattached_then old mid new first then =
 
 -- ---- a device is attached
 
--- what a crash leaves, told weaker
-pub crashes_weaker : (name : List ℕ) (P R : Content → Image → Type 0) (old new : Content)
-    → ((middle : Content) (image : Image) → P middle image → R middle image)
-    → CrashesOn name P old new → CrashesOn name R old new
-crashes_weaker name P R old new f (inl still) = inl still
-crashes_weaker name P R old new f (inr on) = inr (
-  on.0,
-  on.1,
-  leaves_weaker (IsLeftOf P on.0) (IsLeftOf R on.0)
-      (λ image is. record { is = f on.0 image is.is; shelf = is.shelf }) on.0 new on.2,
-)
-
 -- what reads as it did when the device was attached
 opens_read : (name : List ℕ) (old mid : Content) (o : Opens name old mid)
     → (blocks : List (List ℕ)) → device_at old.now name ≡ Some blocks
@@ -197,14 +185,9 @@ ends_before why old new (inl run) = says_before (ending_line why) old new run
 ends_before why old new (inr run) = says_before memory_line old new run.1
 
 -- an image while a device is opened keeps the other devices
-opening_shelf : (m : Moment) (image : Image) → IsOpeningImage m image → image.shelf ≡ m.shelf
+pub opening_shelf : (m : Moment) (image : Image) → IsOpeningImage m image → image.shelf ≡ m.shelf
 opening_shelf m image (inl is) = is.shelf
 opening_shelf m image (inr is) = is.shelf
-
--- and so it holds what was said before, and its blocks are an image's, or read as before
-pub opening_said : (m : Moment) (image : Image) → IsOpeningImage m image → image.said ≡ m.said
-opening_said m image (inl is) = is.said
-opening_said m image (inr is) = is.said
 
 -- what a crash leaves while a device is opened
 pub opens_leaves : (P : Content → Image → Type 0) (name : List ℕ) (old mid : Content)
@@ -242,13 +225,6 @@ pub opening_unsaid : (name : List ℕ) (old mid : Content) (o : Opens name old m
     → IsImage mid.now (record image { said = mid.now.said })
     → IsOpeningImage o.middle.now (record image { said = mid.now.said })
 opening_unsaid name old mid o image is = o.images.now (record image { said = mid.now.said }) is
-
--- what was said while it was opened is what was said before
-pub opens_said : (name : List ℕ) (old mid : Content) → Opens name old mid
-    → mid.now.said ≡ old.now.said
-opens_said name old mid o =
-    opening_said o.middle.now _ (reads_now (IsOpeningImage o.middle.now) o.middle mid o.images)
-    ∙ o.attached.rest.said
 
 -- blocks that are an image's or read as before, whatever was said
 pub opening_reads : (middle : Content) (image : Image) (said : List ℕ)

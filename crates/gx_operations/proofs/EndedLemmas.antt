@@ -1,5 +1,5 @@
 -- A request that ends with one line: what was said of it, and the status that is due.
-use Rattle.std.proofs.Common.{◌≡◌, ◌∙◌, inl, inr, ℕ, zero, suc, List, [], ◌++◌, take, refl, sym, ap, subst}
+use Rattle.std.proofs.Common.{◌≡◌, ◌∙◌, inl, inr, ℕ, zero, suc, List, [], ◌++◌, take, Some, refl, sym, ap, subst}
 use Rattle.std.specs.Prelude.{◌⊎◌, ◌≢◌}
 use Rattle.std.specs.FinMap.{get}
 use Rattle.gx_device.specs.Content.{Content, device_at, with_named}
@@ -9,13 +9,46 @@ use Rattle.gx_play.specs.declared.status.Status.{Status}
 use Rattle.gx_play.specs.declared.status.Status.TheVariants as status
 use Rattle.gx_play.specs.Endings.{IsEnded, ending_line, memory_line, status_of}
 use Rattle.gx_play.specs.Say.{SameDevices, IsCut}
+use Rattle.gx_store.specs.Store.{Attaches}
+use Rattle.gx_operations.specs.Given.{KeepsAll, KeepsOthers}
 use Rattle.gx_operations.specs.Promises.{Promise, IsSaid, SaysBoth, SaysPart}
+use Rattle.gx_operations.proofs.NameLemmas.{other_at}
 
 -- what is said changes no device
 pub devices_same : (old new : Content) → SameDevices old new → (name : List ℕ)
     → device_at new.now name ≡ device_at old.now name
 devices_same old new same name =
     λ i. get (with_named (same.shelf i).name (same.blocks i) (same.shelf i).devices) name
+
+-- ---- what stays
+
+-- while a line is said
+pub keeps_said : (old new : Content) → SameDevices old new → new.aside ≡ old.aside
+    → KeepsAll old new
+keeps_said old new same aside = record {
+  aside = aside;
+  others = λ other free. devices_same old new same other;
+}
+
+-- while the device is attached, and a line is said then
+pub keeps_attached : (device : List ℕ) (old mid new : Content) → Attaches device old mid
+    → SameDevices mid new → new.aside ≡ mid.aside → KeepsOthers device old new
+keeps_attached device old mid new attaches same aside = record {
+  aside = aside ∙ attaches.aside;
+  others = λ other differ. devices_same mid new same other ∙ attaches.others other differ;
+}
+
+-- while it is attached, and the same shelf stands then
+pub keeps_opened : (device : List ℕ) (old opened new : Content) → Attaches device old opened
+    → opened.now.shelf.name ≡ Some device → new.now.shelf ≡ opened.now.shelf
+    → new.aside ≡ opened.aside → KeepsOthers device old new
+keeps_opened device old opened new attaches named shelf aside = record {
+  aside = aside ∙ attaches.aside;
+  others = λ other differ. other_at opened.now new.now device other named shelf differ
+      ∙ attaches.others other differ;
+}
+
+-- ---- the line
 
 -- a status but Outside is one of two
 pub said_or_memory : (s t : Status) → (s ≢ status.Outside → s ≢ status.Memory → s ≡ t)

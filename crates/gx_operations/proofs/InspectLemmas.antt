@@ -2,7 +2,7 @@
 use Rattle.std.proofs.Common.{◌≡◌, ◌∙◌, inl, inr, ℕ, ◌<◌, List, [], ◌++◌, length, take, Some, Result, Ok, Err, refl, sym, ap, subst, arith}
 use Rattle.std.specs.Prelude.{◌⊎◌, ◌≢◌, IfErr}
 use Rattle.std.proofs.lemmas.Option.{same_Some}
-use Rattle.gx_device.specs.Content.{Moment, Shelf, Content, Silent, device_at}
+use Rattle.gx_device.specs.Content.{Shelf, Content, Silent, device_at}
 use Rattle.gx_device.specs.Crash.{Image, IsImage, LeavesOnly}
 use Rattle.gx_ports.specs.declared.kinds.LeafSpec.{LeafSpec}
 use Rattle.gx_ports.specs.LeafMaps.{LeafMap}
@@ -33,23 +33,17 @@ use Rattle.gx_requests.specs.Checked.{IsStored}
 use Rattle.gx_operations.specs.Crashes.{IsLeftOf, CrashesOn, ReadsAsAttached}
 use Rattle.gx_operations.specs.Damage.{IsDamageBelow}
 use Rattle.gx_operations.specs.Examined.{IsExamined, IsFoundIn, inspect_text}
-use Rattle.gx_operations.specs.Given.{Given, under, IsInternalOf, HoldState, IsHeldOn, IsStateless, IsStoredAs, KeepsOthers}
+use Rattle.gx_operations.specs.Given.{Given, under, IsInternalOf, HoldState, IsHeldOn, IsStateless, IsStoredAs}
 use Rattle.gx_operations.specs.Inspects.{TellsOf, IsSoundImage, inspects_sound, StayUnsound, IsUnsoundImage, inspects_unsound, InspectsOn}
 use Rattle.gx_operations.specs.Promises.{Promise, IsKept, IsSaid}
 use Rattle.gx_operations.specs.Wrong.{IsDamageLine}
-use Rattle.gx_operations.proofs.CrashLemmas.{reads_now, leaves_weaker, leaves_both, says_leaves, ends_leaves, ends_idle, unopened_idle, unattached_idle, opens_reached, first_reached, opening_reads, opening_unsaid, opens_then}
+use Rattle.gx_operations.proofs.CrashLemmas.{reads_now, leaves_weaker, leaves_both, says_leaves, ends_leaves, ends_idle, unopened_idle, unattached_idle, opens_reached, first_reached, opening_reads, opening_unsaid, opens_then, opening_shelf}
 use Rattle.gx_operations.proofs.EndedLemmas.{ended_said, ended_due}
 use Rattle.gx_operations.proofs.GivenLemmas.{hold_alike, settle_holds, under_given, internal_given, internal_stored}
-use Rattle.gx_operations.proofs.NameLemmas.{other_at}
 use Rattle.gx_operations.proofs.UnchangedLemmas.{same_device_at}
-use Rattle.gx_operations.proofs.WrongLemmas.{IsTried, tried_others, tried_reads, opened_right, wrong_kept}
+use Rattle.gx_operations.proofs.WrongLemmas.{IsTried, tried_reads, opened_right, wrong_kept}
 
 -- ---- a crash
-
--- the other devices stay while one is opened
-shelf_stays : (m : Moment) (image : Image) → IsOpeningImage m image → image.shelf ≡ m.shelf
-shelf_stays m image (inl is) = is.shelf
-shelf_stays m image (inr is) = is.shelf
 
 -- what reads as it did when it was attached, while a text is said
 says_left : (found : Result (List ℕ) Ending) (middle mid new : Content)
@@ -198,7 +192,7 @@ module _ (g : Given) (device : List ℕ) (old mid new : Content) (e : Unopened) 
         let at = opening_unsaid device old mid o image is in
         record {
           is = opening_reads o.middle image mid.now.said at;
-          shelf = shelf_stays o.middle.now (record image { said = mid.now.said }) at;
+          shelf = opening_shelf o.middle.now (record image { said = mid.now.said }) at;
         }))
   ]
 
@@ -215,7 +209,6 @@ module _ (g : Given) (device : List ℕ) (old mid new : Content) (e : Unopened) 
         due = λ d is. subst (λ (x : Status). s ≢ status.Outside → (s ≡ x) ⊎ (s ≡ status.Memory))
             (sym is) (stopped_due status.Done why);
         leaves = (
-          tried_others g device old mid new e s t same,
           (reads.0, reads.1, hold_alike g state held.0 reads.0 reads.2 held.2),
           unheard,
         );
@@ -233,7 +226,6 @@ module _ (g : Given) (device : List ℕ) (old mid new : Content) (e : Unopened) 
         due = λ d is. subst (λ (x : Status). s ≢ status.Outside → (s ≡ x) ⊎ (s ≡ status.Memory))
             (sym is) (stopped_due status.Device why);
         leaves = (
-          tried_others g device old mid new e s t same,
           (λ blocks there.
               let reads = tried_reads g device old mid new e s t same blocks there in
               (reads.0, reads.1, stay_unsound g blocks reads.0 reads.2)),
@@ -315,12 +307,6 @@ module _ (g : Given) (x : Stored) (of : IsStoredAs g x) (stored : IsStored x) (d
   script : new.script ≡ old.script
   script = unheard ∙ seen.silent.script ∙ seen.attaches.script
 
-  others : KeepsOthers device old new
-  others other differ =
-      same_device_at mid.now new.now other same.blocks same.shelf
-      ∙ other_at opened.now mid.now device other seen.opens.named seen.silent.shelf differ
-      ∙ seen.attaches.others other differ
-
   there : device_at new.now device ≡ Some mid.now.blocks
   there = same_device_at mid.now new.now device same.blocks same.shelf
       ∙ named_at mid.now device (ap (λ (h : Shelf). h.name) seen.silent.shelf ∙ seen.opens.named)
@@ -341,7 +327,7 @@ module _ (g : Given) (x : Stored) (of : IsStoredAs g x) (stored : IsStored x) (d
   left image is = record {
     is = inr (alike_both image.blocks is.alike);
     shelf = is.shelf
-        ∙ shelf_stays middle.now _
+        ∙ opening_shelf middle.now _
         (reads_now (IsOpeningImage middle.now) middle opened seen.opens.images);
   }
 
@@ -464,7 +450,6 @@ module _ (g : Given) (x : Stored) (of : IsStoredAs g x) (stored : IsStored x) (d
       due = λ d is outside. subst (λ (t : Status). (s ≡ t) ⊎ (s ≡ status.Memory)) (sym is)
           (sound_due found seen.examined told outside);
       leaves = (
-        others,
         (
           mid.now.blocks,
           there,
@@ -531,7 +516,6 @@ module _ (g : Given) (x : Stored) (of : IsStoredAs g x) (stored : IsStored x) (d
       due = λ d is outside. subst (λ (t : Status). (s ≡ t) ⊎ (s ≡ status.Memory)) (sym is)
           (unsound_due found seen.examined told outside);
       leaves = (
-        others,
         (λ blocks at. (
           mid.now.blocks,
           there,

@@ -8,7 +8,6 @@ pub mod MemoryLemmas
 mod SaidLemmas
 mod AnswerLemmas
 mod MakeLemmas
-mod ExamineLemmas
 mod LeavingLemmas
 mod WorkingLemmas
 mod WorkLemmas

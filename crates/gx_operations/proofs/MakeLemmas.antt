@@ -147,7 +147,7 @@ module _ (specs : List LeafSpec) (device : List ℕ) (count : ℕ) (old mid : Co
 -- ---- it is made, or not for want of memory or a failed call
 
 -- no device is both there and not
-none_there : (blocks : List (List ℕ)) → ◌≡◌ {A = Option (List (List ℕ))} None (Some blocks) → ⊥
+pub none_there : (blocks : List (List ℕ)) → ◌≡◌ {A = Option (List (List ℕ))} None (Some blocks) → ⊥
 none_there blocks wrong = cc
 
 -- a front of the line of want of memory isn't that of a device that was made
@@ -309,7 +309,6 @@ module _ (g : Given) (device : List ℕ) (count : ℕ) (old mid new : Content) w
           (subst (λ (t : Status). (status_of e ≡ t) ⊎ (e ≡ ending.Fault) ⊎ (e ≡ ending.NoMemory))
           (sym is) made_due) outside;
       leaves = (
-        λ other differ. devices_same mid new devices other ∙ rest.others other differ,
         λ blocks there.
             let was = sym (devices_same mid new devices device) ∙ there in
             (left.begun free blocks was, left.left free blocks was),

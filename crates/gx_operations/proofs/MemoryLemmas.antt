@@ -1,11 +1,10 @@
 -- A request that is given up for want of memory, or where a call failed, before anything was done.
 use Rattle.std.proofs.Common.{◌≡◌, ℕ, List, [], Some, None, Option, refl, sym, subst, ap, ◌∙◌, inl, inr, true, false}
 use Rattle.std.specs.Prelude.{Bool}
-use Rattle.std.specs.FinMap.{get}
-use Rattle.gx_device.specs.Content.{Content, device_at, with_named}
+use Rattle.gx_device.specs.Content.{Content, device_at}
 use Rattle.gx_commands.specs.Lines.{script_lines}
 use Rattle.gx_model.specs.States.{State, empty_state}
-use Rattle.gx_model.specs.Play.{start_at}
+use Rattle.gx_model.specs.Play.{End, start_at}
 use Rattle.gx_ports.specs.LeafMaps.{Limits}
 use Rattle.gx_store.specs.Store.{OfBlocks}
 use Rattle.gx_play.specs.declared.ending.Ending.{Ending}
@@ -17,7 +16,7 @@ use Rattle.gx_play.specs.Endings.{memory_line}
 use Rattle.gx_play.specs.Player.{Play}
 use Rattle.gx_play.specs.Say.{SameDevices}
 use Rattle.gx_operations.specs.Crashes.{IsUnchanged}
-use Rattle.gx_operations.specs.Given.{Given, HoldState, KeepsOthers, limit_of}
+use Rattle.gx_operations.specs.Given.{Given, HoldState, limit_of}
 use Rattle.gx_operations.specs.GivenUp.{GaveUp, GivesUp}
 use Rattle.gx_operations.specs.Promises.{Promise, IsKept}
 use Rattle.gx_operations.specs.Refuses.{refuses}
@@ -29,6 +28,7 @@ use Rattle.gx_operations.specs.Runs.{RunsOn, runs_from, runs_unheld}
 use Rattle.gx_operations.specs.Inspects.{InspectsOn, inspects_sound, inspects_unsound}
 use Rattle.gx_operations.specs.Works.{WorksOn, works_on}
 use Rattle.gx_operations.specs.Wrong.{StaysWrong, IsWrong, finds_wrong}
+use Rattle.gx_operations.proofs.EndedLemmas.{devices_same}
 use Rattle.gx_operations.proofs.UnchangedLemmas.{unchanged_by, idle_unchanged}
 
 -- ---- the statuses
@@ -78,11 +78,6 @@ given_by p old new s (inr o) says leaves crashes =
     }) leaves
 
 -- ---- the devices
-
-pub same_device : (old new : Content) → SameDevices old new → (name : List ℕ)
-    → device_at new.now name ≡ device_at old.now name
-same_device old new x name =
-    λ i. get (with_named (x.shelf i).name (x.blocks i) (x.shelf i).devices) name
 
 pub unchanged_devices : (old new : Content) → SameDevices old new → IsUnchanged old.now new.now
 unchanged_devices old new x = unchanged_by old.now new.now x.blocks x.pending x.shelf
@@ -140,10 +135,7 @@ module _ (g : Given) (old new : Content) (s : Status) (x : GivesUp old new s) wh
       (x.apart.devices, λ is. absurd (not_done old new s x.how is)) tt
 
   same : (device : List ℕ) → device_at new.now device ≡ device_at old.now device
-  same device = same_device old new x.apart.devices device
-
-  others : (device : List ℕ) → KeepsOthers device old new
-  others device other differs = same other
+  same device = devices_same old new x.apart.devices device
 
   absent : (device : List ℕ) → device_at old.now device ≡ None → (b : List (List ℕ))
       → device_at new.now device ≡ Some b → ⊥
@@ -165,8 +157,7 @@ module _ (g : Given) (old new : Content) (s : Status) (x : GivesUp old new s) wh
   make_given_up device blocks = record {
     unmakable = λ why is. unmade_given_up device why;
     makable = λ size free. given_by (makes_one g device blocks old) old new s x.how (refl, refl)
-        (others device, (λ b there. absurd (absent device free b there)), x.apart.script)
-        (inl x.through);
+        ((λ b there. absurd (absent device free b there)), x.apart.script) (inl x.through);
   }
 
   stays_wrong : (device : List ℕ) (why : DeviceWhy) → IsWrong g device old why
@@ -189,26 +180,25 @@ module _ (g : Given) (old new : Content) (s : Status) (x : GivesUp old new s) wh
       → IsKept (finds_wrong g why device old) old new s
   wrong_given_up device why is = given_by (finds_wrong g why device old) old new s x.how
       ((refl, refl), stays_wrong device why is)
-      (others device, (λ none. same device ∙ none), x.apart.script) (inl x.through)
+      ((λ none. same device ∙ none), x.apart.script) (inl x.through)
 
   pub run_given_up : {M : Type 0} (device : List ℕ) (plays : Limits → State → Play M)
-      (Bad : List ℕ → Type 0) → RunsOn g device plays Bad old new s
-  run_given_up device plays Bad = record {
+      (Ends : End → Type 0) → RunsOn g device plays Ends old new s
+  run_given_up device plays Ends = record {
     wrong = wrong_given_up device;
     held = λ start is. given_by (runs_from g device start (plays (limit_of g is.0) start) old) old
         new s x.how (inr (refl, (refl, refl), still device (HoldState g start) is))
-        (others device, (λ ends. absurd (done ends))) (inl x.through);
-    unheld = λ is. given_by (runs_unheld device Bad old) old new s x.how refl
-        (others device, (λ ends. absurd (done ends))) tt;
+        (λ ends. absurd (done ends)) (inl x.through);
+    unheld = λ is. given_by (runs_unheld device Ends old) old new s x.how refl
+        (λ ends. absurd (done ends)) tt;
   }
 
   pub inspect_given_up : (device : List ℕ) → InspectsOn g device old new s
   inspect_given_up device = record {
     wrong = wrong_given_up device;
     sound = λ state is. given_by (inspects_sound g device state old) old new s x.how (refl, refl)
-        (others device, still device (HoldState g state) is, x.apart.script) (inl x.through);
+        (still device (HoldState g state) is, x.apart.script) (inl x.through);
     unsound = λ is. given_by (inspects_unsound g device old) old new s x.how (refl, refl) (
-      others device,
       (λ blocks there. (
         blocks,
         same device ∙ there,
@@ -228,6 +218,6 @@ module _ (g : Given) (old new : Content) (s : Status) (x : GivesUp old new s) wh
     unmakable = λ why is. unmade_given_up device why;
     makable = λ size free. given_by (works_on g device blocks records old) old new s x.how
         ((refl, refl), (λ b there. absurd (absent device free b there)))
-        (others device, x.apart.script, (λ b there. absurd (absent device free b there)))
+        (x.apart.script, (λ b there. absurd (absent device free b there)))
         (inl x.through);
   }

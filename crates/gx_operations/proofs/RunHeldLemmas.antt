@@ -25,13 +25,12 @@ use Rattle.gx_play.specs.Player.{Play, EndsWith, MayBeSaid, IsDueOf}
 use Rattle.gx_play.specs.Plays.{IsPlayedAs}
 use Rattle.gx_play.specs.Say.{SameDevices, IsCut}
 use Rattle.gx_operations.specs.Crashes.{CrashesOn, IsLeftOf}
-use Rattle.gx_operations.specs.Given.{Given, HoldState, SettleState, IsHeldOn, IsSettledOn, KeepsOthers, limit_of}
+use Rattle.gx_operations.specs.Given.{Given, HoldState, SettleState, IsHeldOn, IsSettledOn, limit_of}
 use Rattle.gx_operations.specs.Promises.{Promise, IsKept, IsSaid, SaysBroken}
 use Rattle.gx_operations.specs.Runs.{IsRunImage, runs_from, script_play}
 use Rattle.gx_operations.proofs.CrashLemmas.{reads_now, leaves_weaker, leaves_both, says_leaves, ends_leaves, opens_then, opens_reached, first_reached, opening_unsaid, unattached_idle, ends_idle_short}
 use Rattle.gx_operations.proofs.EndedLemmas.{devices_same}
 use Rattle.gx_operations.proofs.GivenLemmas.{hold_alike}
-use Rattle.gx_operations.proofs.NameLemmas.{other_at}
 use Rattle.gx_operations.proofs.WrongLemmas.{due_or_memory}
 use Rattle.gx_operations.proofs.SaidLemmas.{Answers, answers_of, said_by, line_said, finished_due}
 use Rattle.gx_play.proofs.FullLemmas.{full_by_state}
@@ -194,9 +193,6 @@ module _ (g : Given) (device : List ℕ) (start : State) (old : Content)
         let k = reads held.0 held.1 in
         (k.0, devices_same mid new same device ∙ k.1, hold_alike g start held.0 k.0 k.2 held.2)
 
-    others_kept : KeepsOthers device old new
-    others_kept other differ = devices_same mid new same other ∙ attaches.others other differ
-
     -- nothing was said, or a front of the line on memory
     unopened_crash : ((n : ℕ) → (k : ℕ) × (take n (ending_line w) ≡ take k memory_line))
         → CrashesOn device (IsRunImage g p old) old new
@@ -234,10 +230,7 @@ module _ (g : Given) (device : List ℕ) (start : State) (old : Content)
             said = ended.words.silent fault ∙ attaches.said ∙ sym (append-nil old.now.said);
           }));
           due = λ d is other. absurd (other out);
-          leaves = (
-            others_kept,
-            λ done. absurd (never (sym done ∙ out)),
-          );
+          leaves = λ done. absurd (never (sym done ∙ out));
           crashes = unopened_crash
               (λ n. (0, ap (λ (f : Ending). take n (ending_line f)) fault ∙ take_none n));
         }
@@ -312,7 +305,7 @@ module _ (g : Given) (device : List ℕ) (start : State) (old : Content)
         record {
           said = short_said s e;
           due = λ d is out. due_short (due_or_memory ending.NoMemory s e.due out);
-          leaves = (others_kept, λ done. absurd (not_done e done));
+          leaves = λ done. absurd (not_done e done);
           crashes = unopened_crash
               (λ n. (n, ap (λ (f : Ending). take n (ending_line f)) short));
         }
@@ -605,10 +598,6 @@ module _ (g : Given) (device : List ℕ) (start : State) (old : Content)
     run_kept play = record {
       said = play_said played played_as finished;
       due = play_due;
-      leaves = (
-        λ other differ. other_at opened.now new.now device other run.opens.named
-            (same.shelf ∙ run.shelf) differ ∙ run.attaches.others other differ,
-        play_heard played refl play finished,
-      );
+      leaves = play_heard played refl play finished;
       crashes = played_crash;
     }

@@ -10,11 +10,10 @@ use Rattle.gx_ports.specs.LeafMaps.{LeafMap, Limits}
 use Rattle.gx_schema.specs.declared.schema.Schema.{Schema}
 use Rattle.gx_schema.specs.Printing.{schema_text}
 use Rattle.gx_equation.specs.Printing.{equation_text}
-use Rattle.gx_commands.specs.declared.command.LineWhy.{LineWhy}
 use Rattle.gx_commands.specs.Lines.{script_lines}
 use Rattle.gx_types.specs.declared.built.Built.{Built}
 use Rattle.gx_model.specs.States.{State}
-use Rattle.gx_model.specs.Play.{stopped, start_at, end_text}
+use Rattle.gx_model.specs.Play.{End, start_at}
 use Rattle.gx_states.specs.Internal.{AreInternal}
 use Rattle.gx_store.specs.Crashes.{IsFirstOf, IsOpeningImage, Opens}
 use Rattle.gx_store.specs.Device.{IsHeadOf, IsSettled, Reopens, ground_on}
@@ -33,10 +32,11 @@ use Rattle.gx_play.specs.declared.status.Status.TheVariants as status
 use Rattle.gx_play.specs.Endings.{ending_line, status_of, device_line, is_fault, is_outside, unopened_ending, IsPlayEnding, IsEnded, IsFinished, EndsThrough, FinishesThrough}
 use Rattle.gx_play.specs.Images.{IsPlayImage}
 use Rattle.gx_play.specs.Plays.{IsPlayedAs}
+use Rattle.gx_play.specs.Readings.{EndsAs}
 use Rattle.gx_play.specs.Say.{SameDevices}
 use Rattle.gx_play.proofs.OverLemmas.{held_as}
 use Rattle.gx_operations.specs.Damage.{IsDamageBelow}
-use Rattle.gx_operations.specs.Given.{Given, under, HoldState, SettleState, IsHeldOn, KeepsOthers, limit_of}
+use Rattle.gx_operations.specs.Given.{Given, under, HoldState, SettleState, IsHeldOn, limit_of}
 use Rattle.gx_operations.specs.Held.{StoreState, StaysOn}
 use Rattle.gx_operations.specs.Promises.{IsKept, IsSaid}
 use Rattle.gx_operations.specs.Runs.{RunsOn, runs_unheld, UnheldSays, script_play}
@@ -44,10 +44,9 @@ use Rattle.gx_operations.specs.Settled.{IsSettledIn}
 use Rattle.gx_operations.specs.Wrong.{IsDamageLine}
 use Rattle.gx_operations.proofs.CrashLemmas.{reads_now, leaves_weaker}
 use Rattle.gx_operations.proofs.GivenLemmas.{internal_of, internal_in}
-use Rattle.gx_operations.proofs.NameLemmas.{other_at}
 use Rattle.gx_operations.proofs.RunHeldLemmas.{IsPlayedOn, run_kept, unopened_failed, unopened_short, outside_or, no_fault, stop_undone}
 use Rattle.gx_operations.proofs.SaidLemmas.{said_by, line_said}
-use Rattle.gx_operations.proofs.WrongLemmas.{IsTried, tried_others, opened_right, opened_short, wrong_kept}
+use Rattle.gx_operations.proofs.WrongLemmas.{IsTried, opened_right, opened_short, wrong_kept}
 
 -- ---- it holds no state
 
@@ -70,55 +69,51 @@ finished_script : (r : Result (Unit {0}) Ending) (mid new : Content) (s : Status
 finished_script (Ok x) mid new s ends = ap (λ (c : Content). c.script) ends.1
 finished_script (Err w) mid new s ends = ends.words.script
 
-module _ (g : Given) (device : List ℕ) (Bad : List ℕ → Type 0) (old mid new : Content) (s : Status)
+module _ (g : Given) (device : List ℕ) (Ends : End → Type 0) (old mid new : Content) (s : Status)
     (begins : IsPrefix old.now.said mid.now.said) where
   -- the line that comes behind what was said of the script
   behind_says : (w : Ending) → IsPlayEnding w → is_outside w ≡ false
       → ((block : ℕ) → w ≡ ending.Device (device_why.Damaged block)
       → IsDamageLine device old (ending_line w))
-      → ((number : ℕ) (why : LineWhy) → w ≡ ending.Line number why
-      → Bad (end_text (stopped number why)))
-      → UnheldSays device old Bad (status_of w) begins.0 (ending_line w) new
-  behind_says (ending.Line number why) play calm damaged bad = bad number why refl
-  behind_says ending.Fault play calm damaged bad = absurd (no_fault ending.Fault calm refl)
-  behind_says ending.NoMemory play calm damaged bad = refl
-  behind_says ending.Full play calm damaged bad = refl
-  behind_says (ending.Device (device_why.Damaged block)) play calm damaged bad = damaged block refl
-  behind_says (ending.Device device_why.Missing) play calm damaged bad = absurd play
-  behind_says (ending.Device device_why.Exists) play calm damaged bad = absurd play
-  behind_says (ending.Device device_why.Size) play calm damaged bad = absurd play
-  behind_says (ending.Device device_why.NoDatabase) play calm damaged bad = absurd play
-  behind_says (ending.Device (device_why.OtherEquation place)) play calm damaged bad = absurd play
-  behind_says ending.Words play calm damaged bad = absurd play
-  behind_says (ending.Missing name) play calm damaged bad = absurd play
-  behind_says (ending.TooLong name) play calm damaged bad = absurd play
-  behind_says (ending.Schema line why) play calm damaged bad = absurd play
-  behind_says (ending.Equation line why) play calm damaged bad = absurd play
-  behind_says (ending.Type line why) play calm damaged bad = absurd play
-  behind_says ending.TextsTooLong play calm damaged bad = absurd play
-  behind_says (ending.Accepted summary) play calm damaged bad = absurd play
-  behind_says (ending.Made blocks pages) play calm damaged bad = absurd play
+      → EndsAs Ends (Err w) → UnheldSays device old Ends (status_of w) begins.0 (ending_line w) new
+  behind_says (ending.Line number why) play calm damaged reads = (number, why, reads, refl)
+  behind_says ending.Fault play calm damaged reads = absurd (no_fault ending.Fault calm refl)
+  behind_says ending.NoMemory play calm damaged reads = refl
+  behind_says ending.Full play calm damaged reads = refl
+  behind_says (ending.Device (device_why.Damaged block)) play calm damaged reads = damaged block refl
+  behind_says (ending.Device device_why.Missing) play calm damaged reads = absurd play
+  behind_says (ending.Device device_why.Exists) play calm damaged reads = absurd play
+  behind_says (ending.Device device_why.Size) play calm damaged reads = absurd play
+  behind_says (ending.Device device_why.NoDatabase) play calm damaged reads = absurd play
+  behind_says (ending.Device (device_why.OtherEquation place)) play calm damaged reads = absurd play
+  behind_says ending.Words play calm damaged reads = absurd play
+  behind_says (ending.Missing name) play calm damaged reads = absurd play
+  behind_says (ending.TooLong name) play calm damaged reads = absurd play
+  behind_says (ending.Schema line why) play calm damaged reads = absurd play
+  behind_says (ending.Equation line why) play calm damaged reads = absurd play
+  behind_says (ending.Type line why) play calm damaged reads = absurd play
+  behind_says ending.TextsTooLong play calm damaged reads = absurd play
+  behind_says (ending.Accepted summary) play calm damaged reads = absurd play
+  behind_says (ending.Made blocks pages) play calm damaged reads = absurd play
 
   unheld_said : (r : Result (Unit {0}) Ending) → IfErr r IsPlayEnding
       → ((block : ℕ) → r ≡ Err (ending.Device (device_why.Damaged block))
       → IsDamageLine device old (device_line (device_why.Damaged block)))
-      → ((number : ℕ) (why : LineWhy) → r ≡ Err (ending.Line number why)
-      → Bad (end_text (stopped number why)))
-      → IsFinished r mid new s → IsSaid (runs_unheld device Bad old) old new s
-  unheld_said (Ok x) play damaged bad ends =
-      subst (IsSaid (runs_unheld device Bad old) old new) (sym ends.0) (record {
+      → EndsAs Ends r → IsFinished r mid new s → IsSaid (runs_unheld device Ends old) old new s
+  unheld_said (Ok x) play damaged reads ends =
+      subst (IsSaid (runs_unheld device Ends old) old new) (sym ends.0) (record {
         whole = begins.0;
         last = [];
-        says = refl;
+        says = (reads, refl);
         said = ap (λ (c : Content). c.now.said) ends.1 ∙ begins.1
             ∙ ap (λ t. old.now.said ++ t) (sym (append-nil begins.0));
       })
-  unheld_said (Err w) play damaged bad ends = by_fault (outside_or w)
+  unheld_said (Err w) play damaged reads ends = by_fault (outside_or w)
     where
       by_fault : (w ≡ ending.Fault) ⊎ (is_outside w ≡ false)
-          → IsSaid (runs_unheld device Bad old) old new s
+          → IsSaid (runs_unheld device Ends old) old new s
       by_fault (inl fault) =
-          said_by (runs_unheld device Bad old) old new s
+          said_by (runs_unheld device Ends old) old new s
           (λ other. absurd (other (ends.due.fault fault)))
           (λ is. inr (record {
             told = begins.0;
@@ -126,27 +121,21 @@ module _ (g : Given) (device : List ℕ) (Bad : List ℕ → Type 0) (old mid ne
             said = ends.words.silent fault ∙ begins.1;
           }))
       by_fault (inr calm) =
-          line_said (runs_unheld device Bad old) w old mid new begins.0 begins.1
+          line_said (runs_unheld device Ends old) w old mid new begins.0 begins.1
           (behind_says w play calm
           (λ block is. subst (λ f. IsDamageLine device old (ending_line f)) (sym is)
-          (damaged block (ap Err is)))
-          (λ number why is. bad number why (ap Err is))) refl s ends
+          (damaged block (ap Err is))) reads) refl s ends
 
   pub unheld_kept : (r : Result (Unit {0}) Ending) → IfErr r IsPlayEnding
       → ((block : ℕ) → r ≡ Err (ending.Device (device_why.Damaged block))
       → IsDamageLine device old (device_line (device_why.Damaged block)))
-      → ((number : ℕ) (why : LineWhy) → r ≡ Err (ending.Line number why)
-      → Bad (end_text (stopped number why)))
-      → (r ≡ Ok tt → mid.script ≡ []) → KeepsOthers device old new → IsFinished r mid new s
-      → IsKept (runs_unheld device Bad old) old new s
-  unheld_kept r play damaged bad heard others ends = record {
-    said = unheld_said r play damaged bad ends;
+      → EndsAs Ends r → (r ≡ Ok tt → mid.script ≡ []) → IsFinished r mid new s
+      → IsKept (runs_unheld device Ends old) old new s
+  unheld_kept r play damaged reads heard ends = record {
+    said = unheld_said r play damaged reads ends;
     due = λ d is out. absurd is;
-    leaves = (
-      others,
-      λ done. finished_script r mid new s ends
-          ∙ heard (finished_done r mid new s play ends done),
-    );
+    leaves = λ done. finished_script r mid new s ends
+        ∙ heard (finished_done r mid new s play ends done);
     crashes = tt;
   }
 
@@ -165,11 +154,11 @@ held_opened g device old start held = (
   },
 )
 
-pub run_unopened : (g : Given) (device : List ℕ) (Bad : List ℕ → Type 0) (old mid new : Content)
+pub run_unopened : (g : Given) (device : List ℕ) (Ends : End → Type 0) (old mid new : Content)
     (e : Unopened) (s : Status) → IsTried g device old mid e → SameDevices mid new
     → IsEnded (unopened_ending e) mid new s → EndsThrough (unopened_ending e) mid new
-    → RunsOn g device (script_play g old.script) Bad old new s
-run_unopened g device Bad old mid new e s t same ended moments = record {
+    → RunsOn g device (script_play g old.script) Ends old new s
+run_unopened g device Ends old mid new e s t same ended moments = record {
   wrong = wrong_kept g device old mid new e s t same ended moments;
   held = λ start held. elim (opened_short g device old e t.unopened
       (held_opened g device old start held)) [
@@ -185,14 +174,11 @@ run_unopened g device Bad old mid new e s t same ended moments = record {
     begins = ([], t.attaches.said ∙ sym (append-nil old.now.said))
 
     by : (w : Ending) → unopened_ending e ≡ w → IsPlayEnding w
-        → ((block : ℕ) → w ≡ ending.Device (device_why.Damaged block) → ⊥)
-        → ((number : ℕ) (why : LineWhy) → w ≡ ending.Line number why → ⊥)
-        → IsKept (runs_unheld device Bad old) old new s
-    by w is play undamaged no_line =
-        unheld_kept g device Bad old mid new s begins (Err w) play
-        (λ block so. absurd (undamaged block (one_error so)))
-        (λ number why so. absurd (no_line number why (one_error so)))
-        (λ so. absurd (never so)) (tried_others g device old mid new e s t same)
+        → ((block : ℕ) → w ≡ ending.Device (device_why.Damaged block) → ⊥) → EndsAs Ends (Err w)
+        → IsKept (runs_unheld device Ends old) old new s
+    by w is play undamaged reads =
+        unheld_kept g device Ends old mid new s begins (Err w) play
+        (λ block so. absurd (undamaged block (one_error so))) reads (λ so. absurd (never so))
         (subst (λ f. IsEnded f mid new s) is ended)
       where
         never : ◌≡◌ {A = Result (Unit {0}) Ending} (Err w) (Ok tt) → ⊥
@@ -202,10 +188,9 @@ run_unopened g device Bad old mid new e s t same ended moments = record {
         one_error f = cc
 
     unheld : (e ≡ unopened.Fault) ⊎ (e ≡ unopened.NoMemory)
-        → IsKept (runs_unheld device Bad old) old new s
-    unheld (inl is) = by ending.Fault (ap unopened_ending is) tt (λ block f. cc) (λ number why f. cc)
-    unheld (inr is) =
-        by ending.NoMemory (ap unopened_ending is) tt (λ block f. cc) (λ number why f. cc)
+        → IsKept (runs_unheld device Ends old) old new s
+    unheld (inl is) = by ending.Fault (ap unopened_ending is) tt (λ block f. cc) tt
+    unheld (inr is) = by ending.NoMemory (ap unopened_ending is) tt (λ block f. cc) tt
 
 -- ---- it is opened
 
@@ -233,7 +218,7 @@ of_under g schema equation specs of P is =
 
 -- What opening the device gave, and how the script was played on it. It speaks of what was before,
 -- `old`, of the machine with the device, `opened`, and of that after it was closed, `mid`.
-pub record IsRunOn (g : Given) (device : List ℕ) (Bad : List ℕ → Type 0) (schema : Schema)
+pub record IsRunOn (g : Given) (device : List ℕ) (Ends : End → Type 0) (schema : Schema)
     (built : Built) (schema_text equation_text : List ℕ) (specs : List LeafSpec) (head : Head)
     (limit : Limits) (Holds : List LeafMap → Type 0) (old opened mid : Content)
     (played : Result (Unit {0}) Ending) : Type 0 where
@@ -260,17 +245,16 @@ pub record IsRunOn (g : Given) (device : List ℕ) (Bad : List ℕ → Type 0) (
       → LeavesOnly (IsPlayImage schema (StoreState schema built head) answers.Said (start_at s)
       (script_lines opened.script).lines opened.now) opened mid
   pub heard : played ≡ Ok tt → mid.script ≡ []
-  pub bad : (number : ℕ) (why : LineWhy) → played ≡ Err (ending.Line number why)
-      → Bad (end_text (stopped number why))
+  pub reads : EndsAs Ends played
   pub stays : StaysOn opened mid
   pub play : IfErr played IsPlayEnding
   pub damage : IfErr played (IsDamageBelow (length mid.now.blocks))
 
-module _ (g : Given) (device : List ℕ) (Bad : List ℕ → Type 0) (schema : Schema)
+module _ (g : Given) (device : List ℕ) (Ends : End → Type 0) (schema : Schema)
     (built : Built) (schema_text equation_text : List ℕ) (specs : List LeafSpec) (head : Head)
     (limit : Limits) (Holds : List LeafMap → Type 0) (old opened mid : Content)
     (played : Result (Unit {0}) Ending)
-    (r : IsRunOn g device Bad schema built schema_text equation_text specs head limit Holds old
+    (r : IsRunOn g device Ends schema built schema_text equation_text specs head limit Holds old
     opened mid played) where
   -- what the blocks of the store hold is held
   state_held : (s : State) (blocks : List (List ℕ)) → StoreState schema built head s blocks
@@ -389,20 +373,15 @@ module _ (g : Given) (device : List ℕ) (Bad : List ℕ → Type 0) (schema : S
   begins : IsPrefix old.now.said mid.now.said
   begins = (r.stays.begins.0, r.stays.begins.1 ∙ ap (λ t. t ++ r.stays.begins.0) r.attaches.said)
 
-  others : (new : Content) → SameDevices mid new → KeepsOthers device old new
-  others new same other differ =
-      other_at opened.now new.now device other r.opens.named (same.shelf ∙ r.stays.shelf) differ
-      ∙ r.attaches.others other differ
-
   pub run_opened : (new : Content) (s : Status) → SameDevices mid new
       → IsFinished played mid new s → FinishesThrough played mid new
-      → RunsOn g device (script_play g old.script) Bad old new s
+      → RunsOn g device (script_play g old.script) Ends old new s
   run_opened new s same finished moments = record {
     wrong = λ why w. absurd (opened_right g device old why right w);
     held = λ start held. run_kept g device start old held opened mid new played s
         (played_on start held) same finished moments r.play;
-    unheld = λ none. unheld_kept g device Bad old mid new s begins played r.play
+    unheld = λ none. unheld_kept g device Ends old mid new s begins played r.play
         (λ block is. damage_line block
         (subst (λ (q : Result (Unit {0}) Ending). IfErr q (IsDamageBelow (length mid.now.blocks))) is
-        r.damage)) r.bad r.heard (others new same) finished;
+        r.damage)) r.reads r.heard finished;
   }

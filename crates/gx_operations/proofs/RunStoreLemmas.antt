@@ -1,5 +1,5 @@
 -- A script that is played on a store: what a crash leaves, and what the play keeps.
-use Rattle.std.proofs.Common.{◌≡◌, ◌∙◌, inl, inr, ℕ, Bool, false, List, length, Option, Result, Err, sym, subst}
+use Rattle.std.proofs.Common.{◌≡◌, ℕ, Bool, false, List, length, Option, Result, Err, subst}
 use Rattle.gx_device.specs.declared.device.Device as device
 use Rattle.gx_device.specs.Crash.{EachImage, LeavesOnly}
 use Rattle.gx_ports.specs.declared.pages.Place.{Place}
@@ -7,7 +7,6 @@ use Rattle.gx_ports.specs.declared.view.View.{Ghosts}
 use Rattle.gx_ports.specs.Heads.{Head}
 use Rattle.gx_ports.specs.LeafMaps.{LeafMap, Limits}
 use Rattle.gx_schema.specs.declared.schema.Schema.{Schema}
-use Rattle.gx_commands.specs.declared.command.LineWhy.{LineWhy}
 use Rattle.gx_journal.specs.declared.journal.Journal.{Journal}
 use Rattle.gx_journal.specs.Journal.{IsCalm, content_of, device_of}
 use Rattle.gx_pages.specs.Laws.{calm_stands}
@@ -20,9 +19,7 @@ use Rattle.gx_model.specs.States.{State}
 use Rattle.gx_model.specs.Play.{start_at}
 use Rattle.gx_states.specs.Internal.{AreInternal}
 use Rattle.gx_engine.specs.Crashes.{HoldsState}
-use Rattle.gx_play.specs.declared.ending.DeviceWhy.TheVariants as device_why
 use Rattle.gx_play.specs.declared.ending.Ending.{Ending}
-use Rattle.gx_play.specs.declared.ending.Ending.TheVariants as ending
 use Rattle.gx_play.specs.declared.play.Answers.TheVariants as answers
 use Rattle.gx_play.specs.Endings.{is_outside, is_fault}
 use Rattle.gx_play.specs.Images.{IsPlayImage, LeavesPlay}
@@ -134,15 +131,3 @@ module _ (schema : Schema) (built : Built) (limit : Option Limits) (start : Stat
   store_stopped why other same of =
       damage_played schema built limit start Settled Stored script before now why other of
       (subst After same after)
-
--- a line of the script is told in no block
-pub line_before : (why other : Ending) (number : ℕ) (reason : LineWhy) → IsDamageOf why other
-    → other ≡ ending.Line number reason → why ≡ ending.Line number reason
-line_before why other number reason (inl same) is = sym same ∙ is
-line_before why other number reason (inr (block, to, was, now)) is = absurd (never (sym now ∙ is))
-  where
-    never : ending.Device (device_why.Damaged to) ≡ ending.Line number reason → ⊥
-    never f = cc
-
-pub same_error : (v w : Ending) → ◌≡◌ {A = Result (Unit {0}) Ending} (Err v) (Err w) → v ≡ w
-same_error v w is = cc

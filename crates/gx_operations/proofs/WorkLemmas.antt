@@ -46,7 +46,7 @@ use Rattle.gx_operations.proofs.CrashLemmas.{reads_now, leaves_weaker, leaves_bo
 use Rattle.gx_operations.proofs.EndedLemmas.{devices_same, ended_due, ended_said}
 use Rattle.gx_play.proofs.FullLemmas.{full_by_state}
 use Rattle.gx_operations.proofs.GivenLemmas.{under_given, hold_given, settle_given}
-use Rattle.gx_operations.proofs.MakeLemmas.{not_both, unmade_kept}
+use Rattle.gx_operations.proofs.MakeLemmas.{none_there, not_both, unmade_kept}
 
 -- ---- the plays
 
@@ -150,10 +150,6 @@ module _ (g : Given) (x : Stored) (of : IsStoredAs g x) (is_work : x.schema ≡ 
       image.blocks) same (each image is)) internal
 
 -- ---- the line
-
--- no device is both there and not
-none_there : (blocks : List (List ℕ)) → ◌≡◌ {A = Option (List (List ℕ))} None (Some blocks) → ⊥
-none_there blocks wrong = cc
 
 -- a front of the line of want of memory, or of a full device, isn't a summary
 no_summary : (n records : ℕ) (m : Playing) → ◌≡◌ {A = List ℕ} (take n []) (work_text records m) → ⊥
@@ -472,7 +468,6 @@ module _ (g : Given) (x : Stored) (of : IsStoredAs g x) (is_work : x.schema ≡ 
       work_leaves : (script : new.script ≡ mid.script)
           → (works_on g device count records old).Leaves new status.Done
       work_leaves script = (
-        λ other differ. devices_same mid new devices other ∙ attaches.others other differ,
         script ∙ attaches.script,
         left_first through free,
       )

@@ -28,7 +28,7 @@ use Rattle.gx_play.specs.declared.status.Status.TheVariants as status
 use Rattle.gx_play.specs.Endings.{device_line, memory_line, status_of, unopened_ending, IsEnded, IsStatusFor, EndsThrough}
 use Rattle.gx_play.specs.Say.{SameDevices, IsCut}
 use Rattle.gx_operations.specs.Crashes.{IsUnchanged, CrashesOn, ReadsAsAttached}
-use Rattle.gx_operations.specs.Given.{Given, under, KeepsOthers, KeepsAbsent}
+use Rattle.gx_operations.specs.Given.{Given, under, KeepsAbsent}
 use Rattle.gx_operations.specs.Promises.{Promise, IsKept, IsSaid}
 use Rattle.gx_operations.specs.Wrong.{IsWrong, StaysWrong, IsSettledWrong, finds_wrong}
 use Rattle.gx_operations.proofs.CrashLemmas.{ends_idle, unopened_idle, unattached_idle, opens_refused}
@@ -233,9 +233,6 @@ module _ (g : Given) (device : List ℕ) (old mid new : Content) (e : Unopened) 
   now_there : (name : List ℕ) → device_at new.now name ≡ device_at mid.now name
   now_there name = same_device_at mid.now new.now name same.blocks same.shelf
 
-  pub tried_others : KeepsOthers device old new
-  tried_others other differ = now_there other ∙ t.attaches.others other differ
-
   pub tried_absent : KeepsAbsent device old new
   tried_absent none = now_there device ∙ t.absent none
 
@@ -435,7 +432,6 @@ wrong_kept g device old mid new e s t same ended moments why w =
       said = said answers;
       due = λ d is out. due answers d is out;
       leaves = (
-        tried_others g device old mid new e s t same,
         tried_absent g device old mid new e s t same,
         tried_script g device old mid new e s t same ended moments,
       );

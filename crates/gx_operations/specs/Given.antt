@@ -1,5 +1,5 @@
 -- What the requests share: what accepted texts mean, and what a device holds of them.
-use Rattle.std.specs.Prelude.{◌≡◌, ◌≢◌, ℕ, List, length, None}
+use Rattle.std.specs.Prelude.{◌≡◌, ℕ, List, length, None}
 use Rattle.gx_device.specs.Content.{Content, Texts, device_at}
 use Rattle.gx_ports.specs.declared.kinds.LeafSpec.{LeafSpec}
 use Rattle.gx_ports.specs.LeafMaps.{LeafMap, Limits}
@@ -68,10 +68,18 @@ pub record IsStoredAs (g : Given) (x : Stored) : Type 0 where
   pub schema_text : x.schema_text ≡ schema_text g.schema
   pub equation_text : x.equation_text ≡ equation_text g.definitions
 
--- those of other names are as they were
+-- The texts of a machine are as they were, and so is each device but those of such names.
+pub record KeepsBut (Names : List ℕ → Type 0) (old new : Content) : Type 0 where
+  pub aside : new.aside ≡ old.aside
+  pub others : (other : List ℕ) → ¬ Names other
+      → device_at new.now other ≡ device_at old.now other
+
+-- the texts are, and all devices; and all but the one of that name
+abbrev pub KeepsAll : Content → Content → Type 0
+KeepsAll = KeepsBut (λ other. ⊥)
+
 abbrev pub KeepsOthers : List ℕ → Content → Content → Type 0
-KeepsOthers device old new = (other : List ℕ) → other ≢ device
-    → device_at new.now other ≡ device_at old.now other
+KeepsOthers device = KeepsBut (λ other. other ≡ device)
 
 -- that of the name is
 abbrev pub KeepsNamed : List ℕ → Content → Content → Type 0

@@ -19,8 +19,10 @@ pub record StoreState (schema : Schema) (built : Built) (head : Head) (s : State
   pub is : StandsFor PagesStandFor head maps blocks
   pub laid : IsLaid PagesStandFor head blocks
 
--- what was said before stays, in front; the same device is attached, with as many blocks
+-- what was said before stays, in front, and so do the texts; the same device is attached, with as
+-- many blocks
 pub record StaysOn (old new : Content) : Type 0 where
   pub begins : IsPrefix old.now.said new.now.said
   pub shelf : new.now.shelf ≡ old.now.shelf
+  pub aside : new.aside ≡ old.aside
   pub count : length new.now.blocks ≡ length old.now.blocks

@@ -11,7 +11,7 @@ use Rattle.gx_play.specs.declared.ending.DeviceWhy.{DeviceWhy}
 use Rattle.gx_play.specs.declared.status.Status.{Status}
 use Rattle.gx_play.specs.declared.status.Status.TheVariants as status
 use Rattle.gx_play.specs.Endings.{memory_line}
-use Rattle.gx_operations.specs.Given.{Given, under, HoldState, IsHeldOn, SettleState, IsStateless, KeepsOthers}
+use Rattle.gx_operations.specs.Given.{Given, under, HoldState, IsHeldOn, SettleState, IsStateless}
 use Rattle.gx_operations.specs.Promises.{Promise, IsKept, IsLine, no_break}
 use Rattle.gx_operations.specs.Crashes.{CrashesOn, IsAsAttached}
 use Rattle.gx_operations.specs.Wrong.{IsWrong, IsDamageLine, finds_wrong}
@@ -40,8 +40,7 @@ inspects_sound g device s old = record {
   Says = SoundSays g device s;
   Breaks = no_break;
   Due = λ s. s ≡ status.Done;
-  Leaves = λ new s'. KeepsOthers device old new × IsHeldOn g device s new
-      × (new.script ≡ old.script);
+  Leaves = λ new s'. IsHeldOn g device s new × (new.script ≡ old.script);
   Crashes = CrashesOn device (IsSoundImage g s) old;
 }
 
@@ -72,8 +71,7 @@ inspects_unsound g device old = record {
   Says = UnsoundSays device old;
   Breaks = no_break;
   Due = λ s. s ≡ status.Device;
-  Leaves = λ new s. KeepsOthers device old new × StaysUnsound g device old new
-      × (new.script ≡ old.script);
+  Leaves = λ new s. StaysUnsound g device old new × (new.script ≡ old.script);
   Crashes = CrashesOn device (IsUnsoundImage g) old;
 }
 

@@ -11,7 +11,7 @@ use Rattle.gx_play.specs.declared.status.Status.{Status}
 use Rattle.gx_play.specs.declared.status.Status.TheVariants as status
 use Rattle.gx_play.specs.Endings.{device_line, made_line, memory_line}
 use Rattle.gx_operations.specs.Making.{IsUnmakable}
-use Rattle.gx_operations.specs.Given.{Given, under, IsSettledOn, HoldState, KeepsOthers}
+use Rattle.gx_operations.specs.Given.{Given, under, IsSettledOn, HoldState}
 use Rattle.gx_operations.specs.Promises.{Promise, IsKept, IsLine, no_break}
 use Rattle.gx_operations.specs.Crashes.{IsUnchanged, CrashesOn}
 
@@ -51,8 +51,8 @@ IsNoneOrNew g count blocks = (length blocks ≡ count) × under g IsNoneOrEmpty 
 
 -- where there is one then, it is such a one
 abbrev pub LeavesNew : Given → List ℕ → ℕ → Content → Content → Type 0
-LeavesNew g device count old new = KeepsOthers device old new
-    × ((blocks : List (List ℕ)) → device_at new.now device ≡ Some blocks → IsNoneOrNew g count blocks)
+LeavesNew g device count old new =
+    ((blocks : List (List ℕ)) → device_at new.now device ≡ Some blocks → IsNoneOrNew g count blocks)
     × (new.script ≡ old.script)
 
 -- a crash leaves such a one, and once the line was said whole the empty database

@@ -1,17 +1,17 @@
--- `run`: the play of the script on a device, from the state that it holds. Any play serves: `share`
--- is the same of turns.
+-- `run`: the play of the script on a device, from the state that it holds. Any play serves.
 use Rattle.std.specs.Prelude.{◌≡◌, ◌⊎◌, ℕ, List, [], ◌++◌, take, Some}
 use Rattle.gx_device.specs.Content.{Content}
 use Rattle.gx_device.specs.Crash.{Image}
 use Rattle.gx_ports.specs.LeafMaps.{Limits}
-use Rattle.gx_model.specs.Play.{Playing}
+use Rattle.gx_commands.specs.declared.command.LineWhy.{LineWhy}
+use Rattle.gx_model.specs.Play.{Playing, End, good, stopped, end_text}
 use Rattle.gx_model.specs.States.{State}
 use Rattle.gx_play.specs.declared.ending.DeviceWhy.{DeviceWhy}
 use Rattle.gx_play.specs.declared.status.Status.{Status}
 use Rattle.gx_play.specs.declared.status.Status.TheVariants as status
 use Rattle.gx_play.specs.Endings.{memory_line, full_line}
 use Rattle.gx_play.specs.Player.{Play, IsDueOf, MayBeSaid, line_play}
-use Rattle.gx_operations.specs.Given.{Given, HoldState, IsHeldOn, IsSettledOn, IsStateless, limit_of, KeepsOthers}
+use Rattle.gx_operations.specs.Given.{Given, HoldState, IsHeldOn, IsSettledOn, IsStateless, limit_of}
 use Rattle.gx_operations.specs.Playing.{PlaySays, PlayBreaks}
 use Rattle.gx_operations.specs.Promises.{Promise, IsKept, IsLine}
 use Rattle.gx_operations.specs.Crashes.{CrashesOn, IsAsAttached}
@@ -42,42 +42,44 @@ runs_from g device start p old = record {
   Says = RunSays g device start p;
   Breaks = PlayBreaks p (IsHeldOn g device);
   Due = IsDueOf p;
-  Leaves = λ new s. KeepsOthers device old new × (s ≡ status.Done → new.script ≡ []);
+  Leaves = λ new s. s ≡ status.Done → new.script ≡ [];
   Crashes = CrashesOn device (IsRunImage g p old) old;
 }
 
 -- ---- it holds none
 
--- Behind what was said of the script comes the line of the damage, or of another end. A line of the
--- script that is said to be bad is the first one that is.
-abbrev pub UnheldSays : List ℕ → Content → (List ℕ → Type 0) → Status → List ℕ → List ℕ → Content
+-- Behind what was said of the script comes the line of the damage, or of another end. With Done and
+-- Script the script ends so, whatever state it is played from.
+abbrev pub UnheldSays : List ℕ → Content → (End → Type 0) → Status → List ℕ → List ℕ → Content
     → Type 0
-UnheldSays device old Bad status.Device answers line new = IsDamageLine device old line
-UnheldSays device old Bad status.Script answers line new = Bad line
-UnheldSays device old Bad status.Outside answers line new = ⊥
-UnheldSays device old Bad status.Refused answers line new = ⊥
-UnheldSays device old Bad status.Done answers line new = line ≡ []
-UnheldSays device old Bad status.Memory answers line new = line ≡ memory_line
-UnheldSays device old Bad status.Full answers line new = line ≡ full_line
+UnheldSays device old Ends status.Device answers line new = IsDamageLine device old line
+UnheldSays device old Ends status.Script answers line new =
+    (number : ℕ) × (why : LineWhy) × Ends (stopped number why)
+    × (line ≡ end_text (stopped number why))
+UnheldSays device old Ends status.Outside answers line new = ⊥
+UnheldSays device old Ends status.Refused answers line new = ⊥
+UnheldSays device old Ends status.Done answers line new = Ends good × (line ≡ [])
+UnheldSays device old Ends status.Memory answers line new = line ≡ memory_line
+UnheldSays device old Ends status.Full answers line new = line ≡ full_line
 
-abbrev pub runs_unheld : List ℕ → (List ℕ → Type 0) → Content → Promise
-runs_unheld device Bad old = record {
-  Says = UnheldSays device old Bad;
+abbrev pub runs_unheld : List ℕ → (End → Type 0) → Content → Promise
+runs_unheld device Ends old = record {
+  Says = UnheldSays device old Ends;
   Breaks = λ told new. Unit {0};
   Due = λ s. ⊥;
-  Leaves = λ new s. KeepsOthers device old new × (s ≡ status.Done → new.script ≡ []);
+  Leaves = λ new s. s ≡ status.Done → new.script ≡ [];
   Crashes = λ new. Unit {0};
 }
 
 -- ---- the request, with its play from each state
 
 pub record RunsOn {M : Type 0} (g : Given) (device : List ℕ) (plays : Limits → State → Play M)
-    (Bad : List ℕ → Type 0) (old new : Content) (s : Status) : Type 0 where
+    (Ends : End → Type 0) (old new : Content) (s : Status) : Type 0 where
   pub wrong : (why : DeviceWhy) → IsWrong g device old why
       → IsKept (finds_wrong g why device old) old new s
   pub held : (start : State) (is : IsHeldOn g device start old)
       → IsKept (runs_from g device start (plays (limit_of g is.0) start) old) old new s
-  pub unheld : IsStateless g device old → IsKept (runs_unheld device Bad old) old new s
+  pub unheld : IsStateless g device old → IsKept (runs_unheld device Ends old) old new s
 
 -- the lines of the script
 abbrev pub script_play : Given → List ℕ → Limits → State → Play Playing

@@ -15,7 +15,7 @@ use Rattle.gx_play.specs.Endings.{full_line, memory_line}
 use Rattle.gx_play.specs.Player.{Play, IsDueOf, line_play}
 use Rattle.gx_operations.specs.Settled.{limits_on}
 use Rattle.gx_operations.specs.Making.{IsUnmakable}
-use Rattle.gx_operations.specs.Given.{Given, under, HoldState, SettleState, KeepsOthers}
+use Rattle.gx_operations.specs.Given.{Given, under, HoldState, SettleState}
 use Rattle.gx_operations.specs.Promises.{Promise, IsKept, IsLine}
 use Rattle.gx_operations.specs.Crashes.{CrashesOn}
 use Rattle.gx_operations.specs.Makes.{makes_none}
@@ -62,7 +62,7 @@ works_on g device blocks records old = record {
   Says = WorkSays g device blocks records;
   Breaks = λ told new. told ≡ [];
   Due = IsDueOf (work_play g blocks records);
-  Leaves = λ new s. KeepsOthers device old new × (new.script ≡ old.script)
+  Leaves = λ new s. (new.script ≡ old.script)
       × ((b : List (List ℕ)) → device_at new.now device ≡ Some b
       → HoldsFirst g (work_play g blocks records) (HoldState g) b);
   Crashes = CrashesOn device (IsWorkImage g blocks records old) old;

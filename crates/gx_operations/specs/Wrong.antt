@@ -1,4 +1,4 @@
--- A device that isn't what was asked for, of `run`, `inspect` and `share`.
+-- A device that isn't what was asked for, of `run` and `inspect`.
 use Rattle.std.specs.Prelude.{◌≡◌, ◌<◌, ℕ, List, [], Some, length, false, get_or}
 use Rattle.gx_device.specs.Content.{Content, NonePending, device_at}
 use Rattle.gx_layout.specs.Layout.{is_open}
@@ -11,7 +11,7 @@ use Rattle.gx_play.specs.declared.ending.DeviceWhy.TheVariants as device_why
 use Rattle.gx_play.specs.declared.status.Status.{Status}
 use Rattle.gx_play.specs.declared.status.Status.TheVariants as status
 use Rattle.gx_play.specs.Endings.{device_line, memory_line}
-use Rattle.gx_operations.specs.Given.{Given, under, KeepsOthers, KeepsNamed, KeepsAbsent}
+use Rattle.gx_operations.specs.Given.{Given, under, KeepsNamed, KeepsAbsent}
 use Rattle.gx_operations.specs.Promises.{Promise, IsLine}
 use Rattle.gx_operations.specs.Crashes.{IsUnchanged, CrashesOn, ReadsAsAttached}
 
@@ -61,8 +61,7 @@ finds_wrong g why device old = record {
   Says = WrongSays why device old;
   Breaks = WrongBreaks device old;
   Due = λ s. s ≡ status.Device;
-  Leaves = λ new s. KeepsOthers device old new × KeepsAbsent device old new
-      × (new.script ≡ old.script);
+  Leaves = λ new s. KeepsAbsent device old new × (new.script ≡ old.script);
   Crashes = CrashesOn device ReadsAsAttached old;
 }
 

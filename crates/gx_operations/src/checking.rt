@@ -2,7 +2,7 @@
 ghost use Rattle.std.specs.Prelude.{◌≡◌, ◌≤◌, length, IsTrue};
 ghost use Rattle.gx_ports.specs.declared.kinds.TheConstants.{MAX_LEAVES};
 ghost use Rattle.gx_play.specs.Endings.{CountsOutside};
-ghost use Rattle.gx_operations.specs.Given.{Given};
+ghost use Rattle.gx_operations.specs.Given.{Given, KeepsAll};
 ghost use Rattle.gx_operations.specs.Promises.{IsKept};
 ghost use Rattle.gx_operations.specs.Checks.{checks};
 
@@ -17,6 +17,7 @@ pub fn check<M: Machine>(alloc: Global, specs: &Specs, machine: &mut M) -> Statu
     ensures promised { IsTrue M.tells → (g : Given) → g.typing.specs ≡ specs.now →
         IsKept (checks g (M.content machine.old)) (M.content machine.old) (M.content machine.new)
         result }
+    ensures keeps { KeepsAll (M.content machine.old) (M.content machine.new) }
     ensures failures { CountsOutside (M.faults machine.old) (M.faults machine.new) result }
 {
     let summary = summarize(specs);

@@ -3,7 +3,7 @@ ghost use Rattle.std.specs.Prelude.{◌≡◌, IsTrue};
 ghost use Rattle.gx_states.specs.Built.{IsBuiltOf};
 ghost use Rattle.gx_play.specs.Endings.{CountsOutside};
 ghost use Rattle.gx_requests.specs.Checked.{CanPlay};
-ghost use Rattle.gx_operations.specs.Given.{Given};
+ghost use Rattle.gx_operations.specs.Given.{Given, KeepsAll};
 ghost use Rattle.gx_operations.specs.Promises.{IsKept};
 ghost use Rattle.gx_operations.specs.Explains.{explains};
 
@@ -22,6 +22,7 @@ pub fn explain<M: Machine>(alloc: Global, schema: &Schema, built: &Built, machin
         IsBuiltOf g.schema g.definitions built.now →
         IsKept (explains g (M.content machine.old)) (M.content machine.old) (M.content machine.new)
         result }
+    ensures keeps { KeepsAll (M.content machine.old) (M.content machine.new) }
     ensures failures { CountsOutside (M.faults machine.old) (M.faults machine.new) result }
 {
     explain_script(alloc, schema, built, machine)

@@ -1,9 +1,8 @@
 // The request to inspect a device.
-ghost use Rattle.std.specs.Prelude.{◌≡◌};
 ghost use Rattle.gx_store.specs.Store.{CanAttach};
 ghost use Rattle.gx_play.specs.Endings.{CountsOutside};
 ghost use Rattle.gx_requests.specs.Checked.{IsStored};
-ghost use Rattle.gx_operations.specs.Given.{Given, IsStoredAs};
+ghost use Rattle.gx_operations.specs.Given.{Given, IsStoredAs, KeepsOthers};
 ghost use Rattle.gx_operations.specs.Inspects.{InspectsOn};
 
 use crate::examine::examine_store;
@@ -18,7 +17,7 @@ use std::alloc::Global;
 /// than was asked for. One that holds no valid state is damaged, in a block that it has. Whatever
 /// the status is, the device reads as it did, and a crash leaves what it could have left when the
 /// device was attached, or what reads as the device did then. After `sound` it is settled with its
-/// state. No script is heard, no device is made, and devices of other names stay.
+/// state. No script is heard, no device is made, and the texts and devices of other names stay.
 pub fn inspect<M: Machine + Drop>(
     alloc: Global,
     stored: Stored,
@@ -28,8 +27,8 @@ pub fn inspect<M: Machine + Drop>(
     requires { IsStored stored }
     ensures promised { CanAttach M.tells (M.content machine) → (g : Given) → IsStoredAs g stored →
         InspectsOn g device.now (M.content machine) (M.content result.1) result.0 }
-    ensures aside { CanAttach M.tells (M.content machine) →
-        (M.content result.1).aside ≡ (M.content machine).aside }
+    ensures keeps { CanAttach M.tells (M.content machine) →
+        KeepsOthers device.now (M.content machine) (M.content result.1) }
     ensures failures { CountsOutside (M.faults machine) (M.faults result.1) result.0 }
 {
     let Stored {

@@ -3,7 +3,7 @@ ghost use Rattle.std.specs.Prelude.{◌≡◌};
 ghost use Rattle.gx_store.specs.Store.{CanAttach};
 ghost use Rattle.gx_requests.specs.Checked.{IsStored};
 ghost use Rattle.gx_play.specs.Endings.{CountsOutside};
-ghost use Rattle.gx_operations.specs.Given.{Given, IsStoredAs};
+ghost use Rattle.gx_operations.specs.Given.{Given, IsStoredAs, KeepsOthers};
 ghost use Rattle.gx_operations.specs.Makes.{MakesOn};
 ghost use Rattle.gx_operations.specs.Making.{making_ending};
 
@@ -30,6 +30,8 @@ pub fn make<M: Machine + Drop>(
     ensures promised { CanAttach M.tells (M.content machine) → (g : Given) →
         IsStoredAs g stored → MakesOn g device.now blocks (M.content machine)
         (M.content result.1) result.0 }
+    ensures keeps { CanAttach M.tells (M.content machine) →
+        KeepsOthers device.now (M.content machine) (M.content result.1) }
     ensures failures { CountsOutside (M.faults machine) (M.faults result.1) result.0 }
 {
     let (made, mut machine) = make_leaves(

@@ -2,6 +2,7 @@
 ghost use Rattle.std.specs.Prelude.{◌≡◌, ◌≢◌, ◌≤◌, ◌⊎◌, IsTrue};
 ghost use Rattle.gx_device.specs.Faults.{Rose};
 ghost use Rattle.gx_play.specs.Endings.{status_of};
+ghost use Rattle.gx_operations.specs.Given.{KeepsAll};
 ghost use Rattle.gx_operations.specs.GivenUp.{GivesUp};
 ghost use Rattle.gx_operations.specs.Promises.{IsKept};
 ghost use Rattle.gx_operations.specs.Refuses.{refuses};
@@ -19,6 +20,7 @@ pub fn refuse<M: Machine>(alloc: Global, ending: Ending<'_>, machine: M) -> (Sta
     ensures given_up { IsTrue M.tells →
         (ending.entry ≡ Ending.Fault) ⊎ (ending.entry ≡ Ending.NoMemory) →
         GivesUp (M.content machine) (M.content result.1) result.0 }
+    ensures keeps { KeepsAll (M.content machine) (M.content result.1) }
     ensures outside { result.0 ≡ Status.Outside →
         (ending.entry ≡ Ending.Fault) ⊎ Rose (M.faults machine) (M.faults result.1) }
     ensures fault { ending.entry ≡ Ending.Fault → result.0 ≡ Status.Outside }

@@ -4,7 +4,6 @@ ghost use Rattle.gx_device.specs.Crash.{EachImage, LeavesOnly};
 ghost use Rattle.gx_ports.specs.LeafMaps.{LeafMap};
 ghost use Rattle.gx_schema.specs.WellFormed.{IsWellFormed};
 ghost use Rattle.gx_commands.specs.Lines.{script_lines};
-ghost use Rattle.gx_commands.specs.declared.command.LineWhy.{LineWhy};
 ghost use Rattle.gx_leaves.specs.Wholeness.{limits_of};
 ghost use Rattle.gx_leaves.specs.Paged.{pages_of, places_in, working_of, head_of};
 ghost use Rattle.gx_leaves.specs.Places.{specs_of};
@@ -14,15 +13,16 @@ ghost use Rattle.gx_pages.specs.View.{journal_of};
 ghost use Rattle.gx_store.specs.Device.{IsHeadOf};
 ghost use Rattle.gx_store.specs.Store.{CanAttach, HoldsMaps, machine_of};
 ghost use Rattle.gx_model.specs.States.{State};
-ghost use Rattle.gx_model.specs.Play.{start_at, stopped, end_text};
+ghost use Rattle.gx_model.specs.Play.{start_at};
 ghost use Rattle.gx_states.specs.Internal.{AreInternal, AreFor};
-ghost use Rattle.gx_play.specs.BadLines.{IsBadEnd};
+ghost use Rattle.gx_play.specs.ScriptEnds.{IsScriptEnd};
+ghost use Rattle.gx_play.specs.Readings.{EndsAs};
 ghost use Rattle.gx_play.specs.Endings.{IsPlayEnding, CountsFault, CountsOutside, is_fault};
 ghost use Rattle.gx_play.specs.Images.{IsPlayImage};
 ghost use Rattle.gx_play.specs.Plays.{IsPlayedAs};
 ghost use Rattle.gx_requests.specs.Checked.{IsStored};
 ghost use Rattle.gx_operations.specs.Damage.{IsDamageBelow};
-ghost use Rattle.gx_operations.specs.Given.{Given, IsStoredAs};
+ghost use Rattle.gx_operations.specs.Given.{Given, IsStoredAs, KeepsOthers};
 ghost use Rattle.gx_operations.specs.Held.{StoreState, StaysOn};
 ghost use Rattle.gx_operations.specs.Runs.{RunsOn, script_play};
 ghost use Rattle.gx_operations.specs.Settled.{IsSettledIn};
@@ -43,8 +43,8 @@ use std::alloc::Global;
 /// A crash leaves the same for what was said until then, or, before an answer was said, what it
 /// could have left when the device was attached. A device that is wrong stays as it was, but that
 /// recovery may have settled one of other texts. On one that holds no state damage is told in a
-/// block that it has, and a bad line of a bad line alone. None is made, and devices of other names
-/// stay.
+/// block that it has, and `Done` and `Script` come where the script ends so by its lines alone.
+/// None is made, and the texts and devices of other names stay.
 pub fn run<M: Machine + Drop>(
     alloc: Global,
     stored: Stored,
@@ -54,8 +54,10 @@ pub fn run<M: Machine + Drop>(
     requires { IsStored stored }
     ensures promised { CanAttach M.tells (M.content machine) → (g : Given) → IsStoredAs g stored →
         RunsOn g device.now (script_play g (M.content machine).script)
-        (IsBadEnd g.schema (M.content machine).script) (M.content machine) (M.content result.1)
+        (IsScriptEnd g.schema (M.content machine).script) (M.content machine) (M.content result.1)
         result.0 }
+    ensures keeps { CanAttach M.tells (M.content machine) →
+        KeepsOthers device.now (M.content machine) (M.content result.1) }
     ensures failures { CountsOutside (M.faults machine) (M.faults result.1) result.0 }
 {
     let Stored {
@@ -112,9 +114,8 @@ fn play_stored<'a, M: Machine + Drop>(
         (start_at s) (script_lines (M.content (machine_of store)).script).lines
         (M.content (machine_of store)).now) (M.content (machine_of store)) (M.content result.1) }
     ensures heard { IsTrue M.tells → result.0 ≡ Ok tt → (M.content result.1).script ≡ [] }
-    ensures bad { IsTrue M.tells → (number : ℕ) (why : LineWhy) →
-        result.0 ≡ Err (Ending.Line number why) →
-        IsBadEnd schema (M.content (machine_of store)).script (end_text (stopped number why)) }
+    ensures reads { IsTrue M.tells →
+        EndsAs (IsScriptEnd schema (M.content (machine_of store)).script) result.0 }
     ensures stays { IsTrue M.tells → StaysOn (M.content (machine_of store)) (M.content result.1) }
     ensures ending { IfErr result.0 IsPlayEnding }
     ensures damage { IsTrue M.tells →

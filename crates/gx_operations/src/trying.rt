@@ -8,7 +8,7 @@ ghost use Rattle.gx_play.specs.Endings.{IsPlayEnding, CountsFault, CountsOutside
 ghost use Rattle.gx_play.specs.Plays.{IsPlayedAs};
 ghost use Rattle.gx_play.specs.Say.{SameDevices};
 ghost use Rattle.gx_requests.specs.Checked.{CanPlay};
-ghost use Rattle.gx_operations.specs.Given.{Given};
+ghost use Rattle.gx_operations.specs.Given.{Given, KeepsAll};
 ghost use Rattle.gx_operations.specs.Promises.{IsKept};
 ghost use Rattle.gx_operations.specs.Tries.{tries};
 
@@ -32,6 +32,7 @@ pub fn try_script<M: Machine + Drop>(
     ensures promised { IsTrue M.tells → (g : Given) → schema ≡ g.schema →
         IsBuiltOf g.schema g.definitions built →
         IsKept (tries g (M.content machine)) (M.content machine) (M.content result.1) result.0 }
+    ensures keeps { KeepsAll (M.content machine) (M.content result.1) }
     ensures failures { CountsOutside (M.faults machine) (M.faults result.1) result.0 }
 {
     let (played, mut machine) = play_script(alloc, schema, built, machine);
@@ -54,6 +55,7 @@ fn play_script<'a, M: Machine + Drop>(
         result.0 }
     ensures heard { IsTrue M.tells → result.0 ≡ Ok tt → (M.content result.1).script ≡ [] }
     ensures devices { SameDevices (M.content machine) (M.content result.1) }
+    ensures aside { (M.content result.1).aside ≡ (M.content machine).aside }
     ensures ending { IfErr result.0 IsPlayEnding }
     ensures failures { CountsFault (M.faults machine) (M.faults result.1) result.0 }
 {

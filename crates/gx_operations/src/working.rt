@@ -9,7 +9,7 @@ ghost use Rattle.gx_store.specs.Device.{Reopens};
 ghost use Rattle.gx_store.specs.Store.{CanAttach, Attaches};
 ghost use Rattle.gx_play.specs.Endings.{CountsFault, CountsOutside};
 ghost use Rattle.gx_requests.specs.Checked.{IsStored};
-ghost use Rattle.gx_operations.specs.Given.{Given, IsStoredAs};
+ghost use Rattle.gx_operations.specs.Given.{Given, IsStoredAs, KeepsOthers};
 ghost use Rattle.gx_operations.specs.Working.{IsPlayedOn, IsWorking, WorksThrough, EachReopens, LeavesWorking};
 ghost use Rattle.gx_operations.specs.Works.{WorksOn};
 
@@ -41,6 +41,8 @@ pub fn work<M: Machine + Drop>(
     ensures promised { CanAttach M.tells (M.content machine) → (g : Given) →
         IsStoredAs g stored → WorksOn g device.now blocks records (M.content machine)
         (M.content result.1) result.0 }
+    ensures keeps { CanAttach M.tells (M.content machine) →
+        KeepsOthers device.now (M.content machine) (M.content result.1) }
     ensures failures { CountsOutside (M.faults machine) (M.faults result.1) result.0 }
 {
     let (worked, mut machine) = make_and_play(alloc, stored, device, blocks, records, machine);

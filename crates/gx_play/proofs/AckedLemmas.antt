@@ -1,5 +1,6 @@
 -- Commits that were told of.
 use Rattle.std.proofs.Common.{◌≡◌, ◌⊎◌, inl, inr, ℕ, zero, suc, ◌+◌, ◌<◌, ◌≤◌, List, [], ◌∷◌, ◌++◌, length, take, refl, sym, ◌∙◌, ap, subst, arith, append_assoc, length-append}
+use Rattle.std.specs.Prelude.{Option, Some, None, Result, Ok, Err}
 use Rattle.std.proofs.lemmas.List.{append-nil, take_all, length-take}
 use Rattle.gx_laws.proofs.ListLemmas.{none_long}
 use Rattle.gx_device.specs.Content.{Moment, Content}
@@ -7,15 +8,23 @@ use Rattle.gx_device.specs.Crash.{Image, EachImage, LeavesOnly}
 use Rattle.gx_device.specs.Quiet.{IsPrefix}
 use Rattle.gx_device.proofs.RunLemmas.{weakened}
 use Rattle.gx_schema.specs.declared.schema.Schema.{Schema}
+use Rattle.gx_commands.specs.declared.command.LineWhy.{LineWhy}
+use Rattle.gx_commands.specs.Lines.{script_lines}
+use Rattle.gx_ports.specs.LeafMaps.{Limits}
+use Rattle.gx_equation.specs.Trees.{DefinitionTree}
 use Rattle.gx_model.specs.States.{State}
-use Rattle.gx_model.specs.Play.{Playing}
-use Rattle.gx_model.specs.Runs.{Runs}
+use Rattle.gx_model.specs.Play.{Playing, start_at}
+use Rattle.gx_model.specs.Runs.{Runs, AreFirstLines}
 use Rattle.gx_play.specs.declared.play.Answers.TheVariants as answers
 use Rattle.gx_play.specs.Plays.{AreSaidUpTo}
 use Rattle.gx_play.specs.Images.{IsPlayImage}
 use Rattle.gx_play.specs.Acknowledged.{commit_count, KeepsAcked, IsKeptImage}
-use Rattle.gx_play.proofs.TextLemmas.{fronts}
-use Rattle.gx_play.proofs.CommitLemmas.{runs_once, run_parts, no_fewer, silent_same, one_more}
+use Rattle.gx_play.specs.declared.status.Status.{Status}
+use Rattle.gx_play.specs.declared.status.Status.TheVariants as status
+use Rattle.gx_play.specs.Player.{EndsWith, MayBeSaid, line_play}
+use Rattle.gx_play.proofs.TextLemmas.{cancel, fronts, Lacks, lacks_front, lacks_take}
+use Rattle.gx_play.proofs.CommitLemmas.{IsOfCommit, runs_once, run_parts, no_fewer, silent_same, one_more, none_told}
+use Rattle.gx_play.proofs.EndLineLemmas.{memory_lacks, full_lacks, stopped_lacks}
 
 less : (m n : ℕ) → (m < n) ⊎ (n ≤ m)
 less m zero = inr (omega arith)
@@ -192,6 +201,114 @@ module _ (schema : Schema) (p : Playing) where
       | inl short ↦ cut_short short
       | inr long ↦ said_whole long
     ]
+
+-- ---- a front of the end's line
+
+-- Lines ran, and all their answers were said, and then a text that lacks such a byte.
+module _ (schema : Schema) (p : Playing) (lines ran later : List (List ℕ))
+    (parts : lines ≡ ran ++ later) (text : List ℕ) (final : Playing)
+    (runs : Runs schema p ran text final) (rest told : List ℕ) (said : told ≡ text ++ rest)
+    (b : ℕ) (of : IsOfCommit b) (lacks : Lacks b rest) where
+  -- no lines behind those that ran have a commit whose answer is said there
+  none_past : (more : List (List ℕ)) (u : List ℕ) (r : Playing) → Runs schema p (ran ++ more) u r
+      → IsPrefix u told → commit_count r ≡ commit_count final
+  none_past more u r run stands =
+      let x = run_parts schema p r ran more u run in
+      let once = runs_once schema p final x.2 ran text x.0 runs x.3 in
+      let all : text ++ (x.1 ++ stands.0) ≡ text ++ rest =
+      sym (append_assoc text x.1 stands.0)
+      ∙ ap (λ (t : List ℕ). t ++ x.1 ++ stands.0) once.0 ∙ ap (λ (t : List ℕ). t ++ stands.0) (sym x.5)
+      ∙ sym stands.1 ∙ said in
+      let tail = cancel text (x.1 ++ stands.0) rest all in
+      none_told schema b of x.2 r more x.1
+      (lacks_front b x.1 stands.0 (subst (Lacks b) (sym tail) lacks)) x.4
+      ∙ sym (ap commit_count once.1)
+
+  pub keeps_ended : KeepsAcked schema p lines final [] told
+  keeps_ended = record {
+    told = told;
+    said = refl;
+    acked = commit_count final;
+    acked_is = record {
+      ran = ran;
+      later = later;
+      parts = parts;
+      text = text;
+      final = final;
+      runs = runs;
+      stands = (rest, said);
+      are = refl;
+      most = λ a other u r here run stands.
+          elim (fronts a other ran later (sym here ∙ parts)) [
+            | inl within ↦ fewer schema p a within.0 u text r final run
+                (subst (λ (l : List (List ℕ)). Runs schema p l text final) within.1 runs)
+            | inr past ↦ omega (
+              arith,
+              none_past (past.0 ∷ past.1) u r
+                  (subst (λ (l : List (List ℕ)). Runs schema p l u r) past.2 run) stands,
+            )
+          ];
+    };
+    no_fewer = omega arith;
+    no_more = omega arith;
+  }
+
+-- ---- the play of a script
+
+module _ (schema : Schema) (ds : List DefinitionTree) (limit : Option Limits) (start : State)
+    (script : List ℕ) where
+  abbrev IsKept : List ℕ → Playing → Type 0
+  IsKept told m = KeepsAcked schema (start_at start) (script_lines script).lines m [] told
+
+  -- the lines behind those that ran
+  behind : (ran : List (List ℕ)) (next : Result (Option (List ℕ)) LineWhy)
+      → AreFirstLines (script_lines script) ran next
+      → (later : List (List ℕ)) × ((script_lines script).lines ≡ ran ++ later)
+  behind ran (Ok (Some line)) first = (line ∷ first.0, first.1)
+  behind ran (Ok None) first = ([], first.0 ∙ sym (append-nil ran))
+  behind ran (Err why) first = ([], first.0 ∙ sym (append-nil ran))
+
+  -- a front of such a line was said behind the answers of those that ran
+  line_kept : (ran later : List (List ℕ)) → (script_lines script).lines ≡ ran ++ later
+      → (answers : List ℕ) (m : Playing) → Runs schema (start_at start) ran answers m
+      → (line : List ℕ) (count : ℕ) (told : List ℕ) → told ≡ answers ++ take count line → (b : ℕ)
+      → IsOfCommit b → Lacks b line → IsKept told m
+  line_kept ran later parts answers m runs line count told said b of lacks =
+      keeps_ended schema (start_at start) (script_lines script).lines ran later parts answers m runs
+      (take count line) told said b of (lacks_take b count line lacks)
+
+  ended : (s : Status) (answers line told : List ℕ) (m : Playing) (count : ℕ)
+      → EndsWith (line_play schema ds limit start script) s answers m line
+      → told ≡ answers ++ take count line → IsKept told m
+  ended status.Done answers line told m count ends said =
+      let x = behind ends.0.ran ends.0.next ends.0.first in
+      line_kept ends.0.ran x.0 x.1 answers m ends.0.runs line count told said 99 (inl refl)
+      (subst (Lacks 99) (sym ends.1) tt)
+  ended status.Script answers line told m count ends said =
+      let x = behind ends.2.ran ends.2.next ends.2.first in
+      line_kept ends.2.ran x.0 x.1 answers m ends.2.runs line count told said 109 (inr refl)
+      (subst (Lacks 109) (sym ends.3) (stopped_lacks ends.0 ends.1))
+  ended status.Memory answers line told m count ends said =
+      let first = ends.0.first in
+      line_kept first.ran first.later first.parts answers m
+      (subst (Runs schema (start_at start) first.ran answers) (sym ends.0.is) first.runs) line count
+      told said 99 (inl refl) (subst (Lacks 99) (sym ends.1) memory_lacks)
+  ended status.Full answers line told m count ends said =
+      line_kept ends.0.ran ends.0.later ends.0.parts answers m ends.0.runs line count told said 99
+      (inl refl) (subst (Lacks 99) (sym ends.1) full_lacks)
+  ended status.Refused answers line told m count ends said = absurd ends
+  ended status.Device answers line told m count ends said = absurd ends
+  ended status.Outside answers line told m count ends said = absurd ends
+
+  -- whatever may be said of it
+  pub may_be_acked : (told : List ℕ) (m : Playing)
+      → MayBeSaid (line_play schema ds limit start script) told m → IsKept told m
+  may_be_acked told m (inl x) =
+      keeps_acked schema (start_at start) (script_lines script).lines x.ran x.later x.parts x.answers
+      m x.runs [] told x.up_to
+  may_be_acked told m (inr x) = ended x.meant x.answers x.line told m x.count x.ends x.told_is
+
+-- ---- images
 
 -- What a crash leaves while lines are played is a state that first lines kept, after all commits
 -- that were told of and one more at most.

@@ -8,7 +8,7 @@ use Rattle.gx_model.specs.Runs.{Step, Runs}
 use Rattle.gx_model.proofs.AnswerLemmas.{answered_once}
 use Rattle.gx_model.proofs.RunLemmas.{command_once}
 use Rattle.gx_play.specs.Acknowledged.{commit_count}
-use Rattle.gx_play.proofs.TextLemmas.{both_empty}
+use Rattle.gx_play.proofs.TextLemmas.{both_empty, Lacks, lacks_front, lacks_back}
 
 -- ---- one step
 
@@ -21,6 +21,17 @@ IsCounted schema p c =
 counts : (schema : Schema) (p : Playing) (c : Command) → IsCounted schema p c
 counts schema p command.Commit = inr (length-append p.earlier (p.kept ∷ []), refl)
 counts schema p _ = inl refl
+
+-- a byte of each commit's answer, `c` or `m`
+abbrev pub IsOfCommit : ℕ → Type 0
+IsOfCommit b = (b ≡ 99) ⊎ (b ≡ 109)
+
+says_it : (schema : Schema) (p : Playing) (b : ℕ) (answer : List ℕ) → IsOfCommit b
+    → IsAnswered schema p command.Commit answer → Lacks b answer → ⊥
+says_it schema p b answer (inl is) answered lacks =
+    (subst (Lacks b) answered lacks).0 (sym is)
+says_it schema p b answer (inr is) answered lacks =
+    (subst (Lacks b) answered lacks).1.1.0 (sym is)
 
 -- the answer of a commit isn't empty
 says_something : (schema : Schema) (p : Playing) (answer : List ℕ)
@@ -40,15 +51,14 @@ module _ (schema : Schema) where
 
   step_counts : (p : Playing) (line answer : List ℕ) (q : Playing) → Step schema p line answer q
       → (commit_count q ≡ commit_count p)
-      ⊎ ((commit_count q ≡ commit_count p + 1) × ((answer ≡ []) → ⊥))
+      ⊎ ((commit_count q ≡ commit_count p + 1) × IsAnswered schema p command.Commit answer)
   step_counts p line answer q step =
       let next = ap commit_count step.next_is in
       elim (counts schema p step.command) [
         | inl same ↦ inl (next ∙ same)
         | inr more ↦ inr (
           next ∙ more.0,
-          says_something schema p answer
-              (subst (λ c. IsAnswered schema p c answer) more.1 step.answered),
+          subst (λ c. IsAnswered schema p c answer) more.1 step.answered,
         )
       ]
 
@@ -96,7 +106,19 @@ module _ (schema : Schema) where
       (subst (λ (t : List ℕ). Runs schema run.2 ran t q) none.1 run.4) in
       elim (step_counts p line run.0 run.2 run.3) [
         | inl same ↦ rest ∙ same
-        | inr more ↦ absurd (more.1 none.0)
+        | inr more ↦ absurd (says_something schema p run.0 more.1 none.0)
+      ]
+
+  -- answers without such a byte tell of no commit
+  pub none_told : (b : ℕ) → IsOfCommit b → (p q : Playing) (ran : List (List ℕ)) (t : List ℕ)
+      → Lacks b t → Runs schema p ran t q → commit_count q ≡ commit_count p
+  none_told b of p q [] t lacks run = ap commit_count run.1
+  none_told b of p q (line ∷ ran) t lacks run =
+      let both = subst (Lacks b) run.5 lacks in
+      let rest = none_told b of run.2 q ran run.1 (lacks_back b run.0 run.1 both) run.4 in
+      elim (step_counts p line run.0 run.2 run.3) [
+        | inl same ↦ rest ∙ same
+        | inr more ↦ absurd (says_it schema p b run.0 of more.1 (lacks_front b run.0 run.1 both))
       ]
 
   pub one_more : (p q : Playing) (ran : List (List ℕ)) (t : List ℕ) → length ran ≤ 1

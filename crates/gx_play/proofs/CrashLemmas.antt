@@ -2,7 +2,7 @@
 use Rattle.std.proofs.Common.{◌≡◌, ◌⊎◌, inl, inr, ℕ, List, [], ◌∷◌, ◌++◌, length, take, Bool, false, None, Result, refl, sym, ◌∙◌, ap, subst, arith, append_assoc}
 use Rattle.std.proofs.lemmas.List.{append-nil}
 use Rattle.gx_device.specs.Content.{Moment, Content, Silent, Listens}
-use Rattle.gx_device.specs.Crash.{Image, IsImage, EachImage, LeavesOnly}
+use Rattle.gx_device.specs.Crash.{Image, EachImage, LeavesOnly}
 use Rattle.gx_device.specs.Quiet.{IsPrefix, IsQuiet, QuietSince, IsOldOrNew}
 use Rattle.gx_device.proofs.RunLemmas.{started, joined, weakened}
 use Rattle.gx_schema.specs.declared.schema.Schema.{Schema}
@@ -26,6 +26,7 @@ use Rattle.gx_engine.specs.Moments.{Stands}
 use Rattle.gx_engine.specs.Steps.{IsAt, IsSame, CarriesOut, KeepsEngine, schema_of, built_of, leaves_of, is_open, commits_of}
 use Rattle.gx_engine.specs.Crashes.{HoldsState, HoldsFor, LeavesStates}
 use Rattle.gx_engine.proofs.CrashLemmas.{kept_state, talks_states}
+use Rattle.gx_store.proofs.CrashLemmas.{reads_image}
 use Rattle.gx_play.specs.declared.play.Answers.{Answers}
 use Rattle.gx_play.specs.declared.play.Answers.TheVariants as answers
 use Rattle.gx_play.specs.Answering.{beside, with_answers}
@@ -355,10 +356,6 @@ module _ (schema : Schema) (Holds : State → List (List ℕ) → Type 0) (to : 
       }
     ]
 
--- a moment is an image of itself
-as_it_is : (m : Moment) → IsImage m (record { blocks = m.blocks; said = m.said; shelf = m.shelf })
-as_it_is m = record { said = refl; shelf = refl; count = refl; same = λ n below firm. refl }
-
 module _ {S : Type 0} (g : Ghosts S) where
   -- what is calm whatever failed
   pub leaves_on : (schema : Schema) (built : Built) (to : Answers) (p : Playing)
@@ -374,7 +371,7 @@ module _ {S : Type 0} (g : Ghosts S) where
       → LeavesPlay g schema built to p lines failed old new
       → (g.content new).now.shelf ≡ (g.content old).now.shelf
   shelf_so_far schema built to p lines failed old new leaves =
-      (leaves.images.now _ (as_it_is (g.content new).now)).shelf
+      (leaves.images.now _ (reads_image (g.content new).now)).shelf
 
   said_so_far : (schema : Schema) (built : Built) (to : Answers) (p : Playing) (all left : Lines)
       (number : ℕ) (start e : Engine S) (kept out : List ℕ)
@@ -386,7 +383,7 @@ module _ {S : Type 0} (g : Ghosts S) where
   said_so_far schema built answers.Said p all left number start e kept out going leaves =
       going.so_far.said
   said_so_far schema built answers.Kept p all left number start e kept out going leaves =
-      (leaves.images.now _ (as_it_is (g.content (leaves_of e)).now)).up_to
+      (leaves.images.now _ (reads_image (g.content (leaves_of e)).now)).up_to
 
   -- the next line, over leaves
   next_play : (schema : Schema) (built : Built) (to : Answers) (p : Playing)

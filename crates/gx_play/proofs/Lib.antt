@@ -1,6 +1,7 @@
 mod SayLemmas
 mod TextLemmas
 mod CommitLemmas
+mod EndLineLemmas
 pub mod AckedLemmas
 mod LineLemmas
 mod PieceLemmas

@@ -13,7 +13,6 @@ use Rattle.gx_model.specs.States.{State}
 use Rattle.gx_model.specs.Play.{Playing, End, good, stopped, start_at}
 use Rattle.gx_engine.specs.declared.engine.Engine.{Engine}
 use Rattle.gx_engine.specs.Steps.{IsAt, schema_of, built_of, leaves_of}
-use Rattle.gx_play.specs.declared.ending.DeviceWhy.{DeviceWhy}
 use Rattle.gx_play.specs.declared.ending.DeviceWhy.TheVariants as device_why
 use Rattle.gx_play.specs.declared.ending.Ending.{Ending}
 use Rattle.gx_play.specs.declared.ending.Ending.TheVariants as ending
@@ -291,35 +290,6 @@ stop_of_ending (Ok x) result given is e =
     absurd (not_ok result (ending_of (play_end.Stop given)) e is)
 stop_of_ending (Err end) result given is e =
     ap Err (stop_is end (ending_of end) given refl (ap ending_in (sym is ∙ e)))
-
--- a device isn't wrong but where damage was found
-pub wrong_device : (played : Result (Unit {0}) PlayEnd) (result : Result (Unit {0}) Ending)
-    (wrong : DeviceWhy)
-    → IsEndingOf played result → IsErrOf result (ending.Device wrong)
-    → (block : ℕ) × (played ≡ Err (play_end.Stop (stop.Damaged block)))
-wrong_device (Ok x) result wrong is e = absurd (not_ok result (ending.Device wrong) e is)
-wrong_device (Err end) result wrong is e = by_end end (ap ending_in (sym is ∙ e))
-  where
-    by_end : (end : PlayEnd) → ending_of end ≡ ending.Device wrong
-        → (block : ℕ) × (◌≡◌ {A = Result (Unit {0}) PlayEnd} (Err end)
-        (Err (play_end.Stop (stop.Damaged block))))
-    by_end (play_end.Line number reason) f = absurd (never f)
-      where
-        never : ending.Line number reason ≡ ending.Device wrong → ⊥
-        never h = cc
-    by_end (play_end.Stop stop.Fault) f = absurd (never f)
-      where
-        never : ending.Fault ≡ ending.Device wrong → ⊥
-        never h = cc
-    by_end (play_end.Stop stop.Full) f = absurd (never f)
-      where
-        never : ending.Full ≡ ending.Device wrong → ⊥
-        never h = cc
-    by_end (play_end.Stop stop.NoMemory) f = absurd (never f)
-      where
-        never : ending.NoMemory ≡ ending.Device wrong → ⊥
-        never h = cc
-    by_end (play_end.Stop (stop.Damaged block)) f = (block, refl)
 
 -- where the request ends with no failed call, the play does
 pub goes_on : (played : Result (Unit {0}) PlayEnd) (result : Result (Unit {0}) Ending)

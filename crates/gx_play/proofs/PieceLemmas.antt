@@ -115,9 +115,9 @@ GoesTo {S = S} g piece reader left then old new =
 
 -- ---- to hear
 
-stands_for : {S : Type 0} (g : Ghosts S) (p : Playing) (e f : Engine S) → IsSame g e f
+pub still_at : {S : Type 0} (g : Ghosts S) (p : Playing) (e f : Engine S) → IsSame g e f
     → IsAt g p e → IsAt g p f
-stands_for g p e f same at = record {
+still_at g p e f same at = record {
   stands = rw (
     same.schema,
     same.built,
@@ -129,10 +129,6 @@ stands_for g p e f same at = record {
   whole_is = same.talks.whole at.whole_is;
   kept_whole_is = same.talks.kept_whole.0 at.kept_whole_is;
 }
-
-pub still_at : {S : Type 0} (g : Ghosts S) (p : Playing) (e f : Engine S) → IsSame g e f
-    → IsAt g p e → IsAt g p f
-still_at g p e f same at = stands_for g p e f same at
 
 -- the play stands where it stood
 pub going_heard : {S : Type 0} (g : Ghosts S) (start : Playing) (all left : Lines) (number : ℕ)

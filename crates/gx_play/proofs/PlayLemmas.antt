@@ -1,8 +1,7 @@
 -- The loop over the lines of a script.
-use Rattle.std.proofs.Common.{◌≡◌, ℕ, ◌+◌, ◌≤◌, List, [], ◌∷◌, ◌++◌, take, Bool, false, IsTrue, Result, Ok, Err, Option, Some, None, refl, sym, ap, subst, ◌∙◌, arith, inl, inr}
-use Rattle.std.specs.Prelude.{◌≢◌, ◌⊎◌, IsErrAnd, IsSome}
+use Rattle.std.proofs.Common.{◌≡◌, ℕ, ◌+◌, List, [], ◌∷◌, ◌++◌, take, Bool, false, IsTrue, Result, Ok, Err, Option, Some, None, refl, sym, ap, subst, ◌∙◌, arith, inl, inr}
+use Rattle.std.specs.Prelude.{◌≢◌, ◌⊎◌, IsErrAnd}
 use Rattle.std.proofs.lemmas.List.{append-nil, append_assoc, length-append}
-use Rattle.gx_device.specs.Faults.{Rose}
 use Rattle.gx_schema.specs.declared.schema.Schema.{Schema}
 use Rattle.gx_commands.specs.declared.command.Command.{Command}
 use Rattle.gx_commands.specs.declared.command.Command.TheVariants as command
@@ -10,7 +9,6 @@ use Rattle.gx_commands.specs.declared.command.LineWhy.{LineWhy}
 use Rattle.gx_commands.specs.Commands.{place_reason}
 use Rattle.gx_commands.specs.Lines.{Lines, with_line, no_lines, stopped as stopped_lines}
 use Rattle.gx_script.specs.Grammar.{IsLineOf}
-use Rattle.gx_ports.specs.LeafMaps.{Limits}
 use Rattle.gx_ports.specs.Calls.{Keeps}
 use Rattle.gx_ports.specs.declared.view.View.{Ghosts}
 use Rattle.gx_types.specs.declared.built.Built.{Built}
@@ -24,7 +22,7 @@ use Rattle.gx_engine.specs.Steps.{schema_of, built_of, leaves_of, is_open, is_co
 use Rattle.gx_ports.specs.declared.stop.Stop.TheVariants as stop
 use Rattle.gx_play.specs.declared.play.PlayEnd.{PlayEnd}
 use Rattle.gx_play.specs.declared.play.PlayEnd.TheVariants as play_end
-use Rattle.gx_play.specs.Plays.{IsLinePlayed, IsLineCut, IsCommitLine, HasPlayCause, IsBadAt, IsPlayedUp, IsPlayedPart, IsPlayedTo, IsLineEnd, IsSoFar, IsShortLine, IsGivenUp, KeepsState}
+use Rattle.gx_play.specs.Plays.{IsLinePlayed, IsLineCut, IsCommitLine, IsBadAt, IsPlayedUp, IsPlayedPart, IsPlayedTo, IsLineEnd, IsSoFar, IsShortLine, IsGivenUp, KeepsState}
 use Rattle.gx_play.specs.Played.{IsShortAt}
 
 -- no line was played yet
@@ -384,19 +382,6 @@ at_cut g start all before left number line (stop.Damaged block) old e new schema
     limit_is before_is so ready up =
     at_other g start all before left number line (stop.Damaged block) old e new schema_is built_is
     limit_is before_is so ready (λ f. cc) up
-
--- a cause in a later call is one in all of them
-pub rose_since : (before mid now : ℕ) → before ≤ mid → Rose mid now → Rose before now
-rose_since before mid now le rose = omega (arith, rose)
-
-pub cause_since : (limit start : Option Limits) (before mid now : ℕ) (why : Stop) → limit ≡ start
-    → before ≤ mid
-    → HasPlayCause limit mid now why → HasPlayCause start before now why
-cause_since limit start before mid now stop.Fault limit_is le cause =
-    rose_since before mid now le cause
-cause_since limit start before mid now stop.Full limit_is le cause = subst IsSome limit_is cause
-cause_since limit start before mid now stop.NoMemory limit_is le cause = tt
-cause_since limit start before mid now (stop.Damaged block) limit_is le cause = absurd cause
 
 -- how the play ends where a line isn't carried out
 pub at_line : {S : Type 0} (g : Ghosts S) (start : Playing) (all before left : Lines) (number : ℕ)

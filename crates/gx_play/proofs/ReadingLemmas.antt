@@ -1,25 +1,21 @@
 -- Lines that are read one behind the other.
-use Rattle.std.proofs.Common.{◌≡◌, ℕ, ◌+◌, List, [], ◌∷◌, ◌++◌, length, Bool, true, false, Some, None, Result, Ok, Err, refl, sym, ap, subst, ◌∙◌}
+use Rattle.std.proofs.Common.{◌≡◌, ℕ, ◌+◌, List, [], ◌∷◌, ◌++◌, length, Bool, false, Some, None, Result, Ok, Err, refl, sym, ap, subst, ◌∙◌}
 use Rattle.std.specs.Prelude.{OnOk}
 use Rattle.std.proofs.lemmas.List.{append-nil, length-append}
 use Rattle.gx_schema.specs.declared.schema.Schema.{Schema}
 use Rattle.gx_commands.specs.declared.command.LineWhy.{LineWhy}
-use Rattle.gx_commands.specs.declared.command.LineWhy.TheVariants as why
 use Rattle.gx_commands.specs.Commands.{inside_after}
 use Rattle.gx_commands.specs.Lines.{Lines, with_line, no_lines, script_lines}
 use Rattle.gx_reader.specs.declared.reader.LineReader.{LineReader}
 use Rattle.gx_reader.specs.Reader.{meant, number_of}
-use Rattle.gx_ports.specs.declared.stop.Stop.{Stop}
 use Rattle.gx_ports.specs.declared.stop.Stop.TheVariants as stop
-use Rattle.gx_model.specs.Play.{stopped, end_at, end_text}
+use Rattle.gx_model.specs.Play.{good, stopped, end_at}
 use Rattle.gx_play.specs.declared.ending.Ending.{Ending}
-use Rattle.gx_play.specs.declared.ending.Ending.TheVariants as ending
 use Rattle.gx_play.specs.declared.play.PlayEnd.{PlayEnd}
 use Rattle.gx_play.specs.declared.play.PlayEnd.TheVariants as play_end
-use Rattle.gx_play.specs.Endings.{ending_of}
 use Rattle.gx_play.specs.Plays.{IsBadAt, IsLineEnd, IsEndingOf}
-use Rattle.gx_play.specs.BadLines.{AreGood, IsBadEnd}
-use Rattle.gx_play.specs.Readings.{IsReadLine, IsReadTo, IsBadIn, IsReadOut, IsReadOn}
+use Rattle.gx_play.specs.ScriptEnds.{AreGood, IsLinesEnd, IsScriptEnd}
+use Rattle.gx_play.specs.Readings.{IsReadLine, IsReadTo, IsReadOut, IsReadOn, EndsAs}
 use Rattle.gx_play.proofs.PlayLemmas.{parts_more}
 
 -- of two facts the first, and the second
@@ -37,14 +33,14 @@ ok_second P Q (Err e) both = tt
 good_more : (schema : Schema) (begun inside behind : Bool) (ran : List (List ℕ)) (line : List ℕ)
     → AreGood schema begun ran inside → IsReadLine schema line inside behind
     → AreGood schema begun (ran ++ line ∷ []) behind
-good_more schema begun inside behind [] line good read =
-    subst (λ (b : Bool). AreGood schema b (line ∷ []) behind) good
+good_more schema begun inside behind [] line before read =
+    subst (λ (b : Bool). AreGood schema b (line ∷ []) behind) before
     (read.command, read.means, read.placed, read.behind_is)
-good_more schema begun inside behind (first ∷ ran) line good read = (
-  good.0,
-  good.1,
-  good.2,
-  good_more schema (inside_after begun good.0) inside behind ran line good.3 read,
+good_more schema begun inside behind (first ∷ ran) line before read = (
+  before.0,
+  before.1,
+  before.2,
+  good_more schema (inside_after begun before.0) inside behind ran line before.3 read,
 )
 
 pub read_new : (schema : Schema) (begun : Bool) (script : List ℕ) (reader : LineReader)
@@ -140,11 +136,11 @@ read_on schema begun all before left number next line inside behind (Err end) be
     read_bad schema begun all before left number next line inside end (Err end) before_is next_is so
     refl (λ n reason is. bad n reason (ap Err is)) left next behind
 
--- at the end, where a transaction is open
-pub read_open : (schema : Schema) (begun : Bool) (all left : Lines) (number many : ℕ)
-    (inside : Bool) → IsReadTo schema begun all left number inside → left ≡ no_lines → inside ≡ true
-    → many ≡ number → IsBadIn schema begun all many why.OpenTransaction
-read_open schema begun all left number many inside so left_is open_is many_is = record {
+-- behind the last line
+pub read_shut : (schema : Schema) (begun : Bool) (all left : Lines) (number many : ℕ)
+    (inside within : Bool) → IsReadTo schema begun all left number inside → left ≡ no_lines
+    → inside ≡ within → many ≡ number → IsLinesEnd schema begun all (end_at many within)
+read_shut schema begun all left number many inside within so left_is is many_is = record {
   ran = so.ran;
   next = Ok None;
   first = (
@@ -153,56 +149,27 @@ read_open schema begun all left number many inside so left_is open_is many_is = 
   );
   inside = inside;
   good = so.good;
-  ends = ap (λ k. stopped k why.OpenTransaction) (many_is ∙ sym so.many)
-      ∙ ap (end_at (length so.ran)) (sym open_is);
+  ends = ap (λ n. end_at n within) (many_is ∙ sym so.many)
+      ∙ ap (end_at (length so.ran)) (sym is);
 }
 
--- a stop ends at no line
-no_line_end : (stop : Stop) (n : ℕ) (reason : LineWhy)
-    → ◌≡◌ {A = Result (Unit {0}) Ending} (Err (ending_of (play_end.Stop stop)))
-    (Err (ending.Line n reason)) → ⊥
-no_line_end stop.NoMemory n reason e = cc
-no_line_end stop.Full n reason e = cc
-no_line_end stop.Fault n reason e = cc
-no_line_end (stop.Damaged block) n reason e = cc
-
--- the end of a script's play
-pub bad_end : (schema : Schema) (begun : Bool) (script : List ℕ)
+-- the end of a script's play, on an engine with no open transaction
+pub read_as : (schema : Schema) (begun : Bool) (script : List ℕ)
     (played : Result (Unit {0}) PlayEnd) (result : Result (Unit {0}) Ending)
     → IsEndingOf played result → begun ≡ false → IsReadOut schema begun (script_lines script) played
-    → (n : ℕ) (reason : LineWhy) → result ≡ Err (ending.Line n reason)
-    → IsBadEnd schema script (end_text (stopped n reason))
-bad_end schema begun script (Ok x) result is shut read n reason e = absurd (never (sym is ∙ e))
-  where
-    never : ◌≡◌ {A = Result (Unit {0}) Ending} (Ok tt) (Err (ending.Line n reason)) → ⊥
-    never f = cc
-bad_end schema begun script (Err (play_end.Line m given)) result is shut read n reason e =
-    let same : ending.Line m given ≡ ending.Line n reason = ap ending_in (sym is ∙ e) in
-    let here = ap line_of same in
-    let reason_is = ap why_of same in
-    subst (λ (k : ℕ). IsBadEnd schema script (end_text (stopped k reason))) here
-    (subst (λ (w : LineWhy). IsBadEnd schema script (end_text (stopped m w))) reason_is (record {
-      ran = read.ran;
-      next = read.next;
-      first = read.first;
-      inside = read.inside;
-      good = subst (λ (b : Bool). AreGood schema b read.ran read.inside) shut read.good;
-      number = m;
-      why = given;
-      ends = read.ends;
-      line_is = refl;
-    }))
-  where
-    ending_in : Result (Unit {0}) Ending → Ending
-    ending_in (Err x) = x
-    ending_in (Ok x) = ending.Line m given
-
-    line_of : Ending → ℕ
-    line_of (ending.Line k w) = k
-    line_of _ = m
-
-    why_of : Ending → LineWhy
-    why_of (ending.Line k w) = w
-    why_of _ = given
-bad_end schema begun script (Err (play_end.Stop stop)) result is shut read n reason e =
-    absurd (no_line_end stop n reason (sym is ∙ e))
+    → EndsAs (IsScriptEnd schema script) result
+read_as schema begun script (Ok x) result is shut read =
+    subst (EndsAs (IsScriptEnd schema script)) (sym is)
+    (subst (λ (b : Bool). IsLinesEnd schema b (script_lines script) good) shut read)
+read_as schema begun script (Err (play_end.Line number reason)) result is shut read =
+    subst (EndsAs (IsScriptEnd schema script)) (sym is)
+    (subst (λ (b : Bool). IsLinesEnd schema b (script_lines script) (stopped number reason)) shut
+    read)
+read_as schema begun script (Err (play_end.Stop stop.NoMemory)) result is shut read =
+    subst (EndsAs (IsScriptEnd schema script)) (sym is) tt
+read_as schema begun script (Err (play_end.Stop stop.Full)) result is shut read =
+    subst (EndsAs (IsScriptEnd schema script)) (sym is) tt
+read_as schema begun script (Err (play_end.Stop stop.Fault)) result is shut read =
+    subst (EndsAs (IsScriptEnd schema script)) (sym is) tt
+read_as schema begun script (Err (play_end.Stop (stop.Damaged block))) result is shut read =
+    subst (EndsAs (IsScriptEnd schema script)) (sym is) tt

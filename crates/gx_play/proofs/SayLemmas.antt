@@ -2,7 +2,6 @@
 use Rattle.std.proofs.Common.{◌≡◌, ℕ, zero, suc, ◌+◌, ◌-◌, List, [], ◌∷◌, ◌++◌, length, take, drop, refl, sym, ap, ◌∙◌, arith, append_assoc}
 use Rattle.std.proofs.lemmas.List.{append-nil, drop-drop, take_all, length-drop}
 use Rattle.gx_device.specs.Content.{Content, Ticks, Speaks}
-use Rattle.gx_device.specs.Quiet.{IsPrefix}
 use Rattle.gx_device.proofs.RunLemmas.{started, joined, ticked}
 use Rattle.gx_ports.specs.Calls.{Talks}
 use Rattle.gx_ports.specs.declared.view.View.{Ghosts}
@@ -64,30 +63,7 @@ none_through text old new none run =
     ∙ ap (λ (t : List ℕ). old.now.said ++ t) (take_all run.now.said.0 [] (omega arith))
     ∙ append-nil old.now.said
 
--- ---- what was said before stays in front
-
--- a front of a piece was said behind it
-pub begins_front : (xs ys zs piece : List ℕ) → ys ≡ xs → ((n : ℕ) × (zs ≡ ys ++ take n piece))
-    → IsPrefix xs zs
-begins_front xs ys zs piece same said =
-    (take said.0 piece, said.1 ∙ ap (λ (t : List ℕ). t ++ take said.0 piece) same)
-
 -- ---- what `hear` and `say` keep, once and one after the other
-
-pub talks_itself : {S : Type 0} (g : Ghosts S) (a : S) → Talks g a a
-talks_itself g a = record {
-  working = refl;
-  whole = λ h. h;
-  fresh = λ leaf h. h;
-  kept = refl;
-  unchanged = λ h.
-      h;
-  kept_whole = (λ h. h, λ h. h);
-  work = refl;
-  limit = refl;
-  head = refl;
-  calm = λ s h. h;
-}
 
 pub talks_joined : {S : Type 0} (g : Ghosts S) (a b c : S) → Talks g a b → Talks g b c → Talks g a c
 talks_joined g a b c p q = record {

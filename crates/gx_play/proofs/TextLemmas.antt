@@ -1,9 +1,8 @@
 -- Fronts of texts and of lists of lines.
 use Rattle.std.proofs.Common.{◌≡◌, ◌⊎◌, inl, inr, ℕ, zero, suc, List, [], ◌∷◌, ◌++◌, length, take, drop, get_or, refl, sym, ◌∙◌, ap, arith}
-
-drop_front : {A : Type 0} (xs ys : List A) → drop (length xs) (xs ++ ys) ≡ ys
-drop_front [] ys = refl
-drop_front (x ∷ xs) ys = drop_front xs ys
+use Rattle.std.specs.Prelude.{◌≢◌}
+use Rattle.std.specs.List.{AllByRecursion}
+use Rattle.gx_laws.proofs.ListLemmas.{drop_front}
 
 pub cancel : {A : Type 0} (xs ys zs : List A) → xs ++ ys ≡ xs ++ zs → ys ≡ zs
 cancel {A} xs ys zs same =
@@ -35,3 +34,25 @@ fronts {A} (x ∷ a) b (y ∷ c) d same =
 pub both_empty : (a b : List ℕ) → [] ≡ a ++ b → (a ≡ []) × (b ≡ [])
 both_empty [] b same = (refl, sym same)
 both_empty (x ∷ a) b same = absurd (omega (arith, ap (λ (l : List ℕ). length l) same))
+
+-- ---- a byte that a text lacks
+
+abbrev pub Lacks : ℕ → List ℕ → Type 0
+Lacks b = AllByRecursion (λ x. x ≢ b)
+
+pub lacks_front : (b : ℕ) (xs ys : List ℕ) → Lacks b (xs ++ ys) → Lacks b xs
+lacks_front b [] ys lacks = tt
+lacks_front b (x ∷ xs) ys lacks = (lacks.0, lacks_front b xs ys lacks.1)
+
+pub lacks_back : (b : ℕ) (xs ys : List ℕ) → Lacks b (xs ++ ys) → Lacks b ys
+lacks_back b [] ys lacks = lacks
+lacks_back b (x ∷ xs) ys lacks = lacks_back b xs ys lacks.1
+
+pub lacks_both : (b : ℕ) (xs ys : List ℕ) → Lacks b xs → Lacks b ys → Lacks b (xs ++ ys)
+lacks_both b [] ys one two = two
+lacks_both b (x ∷ xs) ys one two = (one.0, lacks_both b xs ys one.1 two)
+
+pub lacks_take : (b n : ℕ) (xs : List ℕ) → Lacks b xs → Lacks b (take n xs)
+lacks_take b zero xs lacks = tt
+lacks_take b (suc n) [] lacks = tt
+lacks_take b (suc n) (x ∷ xs) lacks = (lacks.0, lacks_take b n xs lacks.1)

@@ -6,7 +6,7 @@ pub mod Plays
 pub mod Answering
 pub mod Pieces
 pub mod Player
-pub mod BadLines
+pub mod ScriptEnds
 pub mod Images
 pub mod Acknowledged
 pub mod Readings

@@ -1,16 +1,16 @@
 -- Which lines a play reads, whatever it is played on: good ones, and where they end.
-use Rattle.std.specs.Prelude.{◌≡◌, ℕ, List, [], ◌++◌, length, Bool, Option, None, Result, Ok, Err}
+use Rattle.std.specs.Prelude.{◌≡◌, ℕ, List, [], ◌++◌, length, Bool, None, Result, Ok, Err}
 use Rattle.gx_schema.specs.declared.schema.Schema.{Schema}
 use Rattle.gx_commands.specs.declared.command.Command.{Command}
-use Rattle.gx_commands.specs.declared.command.LineWhy.{LineWhy}
 use Rattle.gx_commands.specs.Commands.{place_reason, inside_after}
 use Rattle.gx_commands.specs.Lines.{Lines, no_lines}
 use Rattle.gx_script.specs.Grammar.{IsLineOf}
 use Rattle.gx_reader.specs.declared.reader.LineReader.{LineReader}
 use Rattle.gx_reader.specs.Reader.{meant, number_of}
-use Rattle.gx_model.specs.Play.{stopped}
-use Rattle.gx_model.specs.Runs.{AreFirstLines}
-use Rattle.gx_play.specs.BadLines.{AreGood, IsEndAt}
+use Rattle.gx_model.specs.Play.{End, good, stopped}
+use Rattle.gx_play.specs.declared.ending.Ending.{Ending}
+use Rattle.gx_play.specs.declared.ending.Ending.TheVariants as ending
+use Rattle.gx_play.specs.ScriptEnds.{AreGood, IsLinesEnd}
 use Rattle.gx_play.specs.declared.play.PlayEnd.{PlayEnd}
 use Rattle.gx_play.specs.declared.play.PlayEnd.TheVariants as play_end
 
@@ -30,20 +30,11 @@ pub record IsReadTo (schema : Schema) (begun : Bool) (all left : Lines) (number 
   pub stop_is : all.stop ≡ left.stop
   pub good : AreGood schema begun ran inside
 
--- the line of this number is bad, behind good ones
-pub record IsBadIn (schema : Schema) (begun : Bool) (all : Lines) (number : ℕ)
-    (why : LineWhy) : Type 0 where
-  pub ran : List (List ℕ)
-  pub next : Result (Option (List ℕ)) LineWhy
-  pub first : AreFirstLines all ran next
-  pub inside : Bool
-  pub good : AreGood schema begun ran inside
-  pub ends : IsEndAt schema inside (length ran) next (stopped number why)
-
--- the line at which a play ends is bad
+-- the lines end where their play does, unless it is given up
 abbrev pub IsReadOut : Schema → Bool → Lines → Result (Unit {0}) PlayEnd → Type 0
-IsReadOut schema begun all (Ok x) = Unit {0}
-IsReadOut schema begun all (Err (play_end.Line number why)) = IsBadIn schema begun all number why
+IsReadOut schema begun all (Ok x) = IsLinesEnd schema begun all good
+IsReadOut schema begun all (Err (play_end.Line number why)) =
+    IsLinesEnd schema begun all (stopped number why)
 IsReadOut schema begun all (Err (play_end.Stop stop)) = Unit {0}
 
 -- the same, or the lines are read on
@@ -73,3 +64,9 @@ ReadsRest schema reader inside result =
     (begun : Bool) (all : Lines)
     → IsReadTo schema begun all (meant reader []) (number_of reader) inside
     → IsReadOut schema begun all result
+
+-- what is said of the end of lines is so of the end of the request, unless the play is given up
+abbrev pub EndsAs : (End → Type 0) → Result (Unit {0}) Ending → Type 0
+EndsAs Ends (Ok x) = Ends good
+EndsAs Ends (Err (ending.Line number why)) = Ends (stopped number why)
+EndsAs Ends (Err other) = Unit {0}

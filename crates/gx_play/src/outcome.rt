@@ -20,6 +20,7 @@ pub fn finish<M: Machine>(alloc: Global, played: Result<(), Ending<'_>>, machine
     ensures outside { result ≡ Status.Outside →
         IsErrOf played.entry Ending.Fault ⊎ Rose (M.faults machine.old) (M.faults machine.new) }
     ensures no_fault { result ≢ Status.Outside → is_fault played.entry ≡ false }
+    ensures rest { OnlySays (M.content machine.old) (M.content machine.new) }
     ensures counted { result ≢ Status.Outside → M.faults machine.new ≡ M.faults machine.old }
     ensures devices { SameDevices (M.content machine.old) (M.content machine.new) }
     ensures moments { IsTrue M.tells →

@@ -1,16 +1,16 @@
 // A script that is heard and played over leaves.
-ghost use Rattle.std.specs.Prelude.{◌≡◌, ℕ, [], Ok, Err, length, IsTrue, IfErr};
+ghost use Rattle.std.specs.Prelude.{◌≡◌, [], Ok, length, IsTrue, IfErr};
 ghost use Rattle.gx_schema.specs.WellFormed.{IsWellFormed};
 ghost use Rattle.gx_model.specs.States.{State};
 ghost use Rattle.gx_engine.specs.Steps.{AreFor};
 ghost use Rattle.gx_device.specs.Content.{Content};
 ghost use Rattle.gx_commands.specs.Lines.{script_lines};
-ghost use Rattle.gx_commands.specs.declared.command.LineWhy.{LineWhy};
-ghost use Rattle.gx_model.specs.Play.{stopped, end_text, start_at};
-ghost use Rattle.gx_play.specs.BadLines.{IsBadEnd};
+ghost use Rattle.gx_model.specs.Play.{start_at};
 ghost use Rattle.gx_play.specs.Endings.{IsPlayEnding, CountsFault, is_fault};
 ghost use Rattle.gx_play.specs.Images.{LeavesPlay};
 ghost use Rattle.gx_play.specs.Plays.{IsHolding, KeepsState, KeepsOver, IsPlayedAs, IsEndingOf};
+ghost use Rattle.gx_play.specs.Readings.{EndsAs};
+ghost use Rattle.gx_play.specs.ScriptEnds.{IsScriptEnd};
 
 use crate::ending::Ending;
 use crate::play::{Answers, PlayEnd, play_heard};
@@ -31,8 +31,8 @@ use std::alloc::Global;
 /// changes records or links and isn't refused, or is a `reorganize`, and damage isn't found. A
 /// crash within the call leaves the last state that some first lines kept, with their answers said
 /// but perhaps for an end of the last one's. On any leaves of such a device what was said before
-/// stays, in front, a line at which the play ends is the first bad one of the script, and after
-/// `Ok` the script was heard to its end.
+/// stays, in front, and a line at which the play ends is the first bad one of the script. After
+/// `Ok` the script was heard to its end, all its lines are good, and no transaction is open there.
 pub fn play_over<'a, B: Leaves + Drop>(
     alloc: Global,
     schema: Schema,
@@ -52,8 +52,7 @@ pub fn play_over<'a, B: Leaves + Drop>(
     ensures heard { IsTrue B.tells → (s : State) → IsHolding B.View schema built s leaves →
         result.0 ≡ Ok tt → (B.content result.1).script ≡ [] }
     ensures heard_whole { IsTrue B.tells → result.0 ≡ Ok tt → (B.content result.1).script ≡ [] }
-    ensures bad { IsTrue B.tells → (n : ℕ) (why : LineWhy) → result.0 ≡ Err (Ending.Line n why) →
-        IsBadEnd schema (B.content leaves).script (end_text (stopped n why)) }
+    ensures reads { IsTrue B.tells → EndsAs (IsScriptEnd schema (B.content leaves).script) result.0 }
     ensures ending { IfErr result.0 IsPlayEnding }
     ensures keeps { KeepsOver B.View leaves result.1 }
     ensures failures { CountsFault (B.faults leaves) (B.faults result.1) result.0 }

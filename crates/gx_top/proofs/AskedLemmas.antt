@@ -20,10 +20,10 @@ asked_by letter words =
     else if letter == 105 then inspecting (get_or words 3 [])
     else working (get_or words 2 []) (get_or words 3 []) (get_or words 4 [])
 
-asked_of : List (List ℕ) → Action
+pub asked_of : List (List ℕ) → Action
 asked_of words = asked_by (get_or (get_or words 0 []) 0 0) words
 
-asked : (a : Action) (schema equation : List ℕ) → asked_of (request_words a schema equation) ≡ a
+pub asked : (a : Action) (schema equation : List ℕ) → asked_of (request_words a schema equation) ≡ a
 unfolding asked_of asked_by
 asked checking schema equation = refl
 asked trying schema equation = refl
@@ -32,6 +32,33 @@ asked (making device blocks) schema equation = refl
 asked (running device) schema equation = refl
 asked (inspecting device) schema equation = refl
 asked (working device blocks records) schema equation = refl
+
+-- the words of a request are told by what they ask for
+pub schema_in : List (List ℕ) → List ℕ
+schema_in words = get_or words 1 []
+
+pub equation_in : Action → List (List ℕ) → List ℕ
+equation_in (working device blocks records) words = get_or words 1 []
+equation_in a words = get_or words 2 []
+
+again_all : (a : Action) (s e : List ℕ) → request_words a s e
+    ≡ request_words a (schema_in (request_words a s e)) (equation_in a (request_words a s e))
+unfolding schema_in equation_in
+again_all checking s e = refl
+again_all trying s e = refl
+again_all explaining s e = refl
+again_all (making device blocks) s e = refl
+again_all (running device) s e = refl
+again_all (inspecting device) s e = refl
+again_all (working device blocks records) s e = refl
+
+pub again : (words : List (List ℕ)) (a : Action) (s e : List ℕ) → words ≡ request_words a s e
+    → words ≡ request_words (asked_of words) (schema_in words) (equation_in (asked_of words) words)
+again words a s e is =
+    subst (λ (b : Action). words ≡ request_words b (schema_in words) (equation_in b words))
+    (sym (ap asked_of is ∙ asked a s e))
+    (subst (λ (w : List (List ℕ)). w ≡ request_words a (schema_in w) (equation_in a w)) (sym is)
+    (again_all a s e))
 
 -- the words of one request are those of no other
 action_once : (a b : Action) (s t e f : List ℕ) → request_words a s e ≡ request_words b t f → a ≡ b

@@ -33,7 +33,7 @@ same_or_not a b = by_less (cases_lt a b) (cases_lt b a)
     by_less (inr most) (inl less) = inr (λ same. omega (arith, less, same))
     by_less (inr most) (inr least) = inl (omega (arith, most, least))
 
-lists_same : (xs ys : List ℕ) → (xs ≡ ys) ⊎ (xs ≢ ys)
+pub lists_same : (xs ys : List ℕ) → (xs ≡ ys) ⊎ (xs ≢ ys)
 lists_same [] [] = inl refl
 lists_same [] (y ∷ ys) = inr (λ same. cc)
 lists_same (x ∷ xs) [] = inr (λ same. cc)

@@ -5,7 +5,7 @@ use Rattle.gx_device.specs.Content.{Content, Texts}
 use Rattle.gx_schema.specs.declared.schema.Schema.{Schema}
 use Rattle.gx_equation.specs.Trees.{DefinitionTree}
 use Rattle.gx_typing.specs.declared.typing.Typing.{Typing}
-use Rattle.gx_play.specs.BadLines.{IsBadEnd}
+use Rattle.gx_play.specs.ScriptEnds.{IsScriptEnd}
 use Rattle.gx_play.specs.declared.ending.Ending.{Ending}
 use Rattle.gx_play.specs.declared.ending.Ending.TheVariants as ending
 use Rattle.gx_play.specs.declared.status.Status.{Status}
@@ -15,7 +15,7 @@ use Rattle.gx_requests.specs.declared.opened.Stored.{Stored}
 use Rattle.gx_requests.specs.Checked.{IsStoredFor}
 use Rattle.gx_requests.specs.Requests.{IsRefused, IsUnprepared}
 use Rattle.gx_requests.specs.Words.{Action, checking, trying, explaining, making, running, inspecting, working, IsCount, IsRecordCount}
-use Rattle.gx_operations.specs.Given.{Given, IsStoredAs}
+use Rattle.gx_operations.specs.Given.{Given, IsStoredAs, KeepsBut, KeepsAll}
 use Rattle.gx_operations.specs.GivenUp.{GivesUp}
 use Rattle.gx_operations.specs.Makes.{MakesOn}
 use Rattle.gx_operations.specs.Promises.{IsKept}
@@ -23,17 +23,19 @@ use Rattle.gx_operations.specs.Refuses.{refuses, refuses_by}
 use Rattle.gx_operations.specs.Runs.{script_play}
 use Rattle.gx_operations.specs.Works.{WorksOn}
 use Rattle.gx_operations.proofs.MemoryLemmas.{refusal_given_up, check_given_up, try_given_up, explain_given_up, make_given_up, run_given_up, inspect_given_up, work_given_up}
-use Rattle.gx_top.specs.Promised.{IsGiven, CarriesOut, IsPromised}
+use Rattle.gx_top.specs.Promised.{IsGiven, CarriesOut, IsPromised, NameDevice}
 use Rattle.gx_top.specs.Readied.{IsLater}
 use Rattle.gx_top.proofs.AcceptedLemmas.{accepted_not_refused, one_acceptance, refused_status}
+use Rattle.gx_top.proofs.KeepLemmas.{keeps_words}
 use Rattle.gx_top.proofs.LaterLemmas.{refused_later, given_later}
 use Rattle.gx_top.proofs.OnceLemmas.{refused_once}
 use Rattle.gx_top.proofs.ReasonLemmas.{carried_not_refused, refusal_status, given_up_status, given_up_not_refused}
 
 -- words whose texts are accepted ask for this alone, and the texts mean nothing else
 pub joined : (words : List (List ℕ)) (old new : Content) (s : Status) (a : Action) (g : Given)
-    → IsGiven words old.aside.texts a g → CarriesOut a g old new s → IsPromised words old new s
-joined words old new s a g given done = record {
+    → IsGiven words old.aside.texts a g → CarriesOut a g old new s
+    → KeepsBut (NameDevice words) old new → IsPromised words old new s
+joined words old new s a g given done keeps = record {
   refused = λ why is. absurd
       (accepted_not_refused words old.aside.texts a g.schema g.definitions g.typing why given is);
   accepted = λ b h is.
@@ -49,13 +51,14 @@ joined words old new s a g given done = record {
   reason = λ is. absurd (carried_not_refused g old new words old.aside.texts a given
       (subst (λ k. CarriesOut a g old new k) is done));
   given = λ refused memory outside. (a, g, given);
+  keeps = keeps;
 }
 
 -- words that are refused are so for one reason
 pub joined_refusal : (words : List (List ℕ)) (old new : Content) (s : Status) (why : Ending)
     → IsRefused words old.aside.texts why → IsKept (refuses why old) old new s
-    → IsPromised words old new s
-joined_refusal words old new s why is done = record {
+    → KeepsBut (NameDevice words) old new → IsPromised words old new s
+joined_refusal words old new s why is done keeps = record {
   refused = λ other too. subst (λ line. IsKept (refuses_by line old) old new s)
       (refused_once words old.aside.texts why other is too) done;
   accepted = λ b h too. absurd
@@ -63,6 +66,7 @@ joined_refusal words old new s why is done = record {
   reason = λ is_refused. (why, is);
   given = λ refused memory outside.
       absurd (refusal_status why old new s done refused memory outside);
+  keeps = keeps;
 }
 
 -- ---- a request that is given up before anything was done
@@ -75,19 +79,20 @@ carried_given_up g old new s x explaining = explain_given_up g old new s x
 carried_given_up g old new s x (making device digits) =
     λ blocks is. make_given_up g old new s x device blocks
 carried_given_up g old new s x (running device) =
-    run_given_up g old new s x device (script_play g old.script) (IsBadEnd g.schema old.script)
+    run_given_up g old new s x device (script_play g old.script) (IsScriptEnd g.schema old.script)
 carried_given_up g old new s x (inspecting device) = inspect_given_up g old new s x device
 carried_given_up g old new s x (working device digits number) =
     λ blocks records is few. work_given_up g old new s x device blocks records
 
 -- whatever the words ask for
 pub joined_given_up : (words : List (List ℕ)) (old new : Content) (s : Status) → GivesUp old new s
-    → IsPromised words old new s
-joined_given_up words old new s x = record {
+    → KeepsBut (NameDevice words) old new → IsPromised words old new s
+joined_given_up words old new s x keeps = record {
   refused = λ why is. refusal_given_up old new s x why;
   accepted = λ a g is. carried_given_up g old new s x a;
   reason = λ is. absurd (given_up_not_refused old new s x is);
   given = λ refused memory outside. absurd (either memory outside (given_up_status old new s x));
+  keeps = keeps;
 }
   where
     either : s ≢ status.Memory → s ≢ status.Outside → (s ≡ status.Memory) ⊎ (s ≡ status.Outside) → ⊥
@@ -119,15 +124,17 @@ pub unprepared : (words : List (List ℕ)) (old mid new : Content) (before now :
     → IsUnprepared words old.aside.texts before now why → IsLater old mid
     → mid.now.pending ≡ old.now.pending
     → (status_of why ≡ status.Refused → IsKept (refuses why mid) mid new s)
-    → ((why ≡ ending.Fault) ⊎ (why ≡ ending.NoMemory) → GivesUp mid new s)
+    → ((why ≡ ending.Fault) ⊎ (why ≡ ending.NoMemory) → GivesUp mid new s) → KeepsAll mid new
     → IsPromised words old new s
-unprepared words old mid new before now why s (inl is) later same refused given =
+unprepared words old mid new before now why s (inl is) later same refused given keeps =
     joined_refusal words old new s why is
     (refused_later old mid later same why new s
     (refused (refused_status words old.aside.texts why is)))
-unprepared words old mid new before now why s (inr out) later same refused given =
+    (keeps_words words old mid new later keeps)
+unprepared words old mid new before now why s (inr out) later same refused given keeps =
     joined_given_up words old new s
     (given_later old mid new s later same (given (is_given_up before now why out)))
+    (keeps_words words old mid new later keeps)
 
 -- ---- what the texts give
 

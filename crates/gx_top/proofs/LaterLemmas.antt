@@ -8,6 +8,7 @@ use Rattle.gx_device.specs.Crash.{Image, Through}
 use Rattle.gx_ports.specs.declared.kinds.LeafSpec.{LeafSpec}
 use Rattle.gx_ports.specs.LeafMaps.{Limits}
 use Rattle.gx_layout.specs.Layout.{pages_of}
+use Rattle.gx_model.specs.Play.{End}
 use Rattle.gx_model.specs.States.{State}
 use Rattle.gx_store.specs.Store.{OfBlocks}
 use Rattle.gx_work.specs.Summary.{work_text}
@@ -16,12 +17,12 @@ use Rattle.gx_play.specs.declared.ending.DeviceWhy.{DeviceWhy}
 use Rattle.gx_play.specs.declared.ending.DeviceWhy.TheVariants as device_why
 use Rattle.gx_play.specs.declared.status.Status.{Status}
 use Rattle.gx_play.specs.declared.status.Status.TheVariants as status
-use Rattle.gx_play.specs.BadLines.{IsBadEnd}
+use Rattle.gx_play.specs.ScriptEnds.{IsScriptEnd}
 use Rattle.gx_play.specs.Endings.{made_line, memory_line}
 use Rattle.gx_play.specs.Player.{Play, IsDueOf}
 use Rattle.gx_play.specs.Say.{SameDevices}
 use Rattle.gx_operations.specs.Crashes.{IsUnchanged, IsStill, ReadsAsAttached}
-use Rattle.gx_operations.specs.Given.{Given, HoldState, IsStateless, KeepsOthers, limit_of}
+use Rattle.gx_operations.specs.Given.{Given, HoldState, IsStateless, limit_of}
 use Rattle.gx_operations.specs.GivenUp.{GaveUp, GivesUp}
 use Rattle.gx_operations.specs.Making.{IsUnmakable}
 use Rattle.gx_operations.specs.Promises.{Promise, IsKept, IsSaid, IsApart}
@@ -119,6 +120,7 @@ fetched_later old mid same time = record {
   through = weakened (λ m. m ≡ old.now) (IsStill old.now)
       (λ m is. subst (IsStill old.now) (sym is) (still_same old.now)) old mid time;
   script = same.script;
+  aside = same.aside;
 }
 
 module _ (old mid : Content) (l : IsLater old mid) (same : mid.now.pending ≡ old.now.pending) where
@@ -217,9 +219,6 @@ module _ (g : Given) (device : List ℕ) (old mid : Content) (l : IsLater old mi
   of_old : (name : List ℕ) (P : List (List ℕ) → Type 0) → OfBlocks name mid P → OfBlocks name old P
   of_old name P is = (is.0, sym (at name) ∙ is.1, is.2)
 
-  others : (new : Content) → KeepsOthers device mid new → KeepsOthers device old new
-  others new is other differs = is other differs ∙ at other
-
   unchanged : (new : Content) → IsUnchanged mid.now new.now → IsUnchanged old.now new.now
   unchanged new is = unchanged_twice old.now mid.now new.now l.through.now.unchanged is
 
@@ -262,7 +261,7 @@ module _ (g : Given) (device : List ℕ) (old mid : Content) (l : IsLater old mi
           says = λ s whole last new is. is;
           breaks = λ told new is. is;
           due = λ d is. is;
-          leaves = λ new s is. (others new is.0, is.1, is.2 ∙ l.script);
+          leaves = λ new s is. (is.0, is.1 ∙ l.script);
           crashes = λ new is. crashes_after device (IsMakeImage g blocks mid)
               (IsMakeImage g blocks old) old mid new l.through
               (λ middle image x. record {
@@ -308,7 +307,7 @@ module _ (g : Given) (device : List ℕ) (old mid : Content) (l : IsLater old mi
         says = wrong_says why;
         breaks = λ told new is. (is.0, λ blocks there. is.1 blocks (at device ∙ there));
         due = λ d is. is;
-        leaves = λ new s is. (others new is.0, (λ none. is.1 (at device ∙ none)), is.2 ∙ l.script);
+        leaves = λ new s is. ((λ none. is.0 (at device ∙ none)), is.1 ∙ l.script);
         crashes = λ new is. crashes_after device ReadsAsAttached ReadsAsAttached old mid new l.through
             (λ middle image x. x) is;
       }) old mid new said_is s k
@@ -316,15 +315,15 @@ module _ (g : Given) (device : List ℕ) (old mid : Content) (l : IsLater old mi
   damage : (line : List ℕ) → IsDamageLine device mid line → IsDamageLine device old line
   damage line is = (is.0, of_old device _ is.1, is.2)
 
-  unheld_says : (Bad : List ℕ → Type 0) (s : Status) (whole last : List ℕ) (new : Content)
-      → UnheldSays device mid Bad s whole last new → UnheldSays device old Bad s whole last new
-  unheld_says Bad status.Device whole last new is = damage last is
-  unheld_says Bad status.Memory whole last new is = is
-  unheld_says Bad status.Done whole last new is = is
-  unheld_says Bad status.Script whole last new is = is
-  unheld_says Bad status.Refused whole last new is = is
-  unheld_says Bad status.Full whole last new is = is
-  unheld_says Bad status.Outside whole last new is = is
+  unheld_says : (Ends : End → Type 0) (s : Status) (whole last : List ℕ) (new : Content)
+      → UnheldSays device mid Ends s whole last new → UnheldSays device old Ends s whole last new
+  unheld_says Ends status.Device whole last new is = damage last is
+  unheld_says Ends status.Memory whole last new is = is
+  unheld_says Ends status.Done whole last new is = is
+  unheld_says Ends status.Script whole last new is = is
+  unheld_says Ends status.Refused whole last new is = is
+  unheld_says Ends status.Full whole last new is = is
+  unheld_says Ends status.Outside whole last new is = is
 
   run_image : {M : Type 0} (p : Play M) (middle : Content) (image : Image)
       → IsRunImage g p mid middle image → IsRunImage g p old middle image
@@ -338,10 +337,10 @@ module _ (g : Given) (device : List ℕ) (old mid : Content) (l : IsLater old mi
     none = λ s held. is.none s (of_old device (HoldState g s) held);
   }
 
-  ran_on : {M : Type 0} (plays : Limits → State → Play M) (Bad : List ℕ → Type 0)
+  ran_on : {M : Type 0} (plays : Limits → State → Play M) (Ends : End → Type 0)
       (new : Content) (s : Status)
-      → RunsOn g device plays Bad mid new s → RunsOn g device plays Bad old new s
-  ran_on plays Bad new s r = record {
+      → RunsOn g device plays Ends mid new s → RunsOn g device plays Ends old new s
+  ran_on plays Ends new s r = record {
     wrong = λ why is. wrong_later why new s (r.wrong why (is_wrong why is));
     held = λ start is.
         let p = plays (limit_of g is.0) start in
@@ -349,26 +348,26 @@ module _ (g : Given) (device : List ℕ) (old mid : Content) (l : IsLater old mi
           says = λ s whole last new is. is;
           breaks = λ told new is. is;
           due = λ d is. is;
-          leaves = λ new s is. (others new is.0, is.1);
+          leaves = λ new s is. is;
           crashes = λ new is. crashes_after device (IsRunImage g p mid) (IsRunImage g p old) old mid
               new l.through (run_image p) is;
         }) old mid new said_is s (r.held start (is.0, at device ∙ is.1, is.2));
     unheld = λ is.
-        carried (runs_unheld device Bad mid) (runs_unheld device Bad old) (record {
-          says = unheld_says Bad;
+        carried (runs_unheld device Ends mid) (runs_unheld device Ends old) (record {
+          says = unheld_says Ends;
           breaks = λ told new is. is;
           due = λ d is. is;
-          leaves = λ new s is. (others new is.0, is.1);
+          leaves = λ new s is. is;
           crashes = λ new is. is;
         }) old mid new said_is s (r.unheld (is_stateless is));
   }
 
   pub ran_later : (new : Content) (s : Status)
-      → RunsOn g device (script_play g mid.script) (IsBadEnd g.schema mid.script) mid new s
-      → RunsOn g device (script_play g old.script) (IsBadEnd g.schema old.script) old new s
+      → RunsOn g device (script_play g mid.script) (IsScriptEnd g.schema mid.script) mid new s
+      → RunsOn g device (script_play g old.script) (IsScriptEnd g.schema old.script) old new s
   ran_later new s r =
-      subst (λ t. RunsOn g device (script_play g t) (IsBadEnd g.schema t) old new s) l.script
-      (ran_on (script_play g mid.script) (IsBadEnd g.schema mid.script) new s r)
+      subst (λ t. RunsOn g device (script_play g t) (IsScriptEnd g.schema t) old new s) l.script
+      (ran_on (script_play g mid.script) (IsScriptEnd g.schema mid.script) new s r)
 
   unsound_says : (s : Status) (whole last : List ℕ) (new : Content)
       → UnsoundSays device mid s whole last new → UnsoundSays device old s whole last new
@@ -389,7 +388,7 @@ module _ (g : Given) (device : List ℕ) (old mid : Content) (l : IsLater old mi
           says = λ s whole last new is. is;
           breaks = λ told new is. is;
           due = λ d is. is;
-          leaves = λ new s is. (others new is.0, is.1, is.2 ∙ l.script);
+          leaves = λ new s is. (is.0, is.1 ∙ l.script);
           crashes = λ new is. crashes_after device (IsSoundImage g state) (IsSoundImage g state) old
               mid new l.through (λ middle image x. x) is;
         }) old mid new said_is s (r.sound state (of_mid device (HoldState g state) is));
@@ -399,9 +398,8 @@ module _ (g : Given) (device : List ℕ) (old mid : Content) (l : IsLater old mi
           breaks = λ told new is. is;
           due = λ d is. is;
           leaves = λ new s is. (
-            others new is.0,
-            (λ blocks there. is.1 blocks (at device ∙ there)),
-            is.2 ∙ l.script,
+            (λ blocks there. is.0 blocks (at device ∙ there)),
+            is.1 ∙ l.script,
           );
           crashes = λ new is. crashes_after device (IsUnsoundImage g) (IsUnsoundImage g) old mid new
               l.through (λ middle image x. x) is;
@@ -419,7 +417,7 @@ module _ (g : Given) (device : List ℕ) (old mid : Content) (l : IsLater old mi
           says = λ s whole last new is. is;
           breaks = λ told new is. is;
           due = λ d is. is;
-          leaves = λ new s is. (others new is.0, is.1 ∙ l.script, is.2);
+          leaves = λ new s is. (is.0 ∙ l.script, is.1);
           crashes = λ new is. crashes_after device (IsWorkImage g blocks records mid)
               (IsWorkImage g blocks records old) old mid new l.through
               (λ middle image x. record {

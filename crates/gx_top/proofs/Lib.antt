@@ -7,4 +7,7 @@ mod TableLemmas
 mod LaterLemmas
 mod ReasonLemmas
 mod JoinLemmas
+mod KeepLemmas
+mod FollowLemmas
+mod DecidedLemmas
 mod ReadyLemmas

@@ -18,6 +18,7 @@ later_joined : (old mid new : Content) → IsLater old mid → IsLater mid new �
 later_joined old mid new x y = record {
   through = still_joined old mid new x.through y.through;
   script = y.script ∙ x.script;
+  aside = y.aside ∙ x.aside;
 }
 
 -- the error that is answered

@@ -5,7 +5,7 @@ use Rattle.gx_device.specs.Content.{Content, Texts, device_at}
 use Rattle.gx_model.specs.Play.{Playing}
 use Rattle.gx_model.specs.States.{State}
 use Rattle.gx_store.specs.Device.{IsSize}
-use Rattle.gx_play.specs.BadLines.{IsBadEnd}
+use Rattle.gx_play.specs.ScriptEnds.{IsScriptEnd}
 use Rattle.gx_play.specs.Player.{Play}
 use Rattle.gx_store.specs.Opening.{AreOpened}
 use Rattle.gx_store.specs.Store.{OfBlocks}
@@ -71,7 +71,7 @@ module _ (g : Given) (old new : Content) where
   unrun device start p answers line (inr is) = memory_not_refused is.0
 
   run_not : (device : List ℕ)
-      → RunsOn g device (script_play g old.script) (IsBadEnd g.schema old.script) old new
+      → RunsOn g device (script_play g old.script) (IsScriptEnd g.schema old.script) old new
       status.Refused → ⊥
   run_not device r = by_case (are_cases g device old).some
     where

@@ -1,9 +1,9 @@
 -- The table of statuses follows from what is promised.
 use Rattle.std.proofs.Common.{◌≡◌, ℕ, List, refl, true, inl, inr}
 use Rattle.gx_device.specs.Content.{Content}
-use Rattle.gx_model.specs.Play.{Playing}
+use Rattle.gx_model.specs.Play.{Playing, End}
 use Rattle.gx_model.specs.States.{State}
-use Rattle.gx_play.specs.BadLines.{IsBadEnd}
+use Rattle.gx_play.specs.ScriptEnds.{IsScriptEnd}
 use Rattle.gx_play.specs.Player.{Play}
 use Rattle.gx_play.specs.declared.ending.DeviceWhy.{DeviceWhy}
 use Rattle.gx_play.specs.declared.status.Status.TheVariants as status
@@ -95,15 +95,15 @@ module _ (g : Given) (device : List ℕ) (old new : Content) where
   ran_ends start p status.Memory k = refl
   ran_ends start p status.Outside k = refl
 
-  unheld_ends : (Bad : List ℕ → Type 0)
-      → EndsBy (running device) (runs_unheld device Bad old) old new
-  unheld_ends bad status.Done k = refl
-  unheld_ends bad status.Script k = refl
-  unheld_ends bad status.Refused k = absurd k.said.says
-  unheld_ends bad status.Full k = refl
-  unheld_ends bad status.Device k = refl
-  unheld_ends bad status.Memory k = refl
-  unheld_ends bad status.Outside k = refl
+  unheld_ends : (Ends : End → Type 0)
+      → EndsBy (running device) (runs_unheld device Ends old) old new
+  unheld_ends ends status.Done k = refl
+  unheld_ends ends status.Script k = refl
+  unheld_ends ends status.Refused k = absurd k.said.says
+  unheld_ends ends status.Full k = refl
+  unheld_ends ends status.Device k = refl
+  unheld_ends ends status.Memory k = refl
+  unheld_ends ends status.Outside k = refl
 
   wrong_inspected : (why : DeviceWhy)
       → EndsBy (inspecting device) (finds_wrong g why device old) old new
@@ -163,7 +163,7 @@ module _ (g : Given) (device : List ℕ) (old new : Content) where
     made = made_ends;
     run_wrong = wrong_ends;
     ran = λ start limit script. ran_ends start (script_play g script limit start);
-    unheld = λ script. unheld_ends (IsBadEnd g.schema script);
+    unheld = λ script. unheld_ends (IsScriptEnd g.schema script);
     inspect_wrong = wrong_inspected;
     sound = sound_ends;
     unsound = unsound_ends;

@@ -3,7 +3,7 @@ use Rattle.std.specs.Prelude.{◌≡◌, ℕ, List, Bool, true, false}
 use Rattle.gx_device.specs.Content.{Content}
 use Rattle.gx_model.specs.States.{State}
 use Rattle.gx_ports.specs.LeafMaps.{Limits}
-use Rattle.gx_play.specs.BadLines.{IsBadEnd}
+use Rattle.gx_play.specs.ScriptEnds.{IsScriptEnd}
 use Rattle.gx_play.specs.declared.ending.DeviceWhy.{DeviceWhy}
 use Rattle.gx_operations.specs.Given.{Given}
 use Rattle.gx_operations.specs.Promises.{Promise, IsKept}
@@ -65,7 +65,7 @@ pub record AreEnds (g : Given) (device : List ℕ) (old new : Content) : Type 0 
       → EndsBy (running device) (runs_from g device start (script_play g script limit start) old) old
       new
   pub unheld : (script : List ℕ)
-      → EndsBy (running device) (runs_unheld device (IsBadEnd g.schema script) old) old new
+      → EndsBy (running device) (runs_unheld device (IsScriptEnd g.schema script) old) old new
   pub inspect_wrong : (why : DeviceWhy)
       → EndsBy (inspecting device) (finds_wrong g why device old) old new
   pub sound : (s : State) → EndsBy (inspecting device) (inspects_sound g device s old) old new

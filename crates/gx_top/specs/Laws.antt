@@ -1,17 +1,27 @@
 -- What laws say.
-use Rattle.std.specs.Prelude.{◌≡◌, ◌⊎◌, ℕ, List, Some}
+use Rattle.std.specs.Prelude.{◌≡◌, ◌⊎◌, ℕ, List, ◌++◌, Some}
 use Rattle.std.specs.FinMap.{get}
 use Rattle.gx_device.specs.Content.{Content, Texts}
-use Rattle.gx_model.specs.States.{State}
+use Rattle.gx_schema.specs.declared.schema.Schema.{Schema}
+use Rattle.gx_model.specs.States.{State, empty_state}
 use Rattle.gx_model.specs.Play.{End}
 use Rattle.gx_store.specs.Opening.{AreOpened}
 use Rattle.gx_store.specs.Store.{OfBlocks}
 use Rattle.gx_play.specs.Played.{IsPlayText}
 use Rattle.gx_play.specs.declared.ending.DeviceWhy.{DeviceWhy}
-use Rattle.gx_requests.specs.Words.{Action, trying, running, request_words}
+use Rattle.gx_play.specs.declared.ending.Ending.{Ending}
+use Rattle.gx_play.specs.declared.status.Status.{Status}
+use Rattle.gx_play.specs.declared.status.Status.TheVariants as status
+use Rattle.gx_requests.specs.Words.{Action, trying, making, running, inspecting, request_words}
+use Rattle.gx_requests.specs.Requests.{IsRefused}
 use Rattle.gx_operations.specs.Given.{Given, under, IsHeldOn, IsStateless}
 use Rattle.gx_operations.specs.Wrong.{IsWrong}
-use Rattle.gx_top.specs.Promised.{IsGiven}
+use Rattle.gx_top.specs.Promised.{IsGiven, IsPromised}
+
+-- the words are refused for a reason, or their texts are accepted
+abbrev pub AreRefusedOrGiven : List (List ℕ) → Texts → Type 0
+AreRefusedOrGiven words texts = ((why : Ending) × IsRefused words texts why)
+    ⊎ ((a : Action) × (g : Given) × IsGiven words texts a g)
 
 -- ---- of two requests that play one script
 
@@ -45,6 +55,40 @@ pub record PlayOneScript (words others : List (List ℕ)) (before other : Conten
   pub under : IsUnder words before.aside.texts schema
   pub other_under : IsUnder others other.aside.texts schema
   pub script : before.script ≡ other.script
+
+-- ---- of requests that follow each other on one machine
+
+-- Words that were accepted before are accepted then, with the same meaning, and the device holds
+-- the state. So much `run` and `inspect` are promised for.
+pub record IsHeldFor (g : Given) (device : List ℕ) (s : State) (old new : Content) : Type 0 where
+  pub given : (words : List (List ℕ)) (a : Action) (h : Given)
+      → IsGiven words old.aside.texts a h → IsGiven words new.aside.texts a h
+  pub held : IsHeldOn g device s new
+
+-- The next request finds such a state, of which this is so.
+abbrev pub NextFinds : Given → List ℕ → Content → Content → (State → Type 0) → Type 0
+NextFinds g device old new P = (s : State) × P s × IsHeldFor g device s old new
+
+-- the text was said that the script's play from this state has, with this last kept state
+abbrev pub SaysPlay : Schema → State → Content → Content → State → Type 0
+SaysPlay schema start old new kept =
+    (end : End) × (text : List ℕ) × IsPlayText schema start old.script end text kept
+    × (new.now.said ≡ old.now.said ++ text)
+
+-- What a request that ended so leaves for the next one: `make` the empty state; `run`, to the
+-- script's end or a line of it, the last kept state; and `inspect` the state that it found.
+pub record Follows (words : List (List ℕ)) (g : Given) (device : List ℕ)
+    (old new : Content) : Type 0 where
+  pub made : (digits : List ℕ) → IsGiven words old.aside.texts (making device digits) g
+      → IsPromised words old new status.Done
+      → NextFinds g device old new (λ s. s ≡ empty_state g.schema)
+  pub ran : IsGiven words old.aside.texts (running device) g → (start : State)
+      → IsHeldOn g device start old → (s : Status) → (s ≡ status.Done) ⊎ (s ≡ status.Script)
+      → IsPromised words old new s
+      → NextFinds g device old new (SaysPlay g.schema start old new)
+  pub inspected : IsGiven words old.aside.texts (inspecting device) g → (state : State)
+      → IsHeldOn g device state old → (s : Status) → IsPromised words old new s
+      → NextFinds g device old new (λ s. s ≡ state)
 
 -- ---- of the cases of a request on a device that is there
 

@@ -10,6 +10,7 @@ use Rattle.gx_operations.specs.Crashes.{IsStill}
 pub record IsLater (old new : Content) : Type 0 where
   pub through : Through (IsStill old.now) old new
   pub script : new.script ≡ old.script
+  pub aside : new.aside ≡ old.aside
 
 -- The same of a machine whose content and whose count of failed calls are given by `content` and
 -- `faults`. Where it goes on, nothing is pending; else as much as before.

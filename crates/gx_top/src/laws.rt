@@ -16,7 +16,7 @@ ghost use Rattle.gx_requests.specs.Requests.{IsRefused};
 ghost use Rattle.gx_requests.specs.Checked.{IsStored};
 ghost use Rattle.gx_operations.specs.Given.{Given, IsStoredAs, IsHeldOn};
 ghost use Rattle.gx_top.specs.Ends.{AreEnds};
-ghost use Rattle.gx_top.specs.Laws.{IsWholeText, PlayOneScript, AreCases};
+ghost use Rattle.gx_top.specs.Laws.{IsWholeText, PlayOneScript, AreCases, AreRefusedOrGiven, Follows};
 ghost use Rattle.gx_top.specs.Needs.{AreEnough};
 ghost use Rattle.gx_top.specs.Promised.{IsGiven};
 
@@ -26,6 +26,12 @@ use gx_requests::Stored;
 pub fn never_both(words: &[String])
     ensures { (texts : Texts) (why : TheEnding) (a : Action) (g : Given)
         → IsGiven (texts_of words.now) texts a g → ¬ IsRefused (texts_of words.now) texts why }
+{}
+
+/// All words are refused for a reason, or their texts are accepted, whatever the texts of the
+/// machine are. It does nothing.
+pub fn refused_or_accepted(words: &[String])
+    ensures { (texts : Texts) → AreRefusedOrGiven (texts_of words.now) texts }
 {}
 
 /// They ask for one thing, and their texts mean one thing. It does nothing.
@@ -51,6 +57,14 @@ pub fn one_state(device: &str, stored: &Stored)
     requires { IsStored stored.now }
     ensures { (g : Given) (c : Content) (s t : State) → IsStoredAs g stored.now
         → IsHeldOn g device.now s c → IsHeldOn g device.now t c → s ≡ t }
+{}
+
+/// What a request on a device leaves for the next one on the machine that `top` hands back: the
+/// texts are accepted as before, and `run` and `inspect` find the empty state after `make` that
+/// ended with `Done`, the last kept state after `run` that ended with `Done` or `Script`, and the
+/// state that was found after `inspect`. It does nothing.
+pub fn requests_follow(words: &[String], device: &str)
+    ensures { (g : Given) (old new : Content) → Follows (texts_of words.now) g device.now old new }
 {}
 
 /// A request is refused for one reason. It does nothing.

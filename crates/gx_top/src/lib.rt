@@ -15,6 +15,6 @@ mod work;
 
 pub use laws::{
     enough_pages, never_both, one_list_of_maps, one_reason, one_request, one_state, one_text,
-    statuses, wrong_or_opened,
+    refused_or_accepted, requests_follow, statuses, wrong_or_opened,
 };
 pub use request::top;

@@ -17,43 +17,48 @@ use gx_play::{Ending, Status};
 use gx_requests::{Request, read_words};
 use std::alloc::Global;
 
-/// Carries out what the words ask for, says its answers on the machine, and hands the machine
-/// back. The words are `check SCHEMA EQUATION`, `try SCHEMA EQUATION`, `explain SCHEMA EQUATION`,
+/// Carries out what the words ask for, says its answers on the machine, and hands the machine back.
+/// The words are `check SCHEMA EQUATION`, `try SCHEMA EQUATION`, `explain SCHEMA EQUATION`,
 /// `make SCHEMA EQUATION DEVICE BLOCKS`, `run SCHEMA EQUATION DEVICE`,
 /// `inspect SCHEMA EQUATION DEVICE` or `work EQUATION DEVICE BLOCKS RECORDS`. On a machine that
 /// tells its content:
 ///
 /// - `Done`: of `check`, exactly the line of the accepted equation's leaves was said; of `make`,
-///   exactly the line of the device that was made. Of `try` and `run`, exactly the answers of the
-///   play of the whole script were said, and the script was heard to its end. `try` plays it on an
-///   empty database, `run` on the state that the device holds. Of `explain`, exactly the plans of
-///   the script's `find` lines were said, and the script was heard to its end; a transaction may be
-///   open there. Of `inspect`, exactly the lines of the leaves, files and links of the state were
-///   said that the device held, and then `sound`. Of `work`, exactly the summary of the workload
-///   was said, which was played to its end on a device that is new.
+///   exactly the line of the device that was made. Of `try`, and of `run` on a device that holds a
+///   state, exactly the answers of the play of the whole script were said, and the script was heard
+///   to its end. `try` plays it on an empty database, `run` on that state. Of `explain`, exactly
+///   the plans of the script's `find` lines were said, and the script was heard to its end; a
+///   transaction may be open there. Of `inspect`, exactly the lines of the leaves, files and links
+///   of the state were said that the device held, and then `sound`. Of `work`, exactly the summary
+///   of the workload was said, which was played to its end on a device that is new.
 /// - `Script`: a line ends the play, or the plans. Exactly the answers or plans up to it were said,
-///   and then the line that says where and why.
+///   of `run` on a device that holds a state, and then the line that says where and why.
 /// - `Refused`: the request is refused for the first reason in the order of the words, the texts,
 ///   the schema, the equation, its types, and the length of the texts. The line of that reason was
 ///   said, and nothing else.
 /// - `Full`: the pages may be too few for the command of a line, which changes records or links,
 ///   isn't refused and is no `delete`, or is a `reorganize`. Exactly the answers of the lines
-///   before it were said, and then `stopped: full`; of `work` that line alone.
+///   before it were said, of `run` on a device that holds a state, and then `stopped: full`; of
+///   `work` that line alone.
 /// - `Device`: the device isn't what was asked for. Its line was said, and nothing else; that of
 ///   damage, which names a block that the device has, was said last, behind what was said before.
 ///   Damage comes only of a device that is there, with its size, a database and the same texts, and
 ///   that holds no state. `inspect` finds it exactly there.
 /// - `Memory`: there was no memory. Exactly the answers or plans of the script's first lines were
-///   said, perhaps of none, and then `stopped: memory`.
-/// - `Outside`: a call of the machine failed. All answers of one of the others were said and a front
-///   of its line, or first answers, but perhaps an end of the last one.
+///   said, perhaps of none, of `run` on a device that holds a state, and then `stopped: memory`.
+/// - `Outside`: a call of the machine failed. All answers of one of the others were said and a
+///   front of its line, or first answers, but perhaps an end of the last one.
+///
+/// On a device that holds no state `run` says of a line that it is bad only where it is, and ends
+/// with `Done` only where none is.
 ///
 /// `Refused` comes only where there is a reason, and every other status but `Memory` and `Outside`
-/// only where the texts are accepted. Which status is due, what is left of the devices whatever the status is, and what a crash at any
-/// moment leaves, each case of a request says by its `Promise`. A device that was attached before is
-/// synced before a request on a device is carried out, so that `top` can be called again on the
-/// machine that it hands back. `check`, `try`, `explain` and words that are refused leave all
-/// devices as they were, and of them what a crash may spoil.
+/// only where the texts are accepted. Which status is due, what is left of the device whatever the
+/// status is, and what a crash at any moment leaves, each case of a request says by its `Promise`.
+/// The texts of the machine stay, and all devices but the one that the words name. A device that
+/// was attached before is synced before a request on a device is carried out, so that `top` can be
+/// called again on the machine that it hands back. `check`, `try`, `explain` and words that are
+/// refused leave all devices as they were, and of them what a crash may spoil.
 pub fn top<M: Machine + Drop>(alloc: Global, words: &[String], machine: M) -> (Status, M)
     // What is promised of the request, in each case of what there was before.
     ensures promised { IsTrue M.tells → IsPromised (texts_of words.now) (M.content machine)

@@ -253,6 +253,41 @@ fn scripts_stop(rt: HostRuntime) -> Result<(), Fail> {
     Ok(())
 }
 
+// Requests that follow each other on one machine: what each says, and how it ends.
+const TURNS: [(&str, &str, Status); 5] = [
+    (
+        "make S1 E1 d 101",
+        "made: 101 blocks, 47 pages\n",
+        Status::Done,
+    ),
+    ("run S1 E1 d", SAID, Status::Done),
+    (
+        "inspect S1 E1 d",
+        "leaf 0 f heap entries 1\nfile f records 1\nsound\n",
+        Status::Done,
+    ),
+    // the script was heard
+    ("run S1 E1 d", "", Status::Done),
+    ("make S1 E1 d 101", "device: exists\n", Status::Device),
+];
+
+// A request finds what the one before it left.
+#[test]
+fn requests_follow_on_one_machine(rt: HostRuntime) -> Result<(), Fail> {
+    let alloc = rt.alloc();
+    let mut machine = machine(alloc, SCRIPT.as_bytes())?;
+    machine.reserve(alloc, 2000, 2_000_000)?;
+    let mut said = Vec::new(alloc);
+    for (line, more, wanted) in TURNS {
+        let (status, after) = ask(alloc, line, machine)?;
+        said.extend_from_slice(more.as_bytes())?;
+        check_row(&rt, line, after.said() == said.as_slice());
+        check_row(&rt, line, status == wanted);
+        machine = after;
+    }
+    Ok(())
+}
+
 // A comment of so many bytes.
 fn comment(alloc: Global, len: usize) -> Result<Vec<u8>, Fail> {
     let mut line = b"#".to_vec(alloc)?;

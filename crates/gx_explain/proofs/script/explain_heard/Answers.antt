@@ -16,6 +16,7 @@ loop-count-init g c =
           c.new-reader.result (content c.args.machine.now) c.new-reader.ensures.lines
           c.new-reader.ensures.number;
       devices = record { blocks = refl; pending = refl; shelf = refl };
+      aside = refl;
       counted = refl;
     }
 

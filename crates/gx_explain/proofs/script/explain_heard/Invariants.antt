@@ -16,6 +16,7 @@ invariant-loop-count g l =
           (meant l.reader (content l.machine).script) (number_of l.reader) l.inside
           (content l.fn.machine) (content l.machine);
       devices : SameDevices (content l.fn.machine) (content l.machine);
+      aside : (content l.machine).aside ≡ (content l.fn.machine).aside;
       counted : g.M.Device.faults l.machine ≡ g.M.Device.faults l.fn.machine;
     }
 

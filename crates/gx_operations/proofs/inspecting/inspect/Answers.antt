@@ -6,6 +6,7 @@ use Rattle.gx_store.specs.Device.{IsHeadOf, IsSettled}
 use Rattle.gx_store.specs.Opening.{HaveDatabase, IsUnopened}
 use Rattle.gx_store.specs.Store.{machine_of}
 use Rattle.gx_play.specs.Endings.{IsEnded, EndsThrough}
+use Rattle.gx_operations.proofs.EndedLemmas.{keeps_opened, keeps_attached}
 use Rattle.gx_operations.proofs.InspectLemmas.{IsSeen, examined_kept, unopened_kept, given_texts}
 use Rattle.gx_operations.proofs.WrongLemmas.{IsTried}
 use Rattle.gx_operations.proofs.inspecting.inspect.Goals as goal
@@ -94,11 +95,18 @@ returns-in-Err-clause-promised g c = λ can given of.
     (subst (λ w. EndsThrough w mid new) c.unopened_ending.ensures
     (c.end-status.ensures.moments can.told))
 
-pub returns-in-Ok-clause-aside : goal.returns-in-Ok-clause-aside
-returns-in-Ok-clause-aside g c = λ can.
-    c.tell-status.ensures.rest.aside ∙ c.examine_store-found.ensures.silent.aside
-    ∙ (c.in-Ok.ensures.attaches can).aside
+pub returns-in-Ok-clause-keeps : goal.returns-in-Ok-clause-keeps
+returns-in-Ok-clause-keeps g c = λ can.
+    let content = g.M.Device.content in
+    let silent = c.examine_store-found.ensures.silent in
+    keeps_opened c.args.device.now (content c.args.machine) (content (machine_of c.in-Ok.store))
+    (content c.tell-status.new.machine) (c.in-Ok.ensures.attaches can)
+    (c.in-Ok.ensures.opened can).opens.named (c.tell-status.ensures.devices.shelf ∙ silent.shelf)
+    (c.tell-status.ensures.rest.aside ∙ silent.aside)
 
-pub returns-in-Err-clause-aside : goal.returns-in-Err-clause-aside
-returns-in-Err-clause-aside g c = λ can.
-    c.end-status.ensures.rest.aside ∙ (c.in-Err.ensures.attaches can).aside
+pub returns-in-Err-clause-keeps : goal.returns-in-Err-clause-keeps
+returns-in-Err-clause-keeps g c = λ can.
+    let content = g.M.Device.content in
+    keeps_attached c.args.device.now (content c.args.machine) (content c.in-Err.machine)
+    (content c.end-status.new.machine) (c.in-Err.ensures.attaches can) c.end-status.ensures.devices
+    c.end-status.ensures.rest.aside

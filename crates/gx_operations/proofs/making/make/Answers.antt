@@ -1,4 +1,5 @@
 use Rattle.std.proofs.Common.{◌≡◌, rules}
+use Rattle.gx_operations.proofs.EndedLemmas.{keeps_attached}
 use Rattle.gx_operations.proofs.MakeLemmas.{make_told}
 use Rattle.gx_operations.proofs.making.make.Goals as goal
 
@@ -17,3 +18,10 @@ returns-clause-promised g c = λ can given of.
     c.making_ending.ensures
     (record { due = c.end-status.ensures.due; words = c.end-status.ensures.words can.told })
     c.end-status.ensures.devices (c.end-status.ensures.moments can.told)
+
+pub returns-clause-keeps : goal.returns-clause-keeps
+returns-clause-keeps g c = λ can.
+    let content = g.M.Device.content in
+    keeps_attached c.args.device.now (content c.args.machine) (content c.make-made.result.1)
+    (content c.end-status.new.machine) (c.make-made.ensures.attaches can)
+    c.end-status.ensures.devices c.end-status.ensures.rest.aside

@@ -15,12 +15,15 @@ use Rattle.gx_model.specs.Play.{start_at}
 use Rattle.gx_states.specs.Internal.{AreInternal}
 use Rattle.gx_play.specs.declared.play.Answers.TheVariants as answers
 use Rattle.gx_play.specs.Images.{IsPlayImage}
+use Rattle.gx_play.specs.Readings.{EndsAs}
+use Rattle.gx_play.specs.ScriptEnds.{IsScriptEnd}
 use Rattle.gx_play.specs.Plays.{IsHolding, IsPlayedAs}
 use Rattle.gx_operations.specs.Damage.{IsDamageBelow}
 use Rattle.gx_operations.specs.Held.{StoreState}
 use Rattle.gx_operations.specs.Settled.{IsSettledIn}
 use Rattle.gx_operations.proofs.StoreLemmas.{settled_from}
-use Rattle.gx_operations.proofs.RunStoreLemmas.{store_images, play_leaves, store_played, store_stopped, line_before, same_error}
+use Rattle.gx_operations.proofs.RunStoreLemmas.{store_images, play_leaves, store_played, store_stopped}
+use Rattle.gx_operations.proofs.DamageLemmas.{damage_kept}
 use Rattle.gx_operations.proofs.running.play_stored.Goals as goal
 
 pub returns-in-Ok-clause-answered : goal.returns-in-Ok-clause-answered
@@ -91,6 +94,8 @@ returns-in-Ok-clause-stays g c = λ told.
           (c.play_over-store.ensures.keeps.begins told);
       shelf = ap (λ m. (content m).now.shelf) c.close-machine.ensures.machine
           ∙ c.play_over-store.ensures.keeps.shelf;
+      aside = ap (λ m. (content m).aside) c.close-machine.ensures.machine
+          ∙ c.play_over-store.ensures.keeps.aside;
       count = ap (λ m. length (content m).now.blocks) c.close-machine.ensures.machine
           ∙ sym (g.met.M.Device.sized (machine_of left) told)
           ∙ ap (λ (h : Head). h.base.blocks) c.play_over-store.ensures.keeps.head
@@ -165,17 +170,26 @@ returns-in-Err-clause-stays g c = λ told.
           (c.play_over-store.ensures.keeps.begins told);
       shelf = ap (λ m. (content m).now.shelf) c.close-machine.ensures.machine
           ∙ c.play_over-store.ensures.keeps.shelf;
+      aside = ap (λ m. (content m).aside) c.close-machine.ensures.machine
+          ∙ c.play_over-store.ensures.keeps.aside;
       count = ap (λ m. length (content m).now.blocks) c.close-machine.ensures.machine
           ∙ sym (g.met.M.Device.sized (machine_of left) told)
           ∙ ap (λ (h : Head). h.base.blocks) c.play_over-store.ensures.keeps.head
           ∙ g.met.M.Device.sized (machine_of c.args.store) told;
     }
 
-pub returns-in-Err-clause-bad : goal.returns-in-Err-clause-bad
-returns-in-Err-clause-bad g c = λ told number why is.
-    c.play_over-store.ensures.bad told number why (c.in-Err.is
-    ∙ ap Err (line_before _ c.damage_on-why.result number why c.damage_on-why.ensures.same
-    (same_error _ _ is)))
+pub returns-in-Ok-clause-reads : goal.returns-in-Ok-clause-reads
+returns-in-Ok-clause-reads g c = λ told.
+    subst (EndsAs (IsScriptEnd c.args.schema
+    (g.M.Device.content (machine_of c.args.store)).script)) c.in-Ok.is
+    (c.play_over-store.ensures.reads told)
+
+pub returns-in-Err-clause-reads : goal.returns-in-Err-clause-reads
+returns-in-Err-clause-reads g c = λ told.
+    let ends = IsScriptEnd c.args.schema (g.M.Device.content (machine_of c.args.store)).script in
+    damage_kept (λ w. EndsAs ends (Err w)) (λ block other is. tt) _ c.damage_on-why.result
+    c.damage_on-why.ensures.same
+    (subst (EndsAs ends) c.in-Err.is (c.play_over-store.ensures.reads told))
 
 pub returns-in-Err-clause-damage : goal.returns-in-Err-clause-damage
 returns-in-Err-clause-damage g c = λ told.

@@ -11,12 +11,13 @@ use Rattle.gx_store.specs.Device.{IsHeadOf}
 use Rattle.gx_store.specs.Opening.{IsUnopened, HaveDatabase}
 use Rattle.gx_store.specs.Store.{HoldsMaps, machine_of}
 use Rattle.gx_model.specs.States.{State}
-use Rattle.gx_model.specs.Play.{stopped, end_text}
-use Rattle.gx_play.specs.BadLines.{IsBadEnd}
+use Rattle.gx_play.specs.ScriptEnds.{IsScriptEnd}
+use Rattle.gx_play.specs.Readings.{EndsAs}
 use Rattle.gx_play.specs.Endings.{IsEnded, EndsThrough, is_fault}
 use Rattle.gx_play.specs.Plays.{IsPlayedAs}
 use Rattle.gx_operations.specs.Held.{StoreState}
 use Rattle.gx_operations.specs.Settled.{IsSettledIn, limits_on}
+use Rattle.gx_operations.proofs.EndedLemmas.{keeps_opened, keeps_attached}
 use Rattle.gx_operations.proofs.RunOnLemmas.{AreOf, under_of, run_opened, run_unopened}
 use Rattle.gx_operations.proofs.StoreLemmas.{limit_on}
 use Rattle.gx_operations.proofs.running.run.Goals as goal
@@ -40,7 +41,7 @@ returns-in-Ok-clause-promised g c = λ can given of.
     let limit = limits_of base (places_in store) in
     let built : specs ≡ x.built.specs = first_of (search rules, cc) in
     let specs_are : specs ≡ given.typing.specs = built ∙ of.specs in
-    run_opened given device (IsBadEnd given.schema old.script) x.schema x.built schema equation specs
+    run_opened given device (IsScriptEnd given.schema old.script) x.schema x.built schema equation specs
     (head_of store) limit (λ (maps : List LeafMap). HoldsMaps maps store) old opened mid played
     (record {
       schema_is = of.schema;
@@ -73,10 +74,10 @@ returns-in-Ok-clause-promised g c = λ can given of.
       images = λ s maps reaches internal. c.play_stored-machine.ensures.crash can.told s maps reaches
           internal o.is.calm;
       heard = c.play_stored-machine.ensures.heard can.told;
-      bad = λ number why is.
-          subst (λ (k : Schema). IsBadEnd k old.script (end_text (stopped number why))) of.schema
-          (subst (λ (t : List ℕ). IsBadEnd x.schema t (end_text (stopped number why)))
-          attaches.script (c.play_stored-machine.ensures.bad can.told number why is));
+      reads =
+          subst (λ (k : Schema). EndsAs (IsScriptEnd k old.script) played) of.schema
+          (subst (λ (t : List ℕ). EndsAs (IsScriptEnd x.schema t) played) attaches.script
+          (c.play_stored-machine.ensures.reads can.told));
       stays = c.play_stored-machine.ensures.stays can.told;
       play = c.play_stored-machine.ensures.ending;
       damage = c.play_stored-machine.ensures.damage can.told;
@@ -103,7 +104,7 @@ returns-in-Err-clause-promised g c = λ can given of.
       equation_is = c.as_slice-2.ensures ∙ of.equation_text;
       specs_are = specs_are;
     } in
-    run_unopened given device (IsBadEnd given.schema old.script) old mid new why c.end-status.result
+    run_unopened given device (IsScriptEnd given.schema old.script) old mid new why c.end-status.result
     (record {
       unopened = under_of given schema equation specs told (λ t e k. IsUnopened device t e k old why)
           (c.in-Err.ensures.unopened can);
@@ -120,3 +121,20 @@ returns-in-Err-clause-promised g c = λ can given of.
     (record { due = c.end-status.ensures.due; words = c.end-status.ensures.words can.told }))
     (subst (λ w. EndsThrough w mid new) c.unopened_ending.ensures
     (c.end-status.ensures.moments can.told))
+
+pub returns-in-Ok-clause-keeps : goal.returns-in-Ok-clause-keeps
+returns-in-Ok-clause-keeps g c = λ can.
+    let content = g.M.Device.content in
+    let stays = c.play_stored-machine.ensures.stays can.told in
+    keeps_opened c.args.device.now (content c.args.machine) (content (machine_of c.in-Ok.store))
+    (content c.finish-status.new.machine) (c.in-Ok.ensures.attaches can)
+    (c.in-Ok.ensures.opened can).opens.named
+    (c.finish-status.ensures.devices.shelf ∙ stays.shelf)
+    (c.finish-status.ensures.rest.aside ∙ stays.aside)
+
+pub returns-in-Err-clause-keeps : goal.returns-in-Err-clause-keeps
+returns-in-Err-clause-keeps g c = λ can.
+    let content = g.M.Device.content in
+    keeps_attached c.args.device.now (content c.args.machine) (content c.in-Err.machine)
+    (content c.end-status.new.machine) (c.in-Err.ensures.attaches can) c.end-status.ensures.devices
+    c.end-status.ensures.rest.aside

@@ -86,6 +86,12 @@ returns-in-Ok-clause-devices g c =
           ∙ ap (λ m. (content m).now.shelf) c.in-Ok.ensures.device;
     }
 
+pub returns-in-Ok-clause-aside : goal.returns-in-Ok-clause-aside
+returns-in-Ok-clause-aside g c =
+    ap (λ m. (g.M.Device.content m).aside) c.into_device.ensures
+    ∙ c.play_over-leaves.ensures.keeps.aside
+    ∙ ap (λ m. (g.M.Device.content m).aside) c.in-Ok.ensures.device
+
 pub returns-clause-answered : goal.returns-clause-answered
 returns-clause-answered g c = λ told. record {
   answers = [];

@@ -5,7 +5,7 @@ use Rattle.gx_model.specs.Play.{start_at}
 use Rattle.gx_ports.specs.declared.stop.Stop.TheVariants as stop
 use Rattle.gx_engine.specs.Steps.{schema_of, leaves_of, is_open}
 use Rattle.gx_play.specs.Readings.{IsReadOut}
-use Rattle.gx_play.proofs.ReadingLemmas.{bad_end}
+use Rattle.gx_play.proofs.ReadingLemmas.{read_as}
 use Rattle.gx_commands.specs.Lines.{script_lines}
 use Rattle.gx_play.specs.Plays.{IsPlayedTo, is_play_fault}
 use Rattle.gx_play.specs.Endings.{is_fault}
@@ -110,15 +110,14 @@ returns-clause-heard_whole g c = λ told is.
     ∙ c.play_heard-played.ensures.heard told
     (ended_well c.play_heard-played.result c.ended.result c.ended.ensures is)
 
-pub returns-clause-bad : goal.returns-clause-bad
-returns-clause-bad g c = λ told n why is.
+pub returns-clause-reads : goal.returns-clause-reads
+returns-clause-reads g c = λ told.
     let content = g.B.View.content in
     let begins = c.start-engine.ensures.begins in
     let e = c.start-engine.result in
-    bad_end c.args.schema (is_open e) (content c.args.leaves).script c.play_heard-played.result
+    read_as c.args.schema (is_open e) (content c.args.leaves).script c.play_heard-played.result
     c.ended.result c.ended.ensures begins.shut
     (subst (λ s. IsReadOut s (is_open e) (script_lines (content c.args.leaves).script)
     c.play_heard-played.result) begins.schema_is
     (subst (λ l. IsReadOut (schema_of e) (is_open e) (script_lines (content l).script)
-    c.play_heard-played.result) begins.leaves_are (c.play_heard-played.ensures.reads told))) n why
-    is
+    c.play_heard-played.result) begins.leaves_are (c.play_heard-played.ensures.reads told)))

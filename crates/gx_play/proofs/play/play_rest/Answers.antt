@@ -7,7 +7,7 @@ use Rattle.gx_engine.specs.Steps.{schema_of, built_of, leaves_of, is_open}
 use Rattle.gx_play.specs.Plays.{IsPlayedTo, IsPlayedUp, is_play_fault}
 use Rattle.gx_play.specs.Images.{LeavesPlay}
 use Rattle.gx_play.specs.Readings.{IsReadOut}
-use Rattle.gx_play.proofs.ReadingLemmas.{read_open}
+use Rattle.gx_play.proofs.ReadingLemmas.{read_shut}
 use Rattle.gx_play.proofs.PlayLemmas.{is_err}
 use Rattle.gx_play.proofs.PieceLemmas.{going_out}
 use Rattle.gx_play.proofs.play.play_rest.Goals as goal
@@ -53,9 +53,12 @@ returns-in_err-play_last-clause-reads g c = λ begun all so.
 
 pub returns-then-inside-clause-reads : goal.returns-then-inside-clause-reads
 returns-then-inside-clause-reads g c = λ begun all so.
-    read_open (schema_of c.args.engine.now) begun all no_lines (number_of c.play_last.new.reader)
-    c.number.result (is_open c.play_last.new.engine) (c.in_ok-play_last.ensures.reads begun all so)
-    refl (search rules) c.number.ensures
+    read_shut (schema_of c.args.engine.now) begun all no_lines (number_of c.play_last.new.reader)
+    c.number.result (is_open c.play_last.new.engine) true
+    (c.in_ok-play_last.ensures.reads begun all so) refl (search rules) c.number.ensures
 
 pub returns-clause-reads : goal.returns-clause-reads
-returns-clause-reads g c = λ begun all so. tt
+returns-clause-reads g c = λ begun all so.
+    let n = number_of c.play_last.new.reader in
+    read_shut (schema_of c.args.engine.now) begun all no_lines n n (is_open c.play_last.new.engine)
+    false (c.in_ok-play_last.ensures.reads begun all so) refl (search rules) refl

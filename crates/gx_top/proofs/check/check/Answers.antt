@@ -2,6 +2,7 @@ use Rattle.std.proofs.Common.{ap, refl}
 use Rattle.gx_equation.specs.Seen.{definitions_of}
 use Rattle.gx_requests.specs.Words.{checking, request_words}
 use Rattle.gx_top.proofs.JoinLemmas.{joined, unprepared, given_by}
+use Rattle.gx_top.proofs.KeepLemmas.{keeps_words}
 use Rattle.gx_top.proofs.LaterLemmas.{checked_later, fetched_later}
 use Rattle.gx_top.proofs.ReadyLemmas.{refused_counts}
 use Rattle.gx_top.proofs.check.check.Goals as goal
@@ -21,6 +22,8 @@ returns-in-Ok-clause-promised g c = λ told.
     joined words old new s checking given is
     (checked_later old mid (fetched_later old mid f.same f.time) (ap (λ m. m.pending) f.same.now) given
     new s (c.check-status.ensures.promised told given refl))
+    (keeps_words words old mid new (fetched_later old mid f.same f.time)
+    c.check-status.ensures.keeps)
 
 pub returns-in-Err-clause-promised : goal.returns-in-Err-clause-promised
 returns-in-Err-clause-promised g c = λ told.
@@ -32,7 +35,7 @@ returns-in-Err-clause-promised g c = λ told.
     unprepared words old mid (content c.refuse.result.1) _ _ c.in-Err.ending c.refuse.result.0
     ((c.in-Err.ensures.accepted told).unprepared words checking (tt, refl))
     (fetched_later old mid f.same f.time) (ap (λ m. m.pending) f.same.now)
-    (c.refuse.ensures.refused told) (c.refuse.ensures.given_up told)
+    (c.refuse.ensures.refused told) (c.refuse.ensures.given_up told) c.refuse.ensures.keeps
 
 pub returns-in-Err-clause-failures : goal.returns-in-Err-clause-failures
 returns-in-Err-clause-failures g c =

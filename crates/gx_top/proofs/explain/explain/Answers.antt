@@ -1,6 +1,7 @@
 use Rattle.std.proofs.Common.{ap, refl}
 use Rattle.gx_requests.specs.Words.{explaining, request_words}
 use Rattle.gx_top.proofs.JoinLemmas.{joined, unprepared, given_by}
+use Rattle.gx_top.proofs.KeepLemmas.{keeps_words}
 use Rattle.gx_top.proofs.LaterLemmas.{explained_later, fetched_later}
 use Rattle.gx_top.proofs.ReadyLemmas.{refused_counts}
 use Rattle.gx_top.proofs.explain.explain.Goals as goal
@@ -19,6 +20,8 @@ returns-in-Ok-clause-promised g c = λ told.
     joined words old new s explaining given is.accepted
     (explained_later old mid (fetched_later old mid f.same f.time) (ap (λ m. m.pending) f.same.now) given
     new s (c.explain-status.ensures.promised told given refl is.trees))
+    (keeps_words words old mid new (fetched_later old mid f.same f.time)
+    c.explain-status.ensures.keeps)
 
 pub returns-in-Err-clause-promised : goal.returns-in-Err-clause-promised
 returns-in-Err-clause-promised g c = λ told.
@@ -30,7 +33,7 @@ returns-in-Err-clause-promised g c = λ told.
     unprepared words old mid (content c.refuse.result.1) _ _ c.in-Err.ending c.refuse.result.0
     ((c.in-Err.ensures.prepared told).unprepared words explaining (tt, refl))
     (fetched_later old mid f.same f.time) (ap (λ m. m.pending) f.same.now)
-    (c.refuse.ensures.refused told) (c.refuse.ensures.given_up told)
+    (c.refuse.ensures.refused told) (c.refuse.ensures.given_up told) c.refuse.ensures.keeps
 
 pub returns-in-Err-clause-failures : goal.returns-in-Err-clause-failures
 returns-in-Err-clause-failures g c =

@@ -3,6 +3,7 @@ use Rattle.gx_play.specs.declared.ending.Ending.TheVariants as ending
 use Rattle.gx_requests.specs.Words.{texts_of, IsRequest}
 use Rattle.gx_top.specs.Promised.{IsPromised}
 use Rattle.gx_top.proofs.JoinLemmas.{joined_refusal}
+use Rattle.gx_top.proofs.KeepLemmas.{keeps_all}
 use Rattle.gx_top.proofs.request.top.Goals as goal
 
 pub returns-in-Some-Check-clause-promised : goal.returns-in-Some-Check-clause-promised
@@ -66,3 +67,5 @@ returns-in-None-clause-promised g c = λ told.
     joined_refusal (texts_of c.args.words.now) (g.M.Device.content c.args.machine)
     (g.M.Device.content c.refuse.result.1) c.refuse.result.0 ending.Words
     (c.in-None.ensures.none refl) (c.refuse.ensures.refused told refl)
+    (keeps_all (texts_of c.args.words.now) (g.M.Device.content c.args.machine)
+    (g.M.Device.content c.refuse.result.1) c.refuse.ensures.keeps)

@@ -2,6 +2,7 @@ use Rattle.std.proofs.Common.{refl, inr}
 use Rattle.gx_store.specs.Store.{CanAttach}
 use Rattle.gx_requests.specs.Words.{running, request_words}
 use Rattle.gx_top.proofs.JoinLemmas.{joined, unprepared, given_by, stored_as}
+use Rattle.gx_top.proofs.KeepLemmas.{keeps_named}
 use Rattle.gx_top.proofs.LaterLemmas.{ran_later}
 use Rattle.gx_top.proofs.ReadyLemmas.{refused_counts}
 use Rattle.gx_top.proofs.run_script.run_script.Goals as goal
@@ -23,6 +24,8 @@ returns-in-Ok-clause-promised g c = λ told.
     joined words old new s a given is.accepted
     (ran_later given c.args.device.now old mid r.later new s
     (c.run.ensures.promised can given (stored_as words old.aside.texts a x is)))
+    (keeps_named a c.args.schema.now c.args.equation.now c.args.device.now refl old mid new r.later
+    (c.run.ensures.keeps can))
 
 pub returns-in-Err-clause-promised : goal.returns-in-Err-clause-promised
 returns-in-Err-clause-promised g c = λ told.
@@ -33,7 +36,7 @@ returns-in-Err-clause-promised g c = λ told.
     unprepared words (content c.args.machine) (content c.ready_stored.new.machine)
     (content c.refuse.result.1) _ _ c.in-Err.ending c.refuse.result.0
     ((c.in-Err.ensures.prepared told).unprepared words a (tt, refl)) r.later r.refused
-    (c.refuse.ensures.refused told) (c.refuse.ensures.given_up told)
+    (c.refuse.ensures.refused told) (c.refuse.ensures.given_up told) c.refuse.ensures.keeps
 
 pub returns-in-Err-clause-failures : goal.returns-in-Err-clause-failures
 returns-in-Err-clause-failures g c =

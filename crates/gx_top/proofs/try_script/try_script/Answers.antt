@@ -1,6 +1,7 @@
 use Rattle.std.proofs.Common.{ap, refl}
 use Rattle.gx_requests.specs.Words.{trying, request_words}
 use Rattle.gx_top.proofs.JoinLemmas.{joined, unprepared, given_by}
+use Rattle.gx_top.proofs.KeepLemmas.{keeps_words}
 use Rattle.gx_top.proofs.LaterLemmas.{tried_later, fetched_later}
 use Rattle.gx_top.proofs.ReadyLemmas.{refused_counts}
 use Rattle.gx_top.proofs.try_script.try_script.Goals as goal
@@ -19,6 +20,8 @@ returns-in-Ok-clause-promised g c = λ told.
     joined words old new s trying given is.accepted
     (tried_later old mid (fetched_later old mid f.same f.time) (ap (λ m. m.pending) f.same.now) given
     new s (c.try_script.ensures.promised told given refl is.trees))
+    (keeps_words words old mid new (fetched_later old mid f.same f.time)
+    c.try_script.ensures.keeps)
 
 pub returns-in-Err-clause-promised : goal.returns-in-Err-clause-promised
 returns-in-Err-clause-promised g c = λ told.
@@ -30,7 +33,7 @@ returns-in-Err-clause-promised g c = λ told.
     unprepared words old mid (content c.refuse.result.1) _ _ c.in-Err.ending c.refuse.result.0
     ((c.in-Err.ensures.prepared told).unprepared words trying (tt, refl))
     (fetched_later old mid f.same f.time) (ap (λ m. m.pending) f.same.now)
-    (c.refuse.ensures.refused told) (c.refuse.ensures.given_up told)
+    (c.refuse.ensures.refused told) (c.refuse.ensures.given_up told) c.refuse.ensures.keeps
 
 pub returns-in-Err-clause-failures : goal.returns-in-Err-clause-failures
 returns-in-Err-clause-failures g c =

@@ -2,6 +2,7 @@ use Rattle.std.proofs.Common.{refl, inr, []}
 use Rattle.gx_store.specs.Store.{CanAttach}
 use Rattle.gx_requests.specs.Words.{working, request_words}
 use Rattle.gx_top.proofs.JoinLemmas.{joined, unprepared, given_by, stored_as, works_counted}
+use Rattle.gx_top.proofs.KeepLemmas.{keeps_named}
 use Rattle.gx_top.proofs.LaterLemmas.{worked_later}
 use Rattle.gx_top.proofs.ReadyLemmas.{refused_counts}
 use Rattle.gx_top.proofs.work.work.Goals as goal
@@ -24,6 +25,8 @@ returns-in-Ok-clause-promised g c = λ told digits number counted few.
     (works_counted given c.args.device.now digits number c.args.blocks c.args.records old new s
     counted few (worked_later given c.args.device.now old mid r.later c.args.blocks c.args.records new s
     (c.work.ensures.promised can given (stored_as words old.aside.texts a x is))))
+    (keeps_named a [] c.args.equation.now c.args.device.now refl old mid new r.later
+    (c.work.ensures.keeps can))
 
 pub returns-in-Err-clause-promised : goal.returns-in-Err-clause-promised
 returns-in-Err-clause-promised g c = λ told digits number counted few.
@@ -34,7 +37,7 @@ returns-in-Err-clause-promised g c = λ told digits number counted few.
     unprepared words (content c.args.machine) (content c.ready_work.new.machine)
     (content c.refuse.result.1) _ _ c.in-Err.ending c.refuse.result.0
     ((c.in-Err.ensures.prepared told).unprepared words a (((_, counted), (_, few)), refl)) r.later r.refused
-    (c.refuse.ensures.refused told) (c.refuse.ensures.given_up told)
+    (c.refuse.ensures.refused told) (c.refuse.ensures.given_up told) c.refuse.ensures.keeps
 
 pub returns-in-Err-clause-failures : goal.returns-in-Err-clause-failures
 returns-in-Err-clause-failures g c =

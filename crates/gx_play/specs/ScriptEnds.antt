@@ -1,12 +1,12 @@
--- A line of a script that is bad, whatever state it is played from.
+-- Where a script ends by its lines alone, whatever state it is played from.
 use Rattle.std.specs.Prelude.{◌≡◌, ℕ, ◌+◌, List, [], ◌∷◌, length, Bool, false, Option, Some, None, Result, Ok, Err}
 use Rattle.gx_schema.specs.declared.schema.Schema.{Schema}
 use Rattle.gx_commands.specs.declared.command.Command.{Command}
 use Rattle.gx_commands.specs.declared.command.LineWhy.{LineWhy}
 use Rattle.gx_commands.specs.Commands.{place_reason, inside_after}
-use Rattle.gx_commands.specs.Lines.{script_lines}
+use Rattle.gx_commands.specs.Lines.{Lines, script_lines}
 use Rattle.gx_script.specs.Grammar.{IsLineOf}
-use Rattle.gx_model.specs.Play.{End, stopped, end_at, end_text}
+use Rattle.gx_model.specs.Play.{End, stopped, end_at}
 use Rattle.gx_model.specs.Runs.{IsBadLine, AreFirstLines}
 
 -- good lines that may stand where they do, and whether a transaction is open behind them
@@ -23,14 +23,16 @@ IsEndAt schema inside ran (Ok (Some line)) end =
 IsEndAt schema inside ran (Ok None) end = end ≡ end_at ran inside
 IsEndAt schema inside ran (Err why) end = end ≡ stopped (ran + 1) why
 
--- the line of the end at such a line
-pub record IsBadEnd (schema : Schema) (script line : List ℕ) : Type 0 where
+-- the end of these lines: behind good ones
+pub record IsLinesEnd (schema : Schema) (begun : Bool) (all : Lines) (end : End) : Type 0 where
   pub ran : List (List ℕ)
   pub next : Result (Option (List ℕ)) LineWhy
-  pub first : AreFirstLines (script_lines script) ran next
+  pub first : AreFirstLines all ran next
   pub inside : Bool
-  pub good : AreGood schema false ran inside
-  pub number : ℕ
-  pub why : LineWhy
-  pub ends : IsEndAt schema inside (length ran) next (stopped number why)
-  pub line_is : line ≡ end_text (stopped number why)
+  pub good : AreGood schema begun ran inside
+  pub ends : IsEndAt schema inside (length ran) next end
+
+-- of a script: at its first bad line, or at its last one where all are good and a transaction is
+-- open behind them; else it is good
+abbrev pub IsScriptEnd : Schema → List ℕ → End → Type 0
+IsScriptEnd schema script = IsLinesEnd schema false (script_lines script)
