@@ -50,11 +50,25 @@ pub(crate) fn made(
     kind: LeafKind,
     first: Kind,
 ) -> Result<File, Fail> {
+    made_in(alloc, rt, 1024, kind, first)
+}
+
+/// The same, with so many pages in memory.
+pub(crate) fn made_in(
+    alloc: Global,
+    rt: &impl Abort,
+    frames: u32,
+    kind: LeafKind,
+    first: Kind,
+) -> Result<File, Fail>
+    requires least { 8 ≤ frames }
+    requires most { frames ≤ 1024 }
+{
     let mut machine = MemoryMachine::new(alloc)?;
     machine.reserve(alloc, 10_000, 1_000_000)?;
     assert!(rt; machine.attach(alloc, "d", Some(BLOCKS)) == Ok(()));
     assert!(rt; machine.blocks() == BLOCKS);
-    let journal = Journal::format(alloc, machine, 1024, b"", b"").ok();
+    let journal = Journal::format(alloc, machine, frames, b"", b"").ok();
     let journal = journal.expect(rt, "a journal");
     let pages = Paged::make(journal).ok().expect(rt, "pages");
     let spec = LeafSpec {
@@ -192,6 +206,22 @@ impl File {
     {
         let room = u64::from(self.pages_of(self.place.owner)) * 4096;
         bytes.saturating_mul(10) >= room * tenths
+    }
+
+    /// Gives a page to the file, with these bytes at its front, and says whether it went on.
+    pub(crate) fn give(&mut self, page: u32, front: &[u8; 16]) -> bool {
+        let File { pages, place } = self;
+        if !is_place(pages, place) || page < pages.tables() || page >= pages.pages() {
+            return false;
+        }
+        let mut bytes = [0; PAGE_LEN];
+        bytes[..16].copy_from_slice(front);
+        pages.claim_at(page, place.owner).is_ok() && pages.write(page, &bytes).is_ok()
+    }
+
+    /// How many calls of the device there were.
+    pub(crate) fn calls(self) -> u32 {
+        self.pages.into_journal().into_device().moments()
     }
 
     /// Whether a page begins so.

@@ -5,6 +5,8 @@
 #[cfg(test)]
 mod calls;
 #[cfg(test)]
+mod cycles;
+#[cfg(test)]
 mod files;
 #[cfg(test)]
 mod loads;
