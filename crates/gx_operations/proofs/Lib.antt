@@ -18,3 +18,4 @@ mod InspectLemmas
 mod RunHeldLemmas
 mod RunOnLemmas
 mod RunStoreLemmas
+pub mod LaterLemmas

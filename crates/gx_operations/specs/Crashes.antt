@@ -18,6 +18,12 @@ pub record IsStill (old now : Moment) : Type 0 where
   pub unchanged : IsUnchanged old now
   pub said : now.said ≡ old.said
 
+-- nothing was said, heard or changed, but that less may be pending
+pub record IsLater (old new : Content) : Type 0 where
+  pub through : Through (IsStill old.now) old new
+  pub script : new.script ≡ old.script
+  pub aside : new.aside ≡ old.aside
+
 -- no line, that of a device that is wrong, or that on memory
 abbrev pub IsIdleLine : List ℕ → Type 0
 IsIdleLine line =

@@ -19,31 +19,12 @@ use Rattle.gx_store.specs.Opening.{AreOpened}
 use Rattle.gx_store.specs.Store.{OfBlocks}
 use Rattle.gx_play.specs.declared.ending.DeviceWhy.{DeviceWhy}
 use Rattle.gx_play.specs.declared.ending.DeviceWhy.TheVariants as device_why
+use Rattle.gx_requests.proofs.DecidedLemmas.{same_or_not, lists_same}
 use Rattle.gx_operations.specs.Given.{Given, under}
 use Rattle.gx_operations.specs.Wrong.{IsWrong}
 use Rattle.gx_top.specs.Laws.{AreCases}
 
 -- ---- what is decided
-
-same_or_not : (a b : ℕ) → (a ≡ b) ⊎ (a ≢ b)
-same_or_not a b = by_less (cases_lt a b) (cases_lt b a)
-  where
-    by_less : (a < b) ⊎ (b ≤ a) → (b < a) ⊎ (a ≤ b) → (a ≡ b) ⊎ (a ≢ b)
-    by_less (inl less) other = inr (λ same. omega (arith, less, same))
-    by_less (inr most) (inl less) = inr (λ same. omega (arith, less, same))
-    by_less (inr most) (inr least) = inl (omega (arith, most, least))
-
-pub lists_same : (xs ys : List ℕ) → (xs ≡ ys) ⊎ (xs ≢ ys)
-lists_same [] [] = inl refl
-lists_same [] (y ∷ ys) = inr (λ same. cc)
-lists_same (x ∷ xs) [] = inr (λ same. cc)
-lists_same (x ∷ xs) (y ∷ ys) = by_both (same_or_not x y) (lists_same xs ys)
-  where
-    by_both : (x ≡ y) ⊎ (x ≢ y) → (xs ≡ ys) ⊎ (xs ≢ ys)
-        → ((x ∷ xs) ≡ (y ∷ ys)) ⊎ ((x ∷ xs) ≢ (y ∷ ys))
-    by_both (inl p) (inl q) = inl (λ i. p i ∷ q i)
-    by_both (inr not) other = inr (λ same. not (ap (λ (l : List ℕ). get_or l 0 0) same))
-    by_both (inl p) (inr not) = inr (λ same. not (ap (λ (l : List ℕ). drop 1 l) same))
 
 pub sized : (specs : List LeafSpec) (n : ℕ) → IsSize specs n ⊎ (¬ IsSize specs n)
 sized specs n = by_both (cases_lt n (smallest_device specs)) (cases_lt MAX_BLOCKS n)

@@ -24,11 +24,11 @@ use Rattle.gx_operations.specs.Runs.{script_play}
 use Rattle.gx_operations.specs.Works.{WorksOn}
 use Rattle.gx_operations.proofs.MemoryLemmas.{refusal_given_up, check_given_up, try_given_up, explain_given_up, make_given_up, run_given_up, inspect_given_up, work_given_up}
 use Rattle.gx_top.specs.Promised.{IsGiven, CarriesOut, IsPromised, NameDevice}
-use Rattle.gx_top.specs.Readied.{IsLater}
-use Rattle.gx_top.proofs.AcceptedLemmas.{accepted_not_refused, one_acceptance, refused_status}
+use Rattle.gx_operations.specs.Crashes.{IsLater}
+use Rattle.gx_requests.proofs.AcceptedLemmas.{accepted_not_refused, one_acceptance, refused_status}
 use Rattle.gx_top.proofs.KeepLemmas.{keeps_words}
-use Rattle.gx_top.proofs.LaterLemmas.{refused_later, given_later}
-use Rattle.gx_top.proofs.OnceLemmas.{refused_once}
+use Rattle.gx_operations.proofs.LaterLemmas.{refused_later, given_later}
+use Rattle.gx_requests.proofs.OnceLemmas.{refused_once}
 use Rattle.gx_top.proofs.ReasonLemmas.{carried_not_refused, refusal_status, given_up_status, given_up_not_refused}
 
 -- words whose texts are accepted ask for this alone, and the texts mean nothing else

@@ -5,7 +5,7 @@ use Rattle.gx_requests.specs.Words.{Action, request_words}
 use Rattle.gx_operations.specs.Given.{KeepsBut, KeepsAll, KeepsOthers}
 use Rattle.gx_operations.proofs.UnchangedLemmas.{same_device_at}
 use Rattle.gx_top.specs.Promised.{NameDevice, device_of}
-use Rattle.gx_top.specs.Readied.{IsLater}
+use Rattle.gx_operations.specs.Crashes.{IsLater}
 
 -- more names are left out
 keeps_fewer : (P Q : List ℕ → Type 0) (old new : Content)

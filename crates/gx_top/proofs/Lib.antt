@@ -1,10 +1,7 @@
-mod AskedLemmas
-mod AcceptedLemmas
-mod OnceLemmas
+mod ScriptLemmas
 mod NeedLemmas
 mod CaseLemmas
 mod TableLemmas
-mod LaterLemmas
 mod ReasonLemmas
 mod JoinLemmas
 mod KeepLemmas

@@ -11,8 +11,9 @@ use Rattle.gx_play.specs.declared.status.Status.TheVariants as status
 use Rattle.gx_play.specs.Endings.{is_outside, CountsFault, CountsOutside}
 use Rattle.gx_requests.specs.Fetched.{Fetches}
 use Rattle.gx_operations.proofs.UnchangedLemmas.{still_joined}
-use Rattle.gx_top.specs.Readied.{IsLater, Readies}
-use Rattle.gx_top.proofs.LaterLemmas.{fetched_later}
+use Rattle.gx_operations.specs.Crashes.{IsLater}
+use Rattle.gx_top.specs.Readied.{Readies}
+use Rattle.gx_operations.proofs.LaterLemmas.{fetched_later}
 
 later_joined : (old mid new : Content) → IsLater old mid → IsLater mid new → IsLater old new
 later_joined old mid new x y = record {

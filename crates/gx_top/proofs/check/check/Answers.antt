@@ -3,7 +3,7 @@ use Rattle.gx_equation.specs.Seen.{definitions_of}
 use Rattle.gx_requests.specs.Words.{checking, request_words}
 use Rattle.gx_top.proofs.JoinLemmas.{joined, unprepared, given_by}
 use Rattle.gx_top.proofs.KeepLemmas.{keeps_words}
-use Rattle.gx_top.proofs.LaterLemmas.{checked_later, fetched_later}
+use Rattle.gx_operations.proofs.LaterLemmas.{checked_later, fetched_later}
 use Rattle.gx_top.proofs.ReadyLemmas.{refused_counts}
 use Rattle.gx_top.proofs.check.check.Goals as goal
 

@@ -2,7 +2,7 @@ use Rattle.std.proofs.Common.{ap, refl}
 use Rattle.gx_requests.specs.Words.{explaining, request_words}
 use Rattle.gx_top.proofs.JoinLemmas.{joined, unprepared, given_by}
 use Rattle.gx_top.proofs.KeepLemmas.{keeps_words}
-use Rattle.gx_top.proofs.LaterLemmas.{explained_later, fetched_later}
+use Rattle.gx_operations.proofs.LaterLemmas.{explained_later, fetched_later}
 use Rattle.gx_top.proofs.ReadyLemmas.{refused_counts}
 use Rattle.gx_top.proofs.explain.explain.Goals as goal
 

@@ -1,5 +1,5 @@
 use Rattle.gx_requests.specs.Words.{texts_of}
-use Rattle.gx_top.proofs.AcceptedLemmas.{accepted_not_refused}
+use Rattle.gx_requests.proofs.AcceptedLemmas.{accepted_not_refused}
 use Rattle.gx_top.proofs.laws.never_both.Goals as goal
 
 pub returns : goal.returns

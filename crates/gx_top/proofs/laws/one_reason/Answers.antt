@@ -1,5 +1,5 @@
 use Rattle.gx_requests.specs.Words.{texts_of}
-use Rattle.gx_top.proofs.OnceLemmas.{refused_once}
+use Rattle.gx_requests.proofs.OnceLemmas.{refused_once}
 use Rattle.gx_top.proofs.laws.one_reason.Goals as goal
 
 pub returns : goal.returns

@@ -1,5 +1,5 @@
 use Rattle.gx_requests.specs.Words.{texts_of}
-use Rattle.gx_top.proofs.AcceptedLemmas.{one_acceptance}
+use Rattle.gx_requests.proofs.AcceptedLemmas.{one_acceptance}
 use Rattle.gx_top.proofs.laws.one_request.Goals as goal
 
 pub returns : goal.returns

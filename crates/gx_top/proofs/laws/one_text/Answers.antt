@@ -1,5 +1,5 @@
 use Rattle.gx_requests.specs.Words.{texts_of}
-use Rattle.gx_top.proofs.OnceLemmas.{one_script_once}
+use Rattle.gx_top.proofs.ScriptLemmas.{one_script_once}
 use Rattle.gx_top.proofs.laws.one_text.Goals as goal
 
 pub returns : goal.returns

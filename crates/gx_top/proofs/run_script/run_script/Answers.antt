@@ -3,7 +3,7 @@ use Rattle.gx_store.specs.Store.{CanAttach}
 use Rattle.gx_requests.specs.Words.{running, request_words}
 use Rattle.gx_top.proofs.JoinLemmas.{joined, unprepared, given_by, stored_as}
 use Rattle.gx_top.proofs.KeepLemmas.{keeps_named}
-use Rattle.gx_top.proofs.LaterLemmas.{ran_later}
+use Rattle.gx_operations.proofs.LaterLemmas.{ran_later}
 use Rattle.gx_top.proofs.ReadyLemmas.{refused_counts}
 use Rattle.gx_top.proofs.run_script.run_script.Goals as goal
 

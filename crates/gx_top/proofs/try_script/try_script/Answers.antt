@@ -2,7 +2,7 @@ use Rattle.std.proofs.Common.{ap, refl}
 use Rattle.gx_requests.specs.Words.{trying, request_words}
 use Rattle.gx_top.proofs.JoinLemmas.{joined, unprepared, given_by}
 use Rattle.gx_top.proofs.KeepLemmas.{keeps_words}
-use Rattle.gx_top.proofs.LaterLemmas.{tried_later, fetched_later}
+use Rattle.gx_operations.proofs.LaterLemmas.{tried_later, fetched_later}
 use Rattle.gx_top.proofs.ReadyLemmas.{refused_counts}
 use Rattle.gx_top.proofs.try_script.try_script.Goals as goal
 

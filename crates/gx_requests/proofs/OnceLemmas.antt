@@ -1,20 +1,15 @@
--- A request is refused for one reason, and a script is played by one text.
+-- A request is refused for one reason.
 use Rattle.std.proofs.Common.{◌≡◌, ℕ, ◌<◌, List, [], length, ◌++◌, Bool, true, false, Result, Ok, Err, Option, Some, None, refl, sym, ap, subst, ◌∙◌, inl, inr}
 use Rattle.std.specs.Prelude.{◌⊎◌, ◌≢◌, IsSomeAnd, codes, nat_lt}
 use Rattle.std.specs.FinMap.{get}
 use Rattle.std.proofs.lemmas.Bool.{lt-ltb}
-use Rattle.gx_device.specs.Content.{Content, Texts}
+use Rattle.gx_device.specs.Content.{Texts}
 use Rattle.gx_tokens.specs.declared.why.Unread.{Unread}
 use Rattle.gx_tokens.specs.declared.why.Unread.TheVariants as unread
 use Rattle.gx_schema.specs.declared.schema.Schema.{Schema}
-use Rattle.gx_schema.specs.Grammar.{IsSchemaText}
 use Rattle.gx_schema.specs.Reading.{schema_of}
-use Rattle.gx_schema.proofs.SchemaLaws.{schema_again, one_schema}
-use Rattle.gx_commands.specs.Lines.{script_lines}
+use Rattle.gx_schema.proofs.SchemaLaws.{schema_again}
 use Rattle.gx_equation.specs.Trees.{DefinitionTree}
-use Rattle.gx_model.specs.States.{State}
-use Rattle.gx_model.specs.Play.{End, end_text, start_at}
-use Rattle.gx_model.proofs.RunLemmas.{play_once}
 use Rattle.gx_typing.specs.declared.typing.Typing.{Typing}
 use Rattle.gx_typing.specs.Typed.{leaves, typing_with}
 use Rattle.gx_typing.specs.Typing.{Mistake}
@@ -24,14 +19,10 @@ use Rattle.gx_play.specs.declared.ending.Ending.{Ending}
 use Rattle.gx_play.specs.declared.ending.Ending.TheVariants as ending
 use Rattle.gx_requests.specs.Lengths.{text_length}
 use Rattle.gx_play.specs.Endings.{ending_line}
-use Rattle.gx_requests.specs.Requests.{IsText, IsThere, IsSchemaOf, IsEither, IsNamed, IsAsked, AreRead, AreUnaccepted, IsRefused, equation_of, text_limit}
-use Rattle.gx_play.specs.Played.{IsPlayText}
-use Rattle.gx_operations.specs.Given.{Given}
-use Rattle.gx_top.specs.Promised.{IsGiven}
-use Rattle.gx_top.specs.Laws.{IsToPlay, IsWholeText, IsUnder, PlayOneScript}
+use Rattle.gx_requests.specs.Requests.{IsThere, IsEither, IsNamed, IsAsked, AreRead, AreUnaccepted, IsRefused, equation_of, text_limit}
 use Rattle.gx_requests.specs.Words.{Action, checking, trying, explaining, making, running, inspecting, working, request_words, IsCounted}
-use Rattle.gx_top.proofs.AskedLemmas.{NamesSchema, same_words, one_request, named, not_missing, not_long, text_once}
-use Rattle.gx_top.proofs.AcceptedLemmas.{equation_read}
+use Rattle.gx_requests.proofs.AskedLemmas.{NamesSchema, same_words, one_request, named, not_missing, not_long}
+use Rattle.gx_requests.proofs.AcceptedLemmas.{equation_read}
 
 -- ---- the line of a refusal, from what stands in the texts
 
@@ -247,59 +238,3 @@ pub refused_once : (words : List (List ℕ)) (texts : Texts) (why other : Ending
 refused_once words texts why other x y =
     line_once words texts (ending_line why) (ending_line other) (reason words texts why x)
     (reason words texts other y)
-
--- ---- one script under one schema
-
--- the schema that is played on is that of the schema text
-played_named : (a : Action) → IsToPlay a → NamesSchema a
-played_named checking is = absurd is
-played_named trying is = tt
-played_named explaining is = absurd is
-played_named (making device blocks) is = absurd is
-played_named (running device) is = tt
-played_named (inspecting device) is = absurd is
-played_named (working device blocks records) is = absurd is
-
-played_there : (a : Action) (texts : Texts) (name text : List ℕ) → IsToPlay a
-    → IsSchemaOf a texts name text → IsText texts name text
-played_there trying texts name text plays is = is
-played_there (running device) texts name text plays is = is
-played_there checking texts name text plays is = absurd plays
-played_there explaining texts name text plays is = absurd plays
-played_there (making device blocks) texts name text plays is = absurd plays
-played_there (inspecting device) texts name text plays is = absurd plays
-played_there (working device blocks records) texts name text plays is = absurd plays
-
-schema_under : (words : List (List ℕ)) (texts : Texts) (under : List ℕ) (a : Action) (g : Given)
-    → IsToPlay a → IsUnder words texts under → IsGiven words texts a g
-    → IsSchemaText under g.schema
-schema_under words texts under a g plays is given =
-    let asked = given.2 in
-    let same = same_words words a is.0 asked.schema_name is.1 asked.equation_name is.2
-    asked.words_are is.3 in
-    let there = played_there a texts asked.schema_name given.0 plays asked.schema_there in
-    subst (λ s. IsSchemaText s g.schema)
-    (text_once texts asked.schema_name is.1 given.0 under (same.schemas (played_named a plays))
-    there.0 is.4)
-    given.3.read.schema_means
-
-text_of_play : (schema : Schema) (start : State) (script : List ℕ) (end close : End) (a b : List ℕ)
-    (kept left : State) → IsPlayText schema start script end a kept
-    → IsPlayText schema start script close b left → a ≡ b
-text_of_play schema start script end close a b kept left x y =
-    let once = play_once schema (start_at start) (script_lines script) x.answers y.answers x.final
-    y.final end close x.play y.play in
-    x.text_is ∙ (λ i. once.0 i ++ end_text (once.2 i)) ∙ sym y.text_is
-
-pub one_script_once : (words others : List (List ℕ)) (before other : Content) (start : State)
-    (text more : List ℕ) → PlayOneScript words others before other
-    → IsWholeText words before start text
-    → IsWholeText others other start more → text ≡ more
-one_script_once words others before other start text more one x y =
-    let same = one_schema one.schema x.given.schema y.given.schema
-    (schema_under words before.aside.texts one.schema x.action x.given x.plays one.under x.is)
-    (schema_under others other.aside.texts one.schema y.action y.given y.plays one.other_under y.is) in
-    text_of_play y.given.schema start other.script x.end y.end text more x.kept y.kept
-    (subst (λ (t : List ℕ). IsPlayText y.given.schema start t x.end text x.kept) one.script
-    (subst (λ (k : Schema). IsPlayText k start before.script x.end text x.kept) same x.played))
-    y.played

@@ -20,7 +20,7 @@ use Rattle.gx_requests.specs.Lengths.{text_length}
 use Rattle.gx_play.specs.Endings.{status_of}
 use Rattle.gx_requests.specs.Requests.{IsAsked, AreRead, AreAccepted, AreUnaccepted, IsAccepted, IsRefused, equation_of, text_limit}
 use Rattle.gx_requests.specs.Words.{Action}
-use Rattle.gx_top.proofs.AskedLemmas.{ok_not_bad, one_request, named, not_missing, not_long}
+use Rattle.gx_requests.proofs.AskedLemmas.{ok_not_bad, one_request, named, not_missing, not_long}
 
 -- ---- two meanings of the same texts
 

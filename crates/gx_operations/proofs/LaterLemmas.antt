@@ -21,7 +21,7 @@ use Rattle.gx_play.specs.ScriptEnds.{IsScriptEnd}
 use Rattle.gx_play.specs.Endings.{made_line, memory_line}
 use Rattle.gx_play.specs.Player.{Play, IsDueOf}
 use Rattle.gx_play.specs.Say.{SameDevices}
-use Rattle.gx_operations.specs.Crashes.{IsUnchanged, IsStill, ReadsAsAttached}
+use Rattle.gx_operations.specs.Crashes.{IsUnchanged, IsStill, IsLater, ReadsAsAttached}
 use Rattle.gx_operations.specs.Given.{Given, HoldState, IsStateless, limit_of}
 use Rattle.gx_operations.specs.GivenUp.{GaveUp, GivesUp}
 use Rattle.gx_operations.specs.Making.{IsUnmakable}
@@ -36,7 +36,6 @@ use Rattle.gx_operations.specs.Runs.{RunsOn, runs_from, runs_unheld, script_play
 use Rattle.gx_operations.specs.Inspects.{InspectsOn, inspects_sound, inspects_unsound, UnsoundSays, IsSoundImage, IsUnsoundImage}
 use Rattle.gx_operations.specs.Works.{WorksOn, works_on, IsWorkImage}
 use Rattle.gx_operations.specs.Wrong.{StaysWrong, IsWrong, WrongSays, IsDamageLine, finds_wrong}
-use Rattle.gx_top.specs.Readied.{IsLater}
 use Rattle.gx_device.proofs.RunLemmas.{weakened}
 use Rattle.gx_operations.proofs.UnchangedLemmas.{still_same, unchanged_twice, unchanged_after, idle_joined, crashes_after}
 
