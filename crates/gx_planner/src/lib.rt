@@ -5,6 +5,6 @@ mod planning;
 mod plans;
 mod text;
 
-pub use planning::plan;
+pub use planning::{plan, rank};
 pub use plans::Plan;
 pub use text::plan_line;

@@ -1,14 +1,16 @@
 // The plan of a `find`.
 ghost use Rattle.std.specs.Prelude.{◌≡◌, ◌^◌, ◌<◌, length, IfSome};
 ghost use Rattle.std.specs.List.{position};
-ghost use Rattle.gx_planner.specs.Plans.{condition_rank, is_indexed, rank_by, plan_by_condition, first_of, least_plan, Applies, IsLeast};
+ghost use Rattle.gx_planner.specs.Plans.{condition_rank, is_indexed, rank_by, plan_by_condition, plan_rank, first_of, least_plan, Applies, IsLeast};
 
 use crate::plans::Plan;
 use gx_commands::{Cond, Find};
 use gx_values::Op;
 
-// The ranks of the plans that are by a condition.
+// The ranks of plans.
 const KEY: u8 = 1;
+
+const LINK: u8 = 2;
 
 const INDEX: u8 = 3;
 
@@ -37,6 +39,20 @@ pub fn plan(find: &Find, indexed: &[bool]) -> Plan
         return Plan::Link;
     }
     by_condition(conds, indexed)
+}
+
+/// The rank of a plan, from 1 to 6: the less, the better.
+pub fn rank(plan: Plan) -> u8
+    ensures { result ≡ plan_rank plan }
+{
+    match plan {
+        Plan::Key(_) => KEY,
+        Plan::Link => LINK,
+        Plan::Index(_) => INDEX,
+        Plan::KeyRange(_) => KEY_RANGE,
+        Plan::IndexRange(_) => INDEX_RANGE,
+        Plan::Scan => SCAN,
+    }
 }
 
 // The plan where the key isn't given and no owner is.
