@@ -1,0 +1,5 @@
+mod Tests
+mod WayBack
+mod SetLemmas
+mod LegLemmas
+mod StepLemmas

@@ -1,0 +1,43 @@
+// The direction of a path.
+ghost use Rattle.std.specs.Prelude.{◌≡◌, ◌↔◌, ◌^◌, ◌<◌, length};
+ghost use Rattle.gx_model.specs.Paths.{last_find};
+ghost use Rattle.gx_walks.specs.Directions.{find_rank, HasFewConds};
+
+use crate::directions::Direction;
+use gx_commands::{Find, Leg, PathQuery};
+use gx_planner::{plan, rank};
+
+/// The direction of a path whose first and last file have these fields indexed, field 0 being the
+/// key: backward exactly where the rank of the plan of its last `find` is less than that of its
+/// first. It takes no memory.
+pub fn direction(query: &PathQuery, first: &[bool], last: &[bool]) -> Direction
+    requires { HasFewConds query.now }
+    ensures { (result ≡ Direction.Backward)
+        ↔ (find_rank (last_find query.now.first query.now.legs) last.now
+        < find_rank query.now.first first.now) }
+{
+    let last_find = last_find(&query.first, &query.legs.0);
+    if rank_of(last_find, last) < rank_of(&query.first, first) {
+        Direction::Backward
+    } else {
+        Direction::Forward
+    }
+}
+
+// The rank of the plan of a `find`.
+fn rank_of(find: &Find, indexed: &[bool]) -> u8
+    requires { length find.now.conds < 2 ^ 16 }
+    ensures { result ≡ find_rank find.now indexed.now }
+{
+    rank(plan(find, indexed))
+}
+
+/// The `find` of the last leg, or the one before all legs.
+pub(crate) fn last_find<'a>(first: &'a Find, legs: &'a [Leg]) -> &'a Find
+    ensures { result.now ≡ last_find first.now legs.now }
+{
+    match legs.last() {
+        Some(leg) => &leg.find,
+        None => first,
+    }
+}

@@ -1,0 +1,17 @@
+//! Paths over links, walked from either end.
+#![tactic(auto)]
+
+mod back;
+mod choosing;
+mod directions;
+mod laws;
+mod paths;
+mod reader;
+mod settling;
+mod walking;
+
+pub use choosing::direction;
+pub use directions::Direction;
+pub use laws::either_direction;
+pub use paths::path_rows;
+pub use reader::LinkReader;
