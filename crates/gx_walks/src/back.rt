@@ -1,5 +1,5 @@
 // Legs are walked back, from records of the last file.
-ghost use Rattle.std.specs.Prelude.{◌≡◌, ◌<◌, ◌≤◌, ◌+◌, ◌*◌, ◌∷◌, [], length, filter, IfOk, OnOk};
+ghost use Rattle.std.specs.Prelude.{◌≡◌, ◌<◌, ◌≤◌, ◌+◌, ◌*◌, ◌∷◌, [], length, filter, Ok, IfOk, OnOk};
 ghost use Rattle.gx_commands.specs.Paths.{AreLegsFrom};
 ghost use Rattle.gx_model.specs.States.{State};
 ghost use Rattle.gx_model.specs.Paths.{after_legs};
@@ -24,6 +24,7 @@ pub(crate) fn keep_led<R: LinkReader>(
     rows: Vec<Row>,
 ) -> Result<Vec<Row>, R::Stop>
     requires ready { R.ready reader.old }
+    requires serving { R.calls reader.old reader.old (Ok tt) }
     requires legs { AreLegsFrom (R.schema reader.old) first.now.file legs.now }
     requires some { 0 < length legs.now }
     ensures set { (s : State) → R.holds reader.old s → IfOk result
@@ -52,6 +53,7 @@ fn leads_back<R: LinkReader>(
     row: &Row,
 ) -> Result<bool, R::Stop>
     requires ready { R.ready reader.old }
+    requires serving { R.calls reader.old reader.old (Ok tt) }
     requires legs { AreLegsFrom (R.schema reader.old) first.now.file legs.now }
     requires some { 0 < length legs.now }
     ensures led { (s : State) → R.holds reader.old s → IfOk result
@@ -75,6 +77,7 @@ fn walk_back<R: LinkReader>(
     rows: &[Row],
 ) -> Result<Vec<Row>, R::Stop>
     requires ready { R.ready reader.old }
+    requires serving { R.calls reader.old reader.old (Ok tt) }
     requires legs { AreLegsFrom (R.schema reader.old) first.now.file legs.now }
     requires some { 0 < length legs.now }
     ensures set { (s : State) → R.holds reader.old s → IfOk result

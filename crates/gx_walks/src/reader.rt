@@ -47,7 +47,8 @@ pub trait LinkReader {
             (work self.new ≤ work self.old + 2 * (c.candidates find.now + 1) * c.look_up) }
         ensures calls { calls self.old self.new (ended result) };
 
-    /// Appends the records to which a link leads from a key, in the order of their keys.
+    /// Appends the records to which a link leads from a key, in the order of their keys. It is asked
+    /// for that only after calls that weren't given up.
     fn add_linked(
         &mut self,
         alloc: Global,
@@ -56,6 +57,7 @@ pub trait LinkReader {
         out: &mut Vec<Row>,
     ) -> Result<(), Self::Stop>
         requires ready { ready self.old }
+        requires serving { calls self.old self.old (Ok tt) }
         requires link { link_of way < length (schema self.old).links }
         ensures found { (s : State) → holds self.old s → OnOk result
             (out.new.items
@@ -72,8 +74,8 @@ pub trait LinkReader {
         requires { ready self.old }
         ensures { calls self.old self.new (Err result) };
 
-    /// Nothing was called.
-    ghost at_rest: { (a : Self) → calls a a (Ok tt) };
+    /// After calls that weren't given up, none since is as good as some.
+    ghost at_rest: { (a b : Self) → calls a b (Ok tt) → calls b b (Ok tt) };
 
     /// Some calls, and then others.
     ghost in_turn: { (a b c : Self) (r : Result (Unit {0}) Self.Stop) → calls a b (Ok tt) →
@@ -98,7 +100,8 @@ pub(crate) fn or_stop<T: Drop, E: Drop, R: LinkReader>(
     reader: &mut R,
     made: Result<T, E>,
 ) -> Result<T, R::Stop>
-    requires { R.ready reader.old }
+    requires ready { R.ready reader.old }
+    requires serving { R.calls reader.old reader.old (Ok tt) }
     ensures same { IfOk result (λ value. made ≡ Ok value) }
     ensures still { OnOk result (reader.new ≡ reader.old) }
     ensures calls { R.calls reader.old reader.new (ended result) }

@@ -1,5 +1,5 @@
 // Legs are walked from some records.
-ghost use Rattle.std.specs.Prelude.{◌≡◌, ◌<◌, ◌≤◌, ◌+◌, ◌*◌, ◌++◌, length, IfOk, OnOk};
+ghost use Rattle.std.specs.Prelude.{◌≡◌, ◌<◌, ◌≤◌, ◌+◌, ◌*◌, ◌++◌, length, Ok, IfOk, OnOk};
 ghost use Rattle.std.specs.List.{AllByRecursion};
 ghost use Rattle.gx_commands.specs.Paths.{link_of, file_behind};
 ghost use Rattle.gx_model.specs.States.{State};
@@ -21,6 +21,7 @@ pub(crate) fn walk<R: LinkReader>(
     rows: &[Row],
 ) -> Result<Vec<Row>, R::Stop>
     requires ready { R.ready reader.old }
+    requires serving { R.calls reader.old reader.old (Ok tt) }
     requires legs { AllByRecursion (IsLegOf (R.schema reader.old)) legs.now }
     requires some { 0 < length legs.now }
     ensures set { (s : State) → R.holds reader.old s →
@@ -49,6 +50,7 @@ pub(crate) fn follow<R: LinkReader>(
     rows: &[Row],
 ) -> Result<Vec<Row>, R::Stop>
     requires ready { R.ready reader.old }
+    requires serving { R.calls reader.old reader.old (Ok tt) }
     requires leg { IsLegOf (R.schema reader.old) (record { way = way; find = find.now }) }
     ensures set { (s : State) → R.holds reader.old s → IfOk result
         (λ set. set.items ≡ after_leg s (record { way = way; find = find.now }) rows.now) }
@@ -73,6 +75,7 @@ fn add_all<R: LinkReader>(
     out: &mut Vec<Row>,
 ) -> Result<(), R::Stop>
     requires ready { R.ready reader.old }
+    requires serving { R.calls reader.old reader.old (Ok tt) }
     requires link { link_of way < length (R.schema reader.old).links }
     ensures found { (s : State) → R.holds reader.old s → OnOk result
         (out.new.items ≡ out.old.items

@@ -1,4 +1,5 @@
 use Rattle.std.proofs.Common.{◌≡◌, ◌≤◌, ◌+◌, ◌*◌, ◌-◌, ◌∷◌, ◌++◌, ◌∙◌, [], ℕ, List, take, length, length-take, sym, ap, subst, arith, rules}
+use Rattle.std.specs.Prelude.{Ok}
 use Rattle.gx_schema.specs.declared.schema.Schema.{Schema}
 use Rattle.gx_commands.specs.declared.command.Find.{Find}
 use Rattle.gx_commands.specs.declared.path.Way.{Way}
@@ -39,6 +40,8 @@ walk_back-requires g t c κs within =
     split_last c.args.legs.now leg c.leg-item-2.is (omega (arith, c.in-len1-up.len_at_least)) in
     let ready : r.ready c.follow-in-len1-up.new.reader =
     laws.stays_ready _ _ _ own.calls c.requires.ready in
+    let serving : r.calls c.follow-in-len1-up.new.reader c.follow-in-len1-up.new.reader (Ok tt) =
+    laws.at_rest _ _ own.calls in
     let legs : AreLegsFrom (r.schema c.follow-in-len1-up.new.reader) first.file before =
     subst (λ (s : Schema). AreLegsFrom s first.file before) (sym (laws.keeps_schema _ _ _ own.calls))
     (before_last schema first.file before leg

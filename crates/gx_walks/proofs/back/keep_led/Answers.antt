@@ -73,3 +73,11 @@ loop-row-preserved g c =
           (laws.keeps_costs _ _ s costs inv.calls price) found);
       calls = laws.in_turn _ _ _ _ inv.calls one.calls;
     }
+
+pub leads_back-requires-clause-serving : goal.leads_back-requires-clause-serving
+leads_back-requires-clause-serving g c =
+    g.met.R.LinkReader.at_rest _ _ c.loop-row.invariant.calls
+
+pub or_stop-requires-clause-serving : goal.or_stop-requires-clause-serving
+or_stop-requires-clause-serving g c =
+    g.met.R.LinkReader.at_rest _ _ c.in_ok-leads_back.ensures.calls

@@ -46,3 +46,6 @@ returns-clause-steps g c = λ s costs holds price finds.
     le))
     (c.keep_led.ensures.steps s costs (laws.keeps_state _ _ s own.calls holds)
     (laws.keeps_costs _ _ s costs own.calls price) finds)
+
+pub keep_led-requires-clause-serving : goal.keep_led-requires-clause-serving
+keep_led-requires-clause-serving g c = g.met.R.LinkReader.at_rest _ _ c.in_ok-rows.ensures.calls

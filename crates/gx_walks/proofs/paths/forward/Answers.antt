@@ -33,3 +33,6 @@ returns-clause-steps g c = λ s costs holds price finds.
     + 2 * met s c.args.legs.now l * costs.look_up) set le))
     (c.walk.ensures.steps s costs (laws.keeps_state _ _ s own.calls holds)
     (laws.keeps_costs _ _ s costs own.calls price) finds)
+
+pub walk-requires-clause-serving : goal.walk-requires-clause-serving
+walk-requires-clause-serving g c = g.met.R.LinkReader.at_rest _ _ c.in_ok-rows.ensures.calls

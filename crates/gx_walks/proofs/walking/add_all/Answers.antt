@@ -60,3 +60,7 @@ loop-row-preserved g c =
           (laws.keeps_costs _ _ s costs inv.calls price) finds)));
       calls = laws.in_turn _ _ _ _ inv.calls e.calls;
     }
+
+pub add_linked-requires-clause-serving : goal.add_linked-requires-clause-serving
+add_linked-requires-clause-serving g c =
+    g.met.R.LinkReader.at_rest _ _ c.loop-row.invariant.calls

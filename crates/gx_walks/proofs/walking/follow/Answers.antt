@@ -24,3 +24,6 @@ returns-clause-set g c = λ s holds.
     (given_ok c.settle.result _ c.in_ok-or_stop.ensures.same
     (c.settle.ensures (file_in s file) test
     (subst (AreThose (file_in s file) test) (sym found) (linked_those s file way rows))))
+
+pub or_stop-requires-clause-serving : goal.or_stop-requires-clause-serving
+or_stop-requires-clause-serving g c = g.met.R.LinkReader.at_rest _ _ c.in_ok-add_all.ensures.calls
