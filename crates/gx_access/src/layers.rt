@@ -1,0 +1,56 @@
+// What each layer does with the data of records.
+ghost use Rattle.std.specs.Prelude.{◌≡◌, ℕ, List, Bool, IfOk};
+ghost use Rattle.gx_values.specs.declared.records.Form.{Form};
+ghost use Rattle.gx_values.specs.declared.values.Value.{Value as FieldValue};
+ghost use Rattle.gx_partition.specs.declared.place.Where.{Where};
+ghost use Rattle.gx_partition.specs.Rules.{partition_rule};
+ghost use Rattle.gx_access.specs.declared.arrangement.Arrangement.TheVariants.{ByValue};
+ghost use Rattle.gx_access.specs.Arrangements.{IsArranged, HasDataChildren};
+
+use crate::arrangement::{Arranged, Arrangement, Mask};
+use gx_types::AnyMapping;
+use gx_values::NoMemory;
+use std::alloc::Global;
+
+impl Arranged for AnyMapping {
+    ghost use Rattle.gx_access.specs.Layers.{any_arranged, any_arranges, any_children};
+
+    ghost arranged = { any_arranged };
+
+    fn arrangement(&self, alloc: Global) -> Result<Arrangement, NoMemory> {
+        match self {
+            AnyMapping::Actual(_) => Ok(Arrangement::Body),
+            AnyMapping::Encode(mapping) => {
+                Ok(Arrangement::Coded(mapping.field(), mapping.code()))
+            }
+            AnyMapping::Segment(mapping) => {
+                Ok(Arrangement::Groups(mask_of(alloc, mapping.mask())?))
+            }
+            AnyMapping::Transpose(_) => Ok(Arrangement::Columns),
+            AnyMapping::Partition(_) => Ok(Arrangement::Other),
+            AnyMapping::Divide(mapping) => Ok(Arrangement::Cut(mapping.piece_size())),
+            AnyMapping::Index(_) => Ok(Arrangement::Same),
+        }
+    }
+
+    ghost arranges = { any_arranges };
+
+    ghost data_children = { any_children };
+}
+
+fn mask_of(alloc: Global, marks: &[bool]) -> Result<Mask, NoMemory>
+    ensures { IfOk result (λ mask. mask ≡ marks.now) }
+{
+    let mut copies = Vec::with_capacity(alloc, marks.len())?;
+    for mark in marks {
+        copies.push(*mark)?;
+    }
+    Ok(Mask(copies))
+}
+
+/// A partition has each record in one child as it is, by its place and bounds. It does nothing.
+pub fn partition_is_by_value()
+    ensures { (form : Form) (at : Where) (bounds : List FieldValue) →
+        IsArranged (partition_rule form at bounds) (ByValue at bounds)
+        × HasDataChildren (partition_rule form at bounds) (ByValue at bounds) }
+{}
