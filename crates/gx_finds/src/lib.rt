@@ -8,4 +8,4 @@ mod spans;
 
 pub use by_index::indexed_fields;
 pub use by_key::condition_at;
-pub use listing::found_text;
+pub use listing::{found_rows, found_text};

@@ -5,7 +5,7 @@ ghost use Rattle.gx_commands.specs.Commands.{IsCondOf};
 ghost use Rattle.gx_ports.specs.Calls.{ReadsMaps};
 ghost use Rattle.gx_stack.specs.Seen.{tree_of};
 ghost use Rattle.gx_model.specs.States.{File as FileMap};
-ghost use Rattle.gx_model.specs.Found.{meets_conds};
+ghost use Rattle.gx_model.specs.Found.{IsListed, meets_conds};
 ghost use Rattle.gx_model.specs.Commands.{IsListText};
 ghost use Rattle.gx_scan.specs.Files.{IsInternal, HasFile, IsStorable, IsTreeFor};
 ghost use Rattle.gx_scan.specs.Where.{AreNamed};
@@ -50,10 +50,39 @@ pub fn found_text<B: Leaves>(
         (B.whole leaves.old × HasFile file.now (tree_of node.now) (B.working leaves.old))
         leaves.old leaves.new result }
 {
+    let rows = found_rows(alloc, file, node, find, leaves)?;
+    Ok(records_text(alloc, file, &rows)?)
+}
+
+/// The records of a file that meet the conditions of a `find`, in its order.
+pub fn found_rows<B: Leaves>(
+    alloc: Global,
+    file: &FileDef,
+    node: &Node<AnyMapping>,
+    find: &Find,
+    leaves: &mut B,
+) -> Result<Vec<Row>, Stop>
+    requires tree { IsTreeFor file.now (tree_of node.now) (length (B.working leaves.old)) }
+    requires storable { IsStorable file.now }
+    requires named { AreNamed file.now }
+    requires conds { AllByRecursion (IsCondOf file.now) find.now.conds }
+    requires few { length find.now.conds < 2 ^ 16 }
+    ensures listed { (f : FileMap) → B.whole leaves.old →
+        IsInternal file.now (tree_of node.now) (B.working leaves.old) f →
+        IfOk result (λ rows. IsListed f (meets_conds find.now.conds) find.now.order rows.items) }
+    ensures steps { (f : FileMap) (most : ℕ) → B.whole leaves.old →
+        IsInternal file.now (tree_of node.now) (B.working leaves.old) f →
+        HaveAtMost most (tree_of node.now) f → OnOk result
+        (B.work leaves.new
+        ≤ B.work leaves.old + plan_bound (tree_of node.now) file.now find.now f most) }
+    ensures reads { ReadsMaps B.View
+        (B.whole leaves.old × HasFile file.now (tree_of node.now) (B.working leaves.old))
+        leaves.old leaves.new result }
+{
     let mut rows = Vec::new(alloc);
     add_found(alloc, file, node, find, leaves, &mut rows)?;
     sort_rows(&mut rows, find.order)?;
-    Ok(records_text(alloc, file, &rows)?)
+    Ok(rows)
 }
 
 // Appends the records that meet the conditions to none, in any order. The plan says which records
