@@ -1,4 +1,5 @@
 pub mod LinkedLemmas
 mod ChangeLemmas
 mod SearchLemmas
+mod OwnerLemmas
 pub mod MemberLemmas

@@ -11,6 +11,8 @@ use Rattle.gx_links.specs.Links.{Link}
 use Rattle.gx_links.specs.Linksets.{LinkRule, HasLink}
 use Rattle.gx_pairs.specs.declared.stored.StoredLink.{StoredLink}
 use Rattle.gx_pairs.specs.Stored.{HaveLink}
+use Rattle.gx_pairs.specs.declared.owners.Owned.{Owned}
+use Rattle.gx_pairs.specs.Owners.{FindsOwner}
 use Rattle.gx_pairs.specs.Search.{ReadsLink, LooksInLink, ReadsLinkedFiles, FindsMembers}
 
 -- nothing is said of what is in an answer that is none
@@ -61,5 +63,16 @@ module _ {S L : Type 0} (g : Ghosts S) (rule : L → LinkRule)
       there = λ owners members link whole are. tt;
       those = λ owners members link whole are. tt;
       steps = λ owners members link most whole are few_o few_m few_l. tt;
+      reads = reads;
+    }
+
+    pub owner_stopped : (member : Value) (why : Stop) (result : Result Owned Stop)
+        → IsErrAnd result (λ stop. stop ≡ why)
+        → ReadsMaps g (g.whole old × HaveLink rule held s (g.working old)) old new result
+        → FindsOwner g rule held s member old new result
+    owner_stopped member why (Ok x) err reads = absurd err
+    owner_stopped member why (Err stop) err reads = record {
+      found = λ owners members link whole are. tt;
+      steps = λ finds owners members link most whole are few_o few_m few_l. tt;
       reads = reads;
     }
