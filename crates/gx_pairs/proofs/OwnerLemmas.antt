@@ -81,5 +81,13 @@ pub three_looks : (o : Option Value) (owner : Value) (rule : LinkRule) (link : L
 three_looks o owner rule link found leaves most own other before middle later after is entries few
     few_other small one two three =
     subst (λ (x : Option Value). after ≤ before + owner_look_ups x * (most + leaves)) (sym is)
-    (omega (arith, entries_few rule link most found entries, few, few_other, small, one, two,
-    three))
+    (omega (
+      arith,
+      entries_few rule link most found entries,
+      few,
+      few_other,
+      small,
+      one,
+      two,
+      three,
+    ))

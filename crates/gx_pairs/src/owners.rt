@@ -26,10 +26,10 @@ pub enum Owned {
     By(Rec),
 }
 
-/// The record of the owner of a member, where there is one. Where the linkset finds an owner without
-/// reading all of the link, it takes at most `3 * (w + l)` steps for a member with an owner and
-/// `2 * (w + l)` for one without, where w is the greatest number of leaf entries of a record or of
-/// an owner, and l the number of leaves.
+/// The record of the owner of a member, where there is one. Where the linkset finds an owner
+/// without reading all of the link, it takes at most `3 * (w + l)` steps for a member with an owner
+/// and `2 * (w + l)` for one without, where w is the greatest number of leaf entries of a record or
+/// of an owner, and l the number of leaves.
 pub fn find_owner<B: Leaves, L: Linkset>(
     alloc: Global,
     stored: &StoredLink<L>,
