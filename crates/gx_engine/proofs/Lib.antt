@@ -2,3 +2,5 @@ mod WorkLemmas
 mod StepLemmas
 mod FollowLemmas
 pub mod CrashLemmas
+pub mod RecordLemmas
+pub mod PartLemmas

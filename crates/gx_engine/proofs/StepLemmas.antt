@@ -12,9 +12,9 @@ use Rattle.gx_commands.specs.declared.command.Command.TheVariants as command
 use Rattle.gx_commands.specs.declared.command.Of.{Of}
 use Rattle.gx_commands.specs.declared.command.Find.{Find}
 use Rattle.gx_commands.specs.declared.command.OrderBy.{OrderBy}
-use Rattle.gx_commands.specs.Commands.{place_reason, inside_after}
+use Rattle.gx_commands.specs.Commands.{place_reason}
 use Rattle.gx_commands.specs.declared.command.LineWhy.TheVariants as why
-use Rattle.gx_ports.specs.LeafMaps.{LeafMap, Limits, IsCrowdedBy}
+use Rattle.gx_ports.specs.LeafMaps.{LeafMap}
 use Rattle.gx_ports.specs.declared.view.View.{Ghosts}
 use Rattle.gx_ports.specs.declared.stop.Stop.{Stop}
 use Rattle.gx_ports.specs.declared.stop.Stop.TheVariants as stop
@@ -28,17 +28,16 @@ use Rattle.gx_edits.specs.Edits.{Refused, refusal_for}
 use Rattle.gx_model.specs.States.{File, State, Row, file_in}
 use Rattle.gx_model.specs.Found.{IsListed, is_chosen, meets_conds, meets_of}
 use Rattle.gx_model.specs.Commands.{Refusal, no_record, next_state, refusal_of, first_refusal, IsAnswerOr, IsListText, lacks_of}
-use Rattle.gx_model.specs.Play.{Playing, IsAnswered, seen_state, is_inside, working_after, with_working, after_command}
+use Rattle.gx_model.specs.Play.{Playing, IsAnswered, seen_state, working_after, with_working, after_command}
 use Rattle.gx_model.proofs.RunLemmas.{some_after}
 use Rattle.gx_scan.specs.Files.{HasFile}
 use Rattle.gx_engine.specs.declared.engine.Engine.{Engine}
-use Rattle.gx_engine.specs.Steps.{schema_of, built_of, leaves_of, IsSound, AreFresh, selects}
-use Rattle.gx_states.specs.Internal.{AreInternal, HaveState, state_entries}
+use Rattle.gx_engine.specs.Steps.{schema_of, built_of, leaves_of, IsSound}
+use Rattle.gx_states.specs.Internal.{AreInternal, HaveState}
 use Rattle.gx_scan.proofs.CallLemmas.{ends_so}
 use Rattle.gx_states.proofs.StoredLemmas.{has_file}
-use Rattle.gx_edits.specs.Edits.{is_edit, may_bring, edit_text, IsEdit}
-use Rattle.gx_edits.proofs.EditLemmas.{short_after}
-use Rattle.gx_engine.specs.Moments.{Stands, IsCarried, may_want_room, MayWantRoom}
+use Rattle.gx_edits.specs.Edits.{is_edit, edit_text, IsEdit}
+use Rattle.gx_engine.specs.Moments.{Stands, IsCarried}
 
 -- ---- moments of the play
 
@@ -81,12 +80,6 @@ stands_still schema built inside commits old new kept now p s stands same kept_s
   kept_is = subst (λ (maps : List LeafMap). AreInternal schema built maps p.kept)
       (sym kept_same) stands.kept_is;
 }
-
--- ---- how many entries come after a command
-
--- inside a transaction a command leaves its next state
-pub seen_next : (p : Playing) (s : State) → is_inside p ≡ true → seen_state (with_working p s) ≡ s
-seen_next p s open_ = seen_after p.working s p.kept open_
 
 -- ---- find without `of`
 
@@ -251,43 +244,3 @@ edit_carried schema built inside commits old new kept now p c why out said text 
           (stands_with schema built inside commits old new kept p
           (next_state schema (seen_state p) c) stands (edit_open inside c is place) edit.stands));
     }
-
-edit_room : (c : Command) → may_bring c ≡ true → may_want_room c ≡ true
-edit_room (command.ReorganizeFile file) e = refl
-edit_room (command.ReorganizeLink link) e = refl
-edit_room _ e = e
-
-pub edit_short : (limit : Option Limits) (schema : Schema) (built : Built) (before : ℕ)
-    (p : Playing) (c : Command) → is_edit c ≡ true → is_inside p ≡ true
-    → IsCrowdedBy limit (before + state_entries built (next_state schema (seen_state p) c))
-    → IsCrowdedBy limit (before + state_entries built (seen_state (after_command schema p c)))
-edit_short limit schema built before p c is open_ short =
-    let s = next_state schema (seen_state p) c in
-    short_after limit built before s (seen_state (after_command schema p c))
-    (ap seen_state (edit_next schema p c is) ∙ seen_next p s open_) short
-
-pub edit_wants : (schema : Schema) (p : Playing) (c : Command) → may_bring c ≡ true
-    → refusal_of schema (seen_state p) c ≡ None → MayWantRoom schema p c
-edit_wants schema p c brings accepted = record {
-  kind = edit_room c brings;
-  accepted = accepted;
-}
-
-pub edit_stays : (inside : Bool) (c : Command) → is_edit c ≡ true → inside_after inside c ≡ inside
-edit_stays inside command.Begin e = absurd (true≢false (sym e))
-edit_stays inside command.Commit e = absurd (true≢false (sym e))
-edit_stays inside command.Abort e = absurd (true≢false (sym e))
-edit_stays inside _ e = refl
-
-pub edit_fresh : {S : Type 0} (g : Ghosts S) (c : Command) (new : Engine S) → is_edit c ≡ true
-    → AreFresh g c new
-edit_fresh g (command.ReorganizeFile file) new e = absurd (true≢false (sym e))
-edit_fresh g (command.ReorganizeLink link) new e = absurd (true≢false (sym e))
-edit_fresh g _ new e = tt
-
-pub edit_selects : (c : Command) → is_edit c ≡ true → selects c ≡ true
-edit_selects command.Begin e = absurd (true≢false (sym e))
-edit_selects command.Commit e = absurd (true≢false (sym e))
-edit_selects command.Abort e = absurd (true≢false (sym e))
-edit_selects command.Nothing e = absurd (true≢false (sym e))
-edit_selects _ e = refl

@@ -35,12 +35,12 @@ pub enum StepStop {
 /// The engine over leaves. Between two calls it keeps nothing of a state but the leaves themselves.
 #[derive(Drop)]
 pub struct Engine<B: Leaves + Drop> {
-    schema: Schema,
-    built: Built,
-    leaves: B,
-    inside: bool,
+    pub(crate) schema: Schema,
+    pub(crate) built: Built,
+    pub(crate) leaves: B,
+    pub(crate) inside: bool,
     commits: u64,
-    stopped: Option<Stop>,
+    pub(crate) stopped: Option<Stop>,
 }
 
 impl<B: Leaves + Drop> Engine<B> {

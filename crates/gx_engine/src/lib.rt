@@ -2,6 +2,8 @@
 #![tactic(auto)]
 
 mod engine;
+mod parts;
+mod records;
 mod reorganize;
 
 pub use engine::{Engine, StepStop};
