@@ -2,6 +2,8 @@
 #![tactic(auto)]
 
 #[cfg(test)]
+mod readings;
+#[cfg(test)]
 mod row;
 #[cfg(test)]
 mod structures;

@@ -79,7 +79,7 @@ fn empty_leaves(alloc: Global, count: u32) -> Result<PlainLeaves<MemoryMachine>,
     }
 }
 
-fn started(
+pub(crate) fn started(
     alloc: Global,
     schema: &[u8],
     equation: &[u8],
@@ -115,7 +115,7 @@ fn carry_out<B: Leaves + Drop>(
 }
 
 // The answers of a script's lines.
-fn played<B: Leaves + Drop>(
+pub(crate) fn played<B: Leaves + Drop>(
     alloc: Global,
     script: &str,
     engine: &mut Engine<B>,
@@ -168,7 +168,7 @@ fn push_entries(
 }
 
 // The entries of all leaves.
-fn leaves_text<B: Leaves>(alloc: Global, leaves: &mut B) -> Result<String, Fail> {
+pub(crate) fn leaves_text<B: Leaves>(alloc: Global, leaves: &mut B) -> Result<String, Fail> {
     let mut text = String::new(alloc);
     let all = Span {
         lo: KeyBuf::from_slice(b""),
