@@ -4,8 +4,6 @@
 #[cfg(test)]
 mod bounded;
 #[cfg(test)]
-mod crashes;
-#[cfg(test)]
 mod partner;
 #[cfg(test)]
 mod requests;

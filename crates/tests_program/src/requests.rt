@@ -7,11 +7,11 @@ use std::alloc::Global;
 use std::process::Abort;
 use std::test::Fail;
 
-pub(crate) const SCHEMA: &str = "file f (k int, t text 5)\n";
+const SCHEMA: &str = "file f (k int, t text 5)\n";
 
-pub(crate) const EQUATION: &str = "f = actual(heap)\n";
+const EQUATION: &str = "f = actual(heap)\n";
 
-pub(crate) const SCRIPT: &str = r#"begin
+const SCRIPT: &str = r#"begin
 insert f 7 "ann"
 get f 7
 get f 8
