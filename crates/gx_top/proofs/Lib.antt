@@ -8,3 +8,7 @@ mod KeepLemmas
 mod FollowLemmas
 mod DecidedLemmas
 mod ReadyLemmas
+mod FormedLemmas
+mod SortLemmas
+mod AnsweredLemmas
+mod PlayedLemmas

@@ -6,11 +6,11 @@ ghost use Rattle.gx_ports.specs.declared.kinds.LeafSpec.{LeafSpec as Spec};
 ghost use Rattle.gx_ports.specs.LeafMaps.{LeafMap, Limits};
 ghost use Rattle.gx_schema.specs.declared.schema.Schema.{Schema as TheSchema};
 ghost use Rattle.gx_equation.specs.Trees.{DefinitionTree};
-ghost use Rattle.gx_model.specs.Play.{Playing};
+ghost use Rattle.gx_model.specs.Play.{Playing, End};
 ghost use Rattle.gx_model.specs.States.{State};
 ghost use Rattle.gx_store.specs.Device.{Reopens};
 ghost use Rattle.gx_play.specs.Endings.{ending_line};
-ghost use Rattle.gx_play.specs.Played.{MayBeFull};
+ghost use Rattle.gx_play.specs.Played.{IsPlay, MayBeFull};
 ghost use Rattle.gx_requests.specs.Words.{Action, texts_of};
 ghost use Rattle.gx_requests.specs.Requests.{IsRefused};
 ghost use Rattle.gx_requests.specs.Checked.{IsStored};
@@ -83,6 +83,15 @@ pub fn one_text(words: &[String])
         → IsWholeText (texts_of words.now) before start text
         → IsWholeText others other start more
         → text ≡ more }
+{}
+
+/// Each script has a play from each state, under each schema that is accepted: so none is asked for
+/// where something is said of its play. It does nothing.
+pub fn each_script_is_played(words: &[String])
+    ensures { (texts : Texts) (a : Action) (g : Given) (start : State) (script : List ℕ)
+        → IsGiven (texts_of words.now) texts a g
+        → (answers : List ℕ) × (final : Playing) × (end : End)
+        × IsPlay g.schema start script answers final end }
 {}
 
 /// Under two texts, with the leaves that the equation means, the blocks of a device hold one list

@@ -1,0 +1,210 @@
+-- Each line is read, and each script has a play.
+use Rattle.std.proofs.Common.{◌≡◌, ℕ, zero, suc, ◌+◌, ◌<◌, ◌≤◌, List, [], ◌∷◌, ◌++◌, length, Bool, Option, Some, None, Result, Ok, Err, refl, sym, ap, subst, ◌∙◌, inl, inr, arith}
+use Rattle.std.specs.Prelude.{◌⊎◌}
+use Rattle.std.specs.List.{list_all}
+use Rattle.std.proofs.lemmas.Bool.{cases_Bool}
+use Rattle.gx_schema.specs.declared.schema.Schema.{Schema}
+use Rattle.gx_schema.specs.WellFormed.{IsWellFormed}
+use Rattle.gx_commands.specs.declared.command.Command.{Command}
+use Rattle.gx_commands.specs.declared.command.Command.TheVariants as command
+use Rattle.gx_commands.specs.declared.command.LineWhy.{LineWhy}
+use Rattle.gx_commands.specs.declared.command.LineWhy.TheVariants as why
+use Rattle.gx_commands.specs.Commands.{place_reason}
+use Rattle.gx_commands.specs.Cutting.{first_word}
+use Rattle.gx_commands.specs.Lines.{Lines}
+use Rattle.gx_commands.specs.Words.{Word, is_character, is_comment, past_blanks}
+use Rattle.gx_commands.proofs.CuttingLaws.{HasWords, words_after, words_before, no_words, blank_line}
+use Rattle.gx_commands.proofs.WordLaws.{first_found, first_shorter}
+use Rattle.gx_script.specs.Grammar.{IsLineOf}
+use Rattle.gx_script.specs.Reading.{reading, IsReading}
+use Rattle.gx_script.proofs.ReadingLaws.{line_found}
+use Rattle.gx_model.specs.Play.{Playing, End, stopped, end_at, is_inside, after_command}
+use Rattle.gx_model.specs.Runs.{Runs, IsEnd, IsBadLine, AreFirstLines, IsPlayFrom}
+use Rattle.gx_top.proofs.AnsweredLemmas.{some_answer}
+
+-- ---- a line is words, or it isn't
+
+abbrev AreWordsOrNot : List ℕ → Type 0
+AreWordsOrNot line = HasWords line ⊎ (¬ HasWords line)
+
+blank_or : (line bytes : List ℕ) → past_blanks line ≡ bytes → first_word line ≡ None
+    → AreWordsOrNot line
+blank_or line [] is none = inl ([], blank_line line is)
+blank_or line (b ∷ bs) is none =
+    inr (no_words line none (λ e. let f : b ∷ bs ≡ [] = sym is ∙ e in absurd cc))
+
+words_from : (line : List ℕ) (first : Option (Word × List ℕ)) → first_word line ≡ first
+    → ((rest : List ℕ) → length rest < length line → AreWordsOrNot rest) → AreWordsOrNot line
+words_from line None is later = blank_or line (past_blanks line) refl is
+words_from line (Some x) is later =
+    elim (later x.1 (first_shorter line x.0 x.1 (first_found line x is))) as
+    (λ _. AreWordsOrNot line) [
+      | inl has ↦ inl (words_before line x is has)
+      | inr none ↦ inr (λ has. none (words_after line x is has))
+    ]
+
+words_within : (n : ℕ) (line : List ℕ) → length line ≤ n → AreWordsOrNot line
+words_within zero line le =
+    words_from line (first_word line) refl (λ rest less. absurd (omega arith))
+words_within (suc n) line le =
+    words_from line (first_word line) refl (λ rest less. words_within n rest (omega arith))
+
+-- ---- a line has a reading
+
+abbrev HasReading : Schema → List ℕ → Type 0
+HasReading schema line = (r : Result Command LineWhy) × IsReading schema line r
+
+some_reading : (schema : Schema) (line : List ℕ) → HasReading schema line
+some_reading schema line = elim (cases_Bool (is_comment line)) as (λ _. HasReading schema line) [
+  | inl comment ↦ (Ok command.Nothing, inl (comment, refl))
+  | inr none ↦ elim (cases_Bool (list_all is_character line)) as (λ _. HasReading schema line) [
+    | inr strange ↦ (Err why.Character, inr (inl (none, strange, refl)))
+    | inl characters ↦ elim (words_within (length line) line (omega arith)) as
+        (λ _. HasReading schema line) [
+          | inl has ↦ (
+            reading schema has.0,
+            inr (inr (inr (none, characters, (has.0, has.1, refl)))),
+          )
+          | inr not_any ↦ (
+            Err why.Quote,
+            inr (inr (inl (none, characters, (λ words are. not_any (words, are)), refl))),
+          )
+        ]
+  ]
+]
+
+-- it means a command that may stand there, or is bad
+abbrev pub IsGoodOrBad : Schema → Bool → List ℕ → Type 0
+IsGoodOrBad schema inside line =
+    ((c : Command) × IsLineOf schema line c × (place_reason inside c ≡ None))
+    ⊎ ((why : LineWhy) × IsBadLine schema inside line why)
+
+by_place : (schema : Schema) (inside : Bool) (line : List ℕ) (c : Command)
+    → IsLineOf schema line c → (r : Option LineWhy) → place_reason inside c ≡ r
+    → IsGoodOrBad schema inside line
+by_place schema inside line c means None is = inl (c, means, is)
+by_place schema inside line c means (Some why) is = inr (why, inr (c, means, is))
+
+by_reading : (schema : Schema) (inside : Bool) (line : List ℕ) → IsWellFormed schema
+    → (r : Result Command LineWhy) → IsReading schema line r → IsGoodOrBad schema inside line
+by_reading schema inside line whole (Ok c) is =
+    by_place schema inside line c (line_found schema line c whole is) (place_reason inside c) refl
+by_reading schema inside line whole (Err why) is = inr (why, inl is)
+
+pub good_or_bad : (schema : Schema) (inside : Bool) (line : List ℕ) → IsWellFormed schema
+    → IsGoodOrBad schema inside line
+good_or_bad schema inside line whole =
+    let r = some_reading schema line in
+    by_reading schema inside line whole r.0 r.1
+
+-- ---- lines have a play
+
+-- one more line was first
+first_of_more : (line : List ℕ) (all : Lines) (ran : List (List ℕ))
+    (next : Result (Option (List ℕ)) LineWhy) → AreFirstLines all ran next
+    → AreFirstLines (record { lines = line ∷ all.lines; stop = all.stop }) (line ∷ ran) next
+first_of_more line all ran (Ok (Some other)) is =
+    (is.0, ap (λ (ls : List (List ℕ)). line ∷ ls) is.1)
+first_of_more line all ran (Ok None) is =
+    (ap (λ (ls : List (List ℕ)). line ∷ ls) is.0, is.1)
+first_of_more line all ran (Err why) is =
+    (ap (λ (ls : List (List ℕ)). line ∷ ls) is.0, is.1)
+
+-- a play of lines, where so many ran before them
+record HasPlay (schema : Schema) (p : Playing) (last : ℕ) (all : Lines) : Type 0 where
+  answers : List ℕ
+  final : Playing
+  end : End
+  ran : List (List ℕ)
+  next : Result (Option (List ℕ)) LineWhy
+  first : AreFirstLines all ran next
+  runs : Runs schema p ran answers final
+  ends : IsEnd schema final (last + length ran) next end
+
+play_of_more : (schema : Schema) (p : Playing) (last : ℕ) (line : List ℕ) (all : Lines)
+    → IsGoodOrBad schema (is_inside p) line
+    → ((q : Playing) → HasPlay schema q (last + 1) all)
+    → HasPlay schema p last (record { lines = line ∷ all.lines; stop = all.stop })
+play_of_more schema p last line all (inr (why, bad)) later = record {
+  answers = [];
+  final = p;
+  end = stopped (last + length {A = List ℕ} [] + 1) why;
+  ran = [];
+  next = Ok (Some line);
+  first = (all.lines, refl);
+  runs = (refl, refl);
+  ends = (why, bad, refl);
+}
+play_of_more schema p last line all (inl (c, means, allowed)) later =
+    let answer = some_answer schema p c in
+    let rest = later (after_command schema p c) in
+    let many : last + 1 + length rest.ran ≡ last + length (line ∷ rest.ran) = omega arith in
+    record {
+      answers = answer.0 ++ rest.answers;
+      final = rest.final;
+      end = rest.end;
+      ran = line ∷ rest.ran;
+      next = rest.next;
+      first = first_of_more line all rest.ran rest.next rest.first;
+      runs = (
+        answer.0,
+        rest.answers,
+        after_command schema p c,
+        record {
+          command = c;
+          means = means;
+          allowed = allowed;
+          answered = answer.1;
+          next_is = refl;
+        },
+        rest.runs,
+        refl,
+      );
+      ends = subst (λ n. IsEnd schema rest.final n rest.next rest.end) many rest.ends;
+    }
+
+play_on : (schema : Schema) → IsWellFormed schema → (lines : List (List ℕ)) (stop : Option LineWhy)
+    (p : Playing) (last : ℕ)
+    → HasPlay schema p last (record { lines = lines; stop = stop })
+play_on schema whole [] None p last = record {
+  answers = [];
+  final = p;
+  end = end_at (last + length {A = List ℕ} []) (is_inside p);
+  ran = [];
+  next = Ok None;
+  first = (refl, refl);
+  runs = (refl, refl);
+  ends = refl;
+}
+play_on schema whole [] (Some why) p last = record {
+  answers = [];
+  final = p;
+  end = stopped (last + length {A = List ℕ} [] + 1) why;
+  ran = [];
+  next = Err why;
+  first = (refl, refl);
+  runs = (refl, refl);
+  ends = refl;
+}
+play_on schema whole (line ∷ lines) stop p last =
+    play_of_more schema p last line (record { lines = lines; stop = stop })
+    (good_or_bad schema (is_inside p) line whole)
+    (λ q. play_on schema whole lines stop q (last + 1))
+
+pub some_play : (schema : Schema) → IsWellFormed schema → (start : Playing) (all : Lines)
+    → (answers : List ℕ) × (final : Playing) × (end : End)
+    × IsPlayFrom schema start all answers final end
+some_play schema whole start all =
+    let play = play_on schema whole all.lines all.stop start 0 in
+    let many : 0 + length play.ran ≡ length play.ran = omega arith in (
+      play.answers,
+      play.final,
+      play.end,
+      record {
+        ran = play.ran;
+        next = play.next;
+        first = play.first;
+        runs = play.runs;
+        ends = subst (λ n. IsEnd schema play.final n play.next play.end) many play.ends;
+      },
+    )
