@@ -36,18 +36,19 @@ played_there (making device blocks) texts name text plays is = absurd plays
 played_there (inspecting device) texts name text plays is = absurd plays
 played_there (working device blocks records) texts name text plays is = absurd plays
 
-schema_under : (words : List (List ℕ)) (texts : Texts) (under : List ℕ) (a : Action) (g : Given)
-    → IsToPlay a → IsUnder words texts under → IsGiven words texts a g
-    → IsSchemaText under g.schema
-schema_under words texts under a g plays is given =
+schema_under : (words : List (List ℕ)) (texts : Texts) (schema : Schema) (a : Action) (g : Given)
+    → IsToPlay a → IsUnder words texts schema → IsGiven words texts a g → g.schema ≡ schema
+schema_under words texts schema a g plays is given =
     let asked = given.2 in
-    let same = same_words words a is.0 asked.schema_name is.1 asked.equation_name is.2
-    asked.words_are is.3 in
+    let same = same_words words a is.action asked.schema_name is.schema_name asked.equation_name
+    is.equation_name asked.words_are is.words_are in
     let there = played_there a texts asked.schema_name given.0 plays asked.schema_there in
-    subst (λ s. IsSchemaText s g.schema)
-    (text_once texts asked.schema_name is.1 given.0 under (same.schemas (played_named a plays))
-    there.0 is.4)
-    given.3.read.schema_means
+    one_schema is.text g.schema schema
+    (subst (λ s. IsSchemaText s g.schema)
+    (text_once texts asked.schema_name is.schema_name given.0 is.text
+    (same.schemas (played_named a plays)) there.0 is.there)
+    given.3.read.schema_means)
+    is.means
 
 text_of_play : (schema : Schema) (start : State) (script : List ℕ) (end close : End) (a b : List ℕ)
     (kept left : State) → IsPlayText schema start script end a kept
@@ -62,9 +63,11 @@ pub one_script_once : (words others : List (List ℕ)) (before other : Content) 
     → IsWholeText words before start text
     → IsWholeText others other start more → text ≡ more
 one_script_once words others before other start text more one x y =
-    let same = one_schema one.schema x.given.schema y.given.schema
-    (schema_under words before.aside.texts one.schema x.action x.given x.plays one.under x.is)
-    (schema_under others other.aside.texts one.schema y.action y.given y.plays one.other_under y.is) in
+    let here = schema_under words before.aside.texts one.schema x.action x.given x.plays one.under
+    x.is in
+    let there = schema_under others other.aside.texts one.schema y.action y.given y.plays
+    one.other_under y.is in
+    let same = here ∙ sym there in
     text_of_play y.given.schema start other.script x.end y.end text more x.kept y.kept
     (subst (λ (t : List ℕ). IsPlayText y.given.schema start t x.end text x.kept) one.script
     (subst (λ (k : Schema). IsPlayText k start before.script x.end text x.kept) same x.played))

@@ -3,6 +3,7 @@ use Rattle.std.specs.Prelude.{◌≡◌, ◌⊎◌, ℕ, List, ◌++◌, Some}
 use Rattle.std.specs.FinMap.{get}
 use Rattle.gx_device.specs.Content.{Content, Texts}
 use Rattle.gx_schema.specs.declared.schema.Schema.{Schema}
+use Rattle.gx_schema.specs.Grammar.{IsSchemaText}
 use Rattle.gx_model.specs.States.{State, empty_state}
 use Rattle.gx_model.specs.Play.{End}
 use Rattle.gx_store.specs.Opening.{AreOpened}
@@ -43,15 +44,20 @@ pub record IsWholeText (words : List (List ℕ)) (before : Content) (start : Sta
   pub kept : State
   pub played : IsPlayText given.schema start before.script end text kept
 
--- the words name this text as the schema
-abbrev pub IsUnder : List (List ℕ) → Texts → List ℕ → Type 0
-IsUnder words texts schema =
-    (a : Action) × (schema_name : List ℕ) × (equation_name : List ℕ)
-    × (words ≡ request_words a schema_name equation_name) × (get texts schema_name ≡ Some schema)
+-- the words name a text that means this schema
+pub record IsUnder (words : List (List ℕ)) (texts : Texts) (schema : Schema) : Type 0 where
+  pub action : Action
+  pub schema_name : List ℕ
+  pub equation_name : List ℕ
+  pub words_are : words ≡ request_words action schema_name equation_name
+  pub text : List ℕ
+  pub there : get texts schema_name ≡ Some text
+  pub means : IsSchemaText text schema
 
--- two requests ask for one script to be played under one schema, whatever their equations are
+-- two requests ask for one script to be played under one schema, however it is written, and
+-- whatever their equations are
 pub record PlayOneScript (words others : List (List ℕ)) (before other : Content) : Type 0 where
-  pub schema : List ℕ
+  pub schema : Schema
   pub under : IsUnder words before.aside.texts schema
   pub other_under : IsUnder others other.aside.texts schema
   pub script : before.script ≡ other.script

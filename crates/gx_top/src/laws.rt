@@ -75,7 +75,8 @@ pub fn one_reason(words: &[String])
 {}
 
 /// All requests that play one script under one schema from one state, each to its end or to the
-/// line that ends it, say one text. It does nothing.
+/// line that ends it, say one text: however the schema is written, and whatever their equations
+/// are. It does nothing.
 pub fn one_text(words: &[String])
     ensures { (others : List (List ℕ)) (before other : Content) (start : State)
         (text more : List ℕ)
