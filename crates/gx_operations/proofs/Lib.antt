@@ -19,3 +19,4 @@ mod RunHeldLemmas
 mod RunOnLemmas
 mod RunStoreLemmas
 pub mod LaterLemmas
+pub mod ExplainedLemmas

@@ -12,3 +12,4 @@ mod FormedLemmas
 mod SortLemmas
 mod AnsweredLemmas
 mod PlayedLemmas
+mod CompleteLemmas

@@ -3,3 +3,4 @@ pub mod Ends
 pub mod Readied
 pub mod Needs
 pub mod Laws
+pub mod Complete

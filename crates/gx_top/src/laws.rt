@@ -11,10 +11,12 @@ ghost use Rattle.gx_model.specs.States.{State};
 ghost use Rattle.gx_store.specs.Device.{Reopens};
 ghost use Rattle.gx_play.specs.Endings.{ending_line};
 ghost use Rattle.gx_play.specs.Played.{IsPlay, MayBeFull};
+ghost use Rattle.gx_play.specs.declared.status.Status.{Status};
 ghost use Rattle.gx_requests.specs.Words.{Action, texts_of};
 ghost use Rattle.gx_requests.specs.Requests.{IsRefused};
 ghost use Rattle.gx_requests.specs.Checked.{IsStored};
 ghost use Rattle.gx_operations.specs.Given.{Given, IsStoredAs, IsHeldOn};
+ghost use Rattle.gx_top.specs.Complete.{IsUnhindered, IsDoneOrMemory};
 ghost use Rattle.gx_top.specs.Ends.{AreEnds};
 ghost use Rattle.gx_top.specs.Laws.{IsWholeText, PlayOneScript, AreCases, AreRefusedOrGiven, Follows};
 ghost use Rattle.gx_top.specs.Needs.{AreEnough};
@@ -93,6 +95,16 @@ pub fn each_script_is_played(words: &[String])
         → IsGiven (texts_of words.now) texts a g
         → (answers : List ℕ) × (final : Playing) × (end : End)
         × IsPlay g.schema start script answers final end }
+{}
+
+/// A request of any kind is carried out, or there was no memory, where its texts are accepted, no
+/// call of the machine fails, and there is what the request needs: for `try` and `run` a script of
+/// good lines that leaves no transaction open, for `explain` good lines, for `run` and `inspect` a
+/// device that holds a state, for `make` and `work` a name that is free and a size that is allowed,
+/// and for `run` and `work` pages that are enough at each command. It does nothing.
+pub fn done_or_memory(words: &[String])
+    ensures { (old new : Content) (before now : ℕ) (s : Status)
+        → IsUnhindered (texts_of words.now) old new before now s → IsDoneOrMemory s }
 {}
 
 /// Under two texts, with the leaves that the equation means, the blocks of a device hold one list
