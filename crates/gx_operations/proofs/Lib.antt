@@ -20,3 +20,4 @@ mod RunOnLemmas
 mod RunStoreLemmas
 pub mod LaterLemmas
 pub mod ExplainedLemmas
+pub mod SpaceLemmas

@@ -18,3 +18,4 @@ pub mod Inspects
 pub mod Works
 pub mod Refuses
 pub mod GivenUp
+pub mod Space

@@ -3,19 +3,22 @@ ghost use Rattle.std.specs.Prelude.{◌≡◌, List, ℕ, Some};
 ghost use Rattle.gx_device.specs.Content.{Content, Texts};
 ghost use Rattle.gx_play.specs.declared.ending.Ending.{Ending as TheEnding};
 ghost use Rattle.gx_ports.specs.declared.kinds.LeafSpec.{LeafSpec as Spec};
-ghost use Rattle.gx_ports.specs.LeafMaps.{LeafMap, Limits};
+ghost use Rattle.gx_ports.specs.LeafMaps.{LeafMap, Limits, entry_count};
 ghost use Rattle.gx_schema.specs.declared.schema.Schema.{Schema as TheSchema};
 ghost use Rattle.gx_equation.specs.Trees.{DefinitionTree};
 ghost use Rattle.gx_model.specs.Play.{Playing, End};
 ghost use Rattle.gx_model.specs.States.{State};
+ghost use Rattle.gx_states.specs.Terms.{state_size};
 ghost use Rattle.gx_store.specs.Device.{Reopens};
+ghost use Rattle.gx_store.specs.Store.{OfBlocks};
 ghost use Rattle.gx_play.specs.Endings.{ending_line};
 ghost use Rattle.gx_play.specs.Played.{IsPlay, MayBeFull};
 ghost use Rattle.gx_play.specs.declared.status.Status.{Status};
 ghost use Rattle.gx_requests.specs.Words.{Action, texts_of};
 ghost use Rattle.gx_requests.specs.Requests.{IsRefused};
 ghost use Rattle.gx_requests.specs.Checked.{IsStored};
-ghost use Rattle.gx_operations.specs.Given.{Given, IsStoredAs, IsHeldOn};
+ghost use Rattle.gx_operations.specs.Given.{Given, under, IsStoredAs, IsHeldOn};
+ghost use Rattle.gx_operations.specs.Space.{HasFewPages};
 ghost use Rattle.gx_top.specs.Complete.{IsUnhindered, IsDoneOrMemory};
 ghost use Rattle.gx_top.specs.Ends.{AreEnds};
 ghost use Rattle.gx_top.specs.Laws.{IsWholeText, PlayOneScript, AreCases, AreRefusedOrGiven, Follows};
@@ -114,6 +117,19 @@ pub fn one_list_of_maps(schema: &[u8], equation: &[u8])
         → Reopens schema.now equation.now specs maps blocks
         → Reopens schema.now equation.now specs other blocks
         → maps ≡ other }
+{}
+
+/// Of what is stored: the pages of a device that aren't free are at most those of the table and the
+/// roots, and two for each entry of its leaves; so many entries has the state that it holds, where
+/// it holds one. It does nothing.
+pub fn few_pages(device: &str, stored: &Stored)
+    requires { IsStored stored.now }
+    ensures maps { (g : Given) (c : Content) (maps : List LeafMap) → IsStoredAs g stored.now
+        → (opened : OfBlocks device.now c (under g Reopens maps))
+        → HasFewPages g (entry_count maps) opened.0 }
+    ensures state { (g : Given) (c : Content) (s : State) → IsStoredAs g stored.now
+        → (held : IsHeldOn g device.now s c)
+        → HasFewPages g (state_size g.schema g.definitions s) held.0 }
 {}
 
 /// Where the pages are enough at each command of a script's play, for the entries of the state
