@@ -12,7 +12,8 @@ choices_from (ch ∷ chs) = choice ch (choices_from chs)
 
 abbrev pub choice_step : Access-F Choice → Choice
 choice_step (Only fs) = alternatives.Only fs
-choice_step (By chooser bounds accesses) = alternatives.By chooser bounds (choices_from accesses.items)
+choice_step (By chooser bounds accesses) =
+    alternatives.By chooser bounds (choices_from accesses.items)
 
 abbrev pub choice_of : Access → Choice
 choice_of a = fold-Access Choice choice_step a
