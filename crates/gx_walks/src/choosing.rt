@@ -1,11 +1,14 @@
 // The direction of a path.
-ghost use Rattle.std.specs.Prelude.{◌≡◌, ◌↔◌, ◌^◌, ◌<◌, length};
+ghost use Rattle.std.specs.Prelude.{◌≡◌, ◌↔◌, ◌^◌, ◌<◌, length, IsTrue};
 ghost use Rattle.gx_model.specs.Paths.{last_find};
 ghost use Rattle.gx_walks.specs.Directions.{find_rank, HasFewConds};
 
 use crate::directions::Direction;
 use gx_commands::{Find, Leg, PathQuery};
 use gx_planner::{plan, rank};
+
+// There are fewer conditions.
+const MOST_CONDS: usize = 65_536;
 
 /// The direction of a path whose first and last file have these fields indexed, field 0 being the
 /// key: backward exactly where the rank of the plan of its last `find` is less than that of its
@@ -22,6 +25,14 @@ pub fn direction(query: &PathQuery, first: &[bool], last: &[bool]) -> Direction
     } else {
         Direction::Forward
     }
+}
+
+/// Whether a plan can number the conditions at both ends of a path: each has fewer than 65,536.
+pub fn has_few_conds(query: &PathQuery) -> bool
+    ensures { IsTrue result ↔ HasFewConds query.now }
+{
+    let last = last_find(&query.first, &query.legs.0);
+    query.first.conds.0.len() < MOST_CONDS && last.conds.0.len() < MOST_CONDS
 }
 
 // The rank of the plan of a `find`.

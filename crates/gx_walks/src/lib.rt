@@ -10,7 +10,7 @@ mod reader;
 mod settling;
 mod walking;
 
-pub use choosing::direction;
+pub use choosing::{direction, has_few_conds};
 pub use directions::Direction;
 pub use laws::either_direction;
 pub use paths::path_rows;
