@@ -1,6 +1,7 @@
 //! Paths over links, walked from either end.
 #![tactic(auto)]
 
+mod answers;
 mod back;
 mod choosing;
 mod directions;
@@ -10,6 +11,7 @@ mod reader;
 mod settling;
 mod walking;
 
+pub use answers::append_path_text;
 pub use choosing::{direction, has_few_conds};
 pub use directions::Direction;
 pub use laws::either_direction;

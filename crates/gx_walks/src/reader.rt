@@ -1,5 +1,5 @@
 // What a walk asks of a database.
-ghost use Rattle.std.specs.Prelude.{◌≡◌, ◌^◌, ◌<◌, ◌≤◌, ◌+◌, ◌*◌, ◌++◌, ℕ, length, IfOk, OnOk, Result, Ok, Err};
+ghost use Rattle.std.specs.Prelude.{◌≡◌, ◌^◌, ◌<◌, ◌≤◌, ◌+◌, ◌*◌, ◌++◌, ℕ, length, IfOk, OnOk, OnErr, Result, Ok, Err};
 ghost use Rattle.gx_schema.specs.declared.schema.Schema.{Schema};
 ghost use Rattle.gx_commands.specs.Paths.{IsByKey, link_of, file_behind};
 ghost use Rattle.gx_model.specs.States.{State};
@@ -103,6 +103,7 @@ pub(crate) fn or_stop<T: Drop, E: Drop, R: LinkReader>(
     requires ready { R.ready reader.old }
     requires serving { R.calls reader.old reader.old (Ok tt) }
     ensures same { IfOk result (λ value. made ≡ Ok value) }
+    ensures refused { OnErr result ((why : E) × (made ≡ Err why)) }
     ensures still { OnOk result (reader.new ≡ reader.old) }
     ensures calls { R.calls reader.old reader.new (ended result) }
 {
