@@ -1,15 +1,19 @@
 -- The legs of a path, and the legs back.
-use Rattle.std.proofs.Common.{◌≡◌, ◌<◌, ◌∙◌, ℕ, List, [], ◌∷◌, ◌++◌, length, refl, sym, ap, subst}
+use Rattle.std.proofs.Common.{◌≡◌, ◌<◌, ◌∙◌, ℕ, Bool, List, [], ◌∷◌, ◌++◌, length, refl, sym, ap, subst}
 use Rattle.std.specs.List.{AllByRecursion}
 use Rattle.gx_schema.specs.declared.schema.Schema.{Schema}
 use Rattle.gx_commands.specs.declared.command.Find.{Find}
 use Rattle.gx_commands.specs.declared.path.Leg.{Leg}
 use Rattle.gx_commands.specs.declared.path.Way.{Way}
 use Rattle.gx_commands.specs.declared.path.Way.TheVariants.{Down, Up}
+use Rattle.gx_commands.specs.declared.path.PathQuery.{PathQuery}
 use Rattle.gx_commands.specs.Paths.{link_of, file_before, file_behind, IsLegFrom, AreLegsFrom, IsByKey}
 use Rattle.gx_model.specs.Paths.{last_find}
 use Rattle.gx_walks.specs.Walks.{way_back, back_legs}
 use Rattle.gx_walks.specs.Readers.{IsLegOf}
+use Rattle.gx_walks.specs.Directions.{IsDirectionOf}
+use Rattle.gx_walks.specs.declared.directions.Direction.{Direction}
+use Rattle.gx_walks.specs.declared.directions.Direction.TheVariants.{Forward, Backward}
 
 -- each leg of a path is one of the schema
 pub legs_of_path : (schema : Schema) (file : ℕ) (legs : List Leg) → AreLegsFrom schema file legs
@@ -64,3 +68,11 @@ leg_back schema first legs leg h =
       link = subst (λ (n : ℕ). n < length schema.links) (sym (back_link leg.way)) last.link;
       behind = behind_back schema leg.way ∙ last.before;
     }
+
+-- a path has one direction
+pub one_direction : (q : PathQuery) (first last : List Bool) (d e : Direction)
+    → IsDirectionOf q first last d → IsDirectionOf q first last e → d ≡ e
+one_direction q first last Forward Forward h k = refl
+one_direction q first last Backward Backward h k = refl
+one_direction q first last Forward Backward h k = h.1 (k.0 refl)
+one_direction q first last Backward Forward h k = sym (k.1 (h.0 refl))

@@ -1,15 +1,22 @@
 -- What a direction of a path is chosen by.
-use Rattle.std.specs.Prelude.{ℕ, ◌^◌, ◌<◌, List, length, Bool}
+use Rattle.std.specs.Prelude.{◌≡◌, ◌↔◌, ℕ, ◌^◌, ◌<◌, List, length, Bool}
 use Rattle.gx_schema.specs.declared.schema.Schema.{Schema}
 use Rattle.gx_commands.specs.declared.command.Find.{Find}
 use Rattle.gx_commands.specs.declared.path.PathQuery.{PathQuery}
 use Rattle.gx_commands.specs.Paths.{IsPathOf}
 use Rattle.gx_planner.specs.Plans.{least_plan, plan_rank}
 use Rattle.gx_model.specs.Paths.{last_find}
+use Rattle.gx_walks.specs.declared.directions.Direction.{Direction}
+use Rattle.gx_walks.specs.declared.directions.Direction.TheVariants.{Backward}
 
 -- the rank of the plan of a `find` on a file of which these fields are indexed
 abbrev pub find_rank : Find → List Bool → ℕ
 find_rank q indexed = plan_rank (least_plan q indexed)
+
+-- whether the direction is backward follows from the ranks at both ends
+abbrev pub IsDirectionOf : PathQuery → List Bool → List Bool → Direction → Type 0
+IsDirectionOf q first last direction = (direction ≡ Backward)
+    ↔ (find_rank (last_find q.first q.legs) last < find_rank q.first first)
 
 -- both ends have conditions that a plan can number
 pub record HasFewConds (q : PathQuery) : Type 0 where

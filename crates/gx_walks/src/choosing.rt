@@ -1,7 +1,7 @@
 // The direction of a path.
 ghost use Rattle.std.specs.Prelude.{◌≡◌, ◌↔◌, ◌^◌, ◌<◌, length, IsTrue};
 ghost use Rattle.gx_model.specs.Paths.{last_find};
-ghost use Rattle.gx_walks.specs.Directions.{find_rank, HasFewConds};
+ghost use Rattle.gx_walks.specs.Directions.{find_rank, IsDirectionOf, HasFewConds};
 
 use crate::directions::Direction;
 use gx_commands::{Find, Leg, PathQuery};
@@ -15,12 +15,9 @@ const MOST_CONDS: usize = 65_536;
 /// first. It takes no memory.
 pub fn direction(query: &PathQuery, first: &[bool], last: &[bool]) -> Direction
     requires { HasFewConds query.now }
-    ensures { (result ≡ Direction.Backward)
-        ↔ (find_rank (last_find query.now.first query.now.legs) last.now
-        < find_rank query.now.first first.now) }
+    ensures { IsDirectionOf query.now first.now last.now result }
 {
-    let last_find = last_find(&query.first, &query.legs.0);
-    if rank_of(last_find, last) < rank_of(&query.first, first) {
+    if rank_of(last_find_of(query), last) < rank_of(&query.first, first) {
         Direction::Backward
     } else {
         Direction::Forward
@@ -31,7 +28,7 @@ pub fn direction(query: &PathQuery, first: &[bool], last: &[bool]) -> Direction
 pub fn has_few_conds(query: &PathQuery) -> bool
     ensures { IsTrue result ↔ HasFewConds query.now }
 {
-    let last = last_find(&query.first, &query.legs.0);
+    let last = last_find_of(query);
     query.first.conds.0.len() < MOST_CONDS && last.conds.0.len() < MOST_CONDS
 }
 
@@ -41,6 +38,13 @@ fn rank_of(find: &Find, indexed: &[bool]) -> u8
     ensures { result ≡ find_rank find.now indexed.now }
 {
     rank(plan(find, indexed))
+}
+
+/// The `find` of the last leg of a path.
+pub(crate) fn last_find_of(query: &PathQuery) -> &Find
+    ensures { result.now ≡ last_find query.now.first query.now.legs }
+{
+    last_find(&query.first, &query.legs.0)
 }
 
 /// The `find` of the last leg, or the one before all legs.

@@ -11,7 +11,7 @@ mod reader;
 mod settling;
 mod walking;
 
-pub use answers::append_path_text;
+pub use answers::answer;
 pub use choosing::{direction, has_few_conds};
 pub use directions::Direction;
 pub use laws::either_direction;

@@ -1,6 +1,6 @@
 // What a walk asks of a database.
-ghost use Rattle.std.specs.Prelude.{◌≡◌, ◌^◌, ◌<◌, ◌≤◌, ◌+◌, ◌*◌, ◌++◌, ℕ, length, IfOk, OnOk, OnErr, Result, Ok, Err};
-ghost use Rattle.gx_schema.specs.declared.schema.Schema.{Schema};
+ghost use Rattle.std.specs.Prelude.{◌≡◌, ◌^◌, ◌<◌, ◌≤◌, ◌+◌, ◌*◌, ◌++◌, ℕ, Bool, List, length, IfOk, OnOk, OnErr, Result, Ok, Err};
+ghost use Rattle.gx_schema.specs.declared.schema.Schema.{Schema as TheSchema};
 ghost use Rattle.gx_commands.specs.Paths.{IsByKey, link_of, file_behind};
 ghost use Rattle.gx_model.specs.States.{State};
 ghost use Rattle.gx_model.specs.Paths.{chosen};
@@ -9,7 +9,8 @@ ghost use Rattle.gx_walks.specs.Readers.{ended, Costs, IsFound};
 
 use gx_commands::{Find, Way};
 use gx_rows::Row;
-use gx_values::Value;
+use gx_schema::Schema;
+use gx_values::{NoMemory, Value};
 use std::alloc::Global;
 
 /// A database whose records and links are read. It holds a state, and counts its steps.
@@ -18,10 +19,13 @@ pub trait LinkReader {
     type Stop: Copy;
 
     /// The schema of its records.
-    ghost schema: { Self → Schema };
+    ghost schema: { Self → TheSchema };
 
     /// It can be asked.
     ghost ready: { Self → Type 0 };
+
+    /// Which fields of a file are indexed.
+    ghost indexed: { Self → ℕ → List Bool };
 
     /// It holds this state.
     ghost holds: { Self → State → Type 0 };
@@ -34,6 +38,17 @@ pub trait LinkReader {
 
     /// What calls that ended so may have done to it.
     ghost calls: { Self → Self → Result (Unit {0}) Self.Stop → Type 0 };
+
+    /// The schema of its records.
+    fn schema(&self) -> &Schema
+        ensures { result.now ≡ schema self.now };
+
+    /// Whether each field of a file is indexed, by the number of the field; field 0 is the key.
+    /// `NoMemory`: there was none for it.
+    fn indexed_fields(&self, alloc: Global, file: u16) -> Result<Vec<bool>, NoMemory>
+        requires ready { ready self.now }
+        requires file { file < length (schema self.now).files }
+        ensures { IfOk result (λ fields. fields.items ≡ indexed self.now file) };
 
     /// The records that a `find` gives, by ascending key.
     fn records(&mut self, alloc: Global, find: &Find) -> Result<Vec<Row>, Self::Stop>

@@ -1,6 +1,6 @@
 // Ten departments with 200 members, as a reader of links. It counts nothing, and its clauses
 // promise nothing of a state: what it gives is seen in its code.
-ghost use Rattle.std.specs.Prelude.{◌≡◌, IfOk};
+ghost use Rattle.std.specs.Prelude.{◌≡◌, ◌∷◌, [], true, IfOk};
 ghost use Rattle.std.proofs.Common.{◌∙◌, refl};
 ghost use Rattle.gx_schema.specs.WellFormed.{IsWellFormed};
 
@@ -45,6 +45,8 @@ impl LinkReader for Company {
 
     ghost ready = { λ c. Unit {0} };
 
+    ghost indexed = { λ c file. true ∷ [] };
+
     ghost holds = { λ c s. ⊥ };
 
     ghost costs = { λ c s p. ⊥ };
@@ -52,6 +54,15 @@ impl LinkReader for Company {
     ghost work = { λ c. 0 };
 
     ghost calls = { λ a b r. b.schema ≡ a.schema };
+
+    fn schema(&self) -> &Schema {
+        &self.schema
+    }
+
+    fn indexed_fields(&self, alloc: Global, file: u16) -> Result<Vec<bool>, NoMemory> {
+        let _file = file;
+        Ok(vec![in alloc; true]?)
+    }
 
     fn records(&mut self, alloc: Global, find: &Find) -> Result<Vec<Row>, NoMemory> {
         let mut rows = Vec::new(alloc);

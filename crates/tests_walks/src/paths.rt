@@ -3,8 +3,8 @@ use crate::company::Company;
 use crate::row::check_row;
 use gx_paths::read_path;
 use gx_rows::Row;
-use gx_values::Value;
-use gx_walks::{Direction, direction, has_few_conds, path_rows};
+use gx_values::{Octets, Value};
+use gx_walks::{Direction, answer, direction, has_few_conds, path_rows};
 use std::alloc::Global;
 use std::test::Fail;
 
@@ -107,5 +107,25 @@ fn goes_from_the_end_of_lesser_rank(rt: HostRuntime) -> Result<(), Fail> {
     for case in CASES {
         check_row(&rt, case.line, is_directed(rt.alloc(), case)?);
     }
+    Ok(())
+}
+
+// What the path of a line answers.
+fn text_of(alloc: Global, line: &[u8]) -> Result<Octets, Fail> {
+    let mut company = Company::new(alloc)?;
+    let query = read_path(alloc, &company.schema, line)?;
+    if !has_few_conds(&query) {
+        return Err("too many conditions".into());
+    }
+    let mut text = Octets(Vec::new(alloc));
+    answer(alloc, &mut company, &query, &mut text)?;
+    Ok(text)
+}
+
+#[test]
+fn answers_by_the_lines_of_its_records(rt: HostRuntime) -> Result<(), Fail> {
+    let line = b"path dept where dno = 3 down works where pay >= 1091";
+    let text = text_of(rt.alloc(), line)?;
+    assert!(rt; text.as_slice() == b"emp 43 1091\nemp 143 1091\nfound 2\n".as_slice());
     Ok(())
 }
