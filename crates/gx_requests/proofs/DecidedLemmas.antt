@@ -32,7 +32,7 @@ use Rattle.gx_requests.proofs.AskedLemmas.{asked_of, asked, schema_in, equation_
 abbrev pub AreDecided : List (List ℕ) → Texts → Type 0
 AreDecided words texts = ((why : Ending) × IsRefused words texts why)
     ⊎ ((a : Action) × (schema : Schema) × (ds : List DefinitionTree) × (typing : Typing)
-      × IsAccepted words texts a schema ds typing)
+    × IsAccepted words texts a schema ds typing)
 
 pub same_or_not : (a b : ℕ) → (a ≡ b) ⊎ (a ≢ b)
 same_or_not a b = by_less (cases_lt a b) (cases_lt b a)
