@@ -19,8 +19,8 @@ use gx_schema::{FileDef, Schema};
 use gx_values::{NoMemory, Octets};
 use std::alloc::{AllocError, Global};
 
-/// Appends what a path answers: the lines of its records, and how many there are. It is walked in
-/// the direction that the plans of its two ends give, in as many steps as `path_rows` says.
+/// Appends what a path answers: the lines of its records, and how many there are. It takes
+/// at most as many steps as `path_rows` says of the direction that the plans of its two ends give.
 ///
 /// It is given up where a call of the reader is, or where there was no memory, and then `out` is as
 /// before.

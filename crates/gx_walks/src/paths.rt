@@ -20,9 +20,9 @@ use std::alloc::Global;
 /// the same.
 ///
 /// It takes at most `2 * (c + v + 1) * w` steps where each owner that is asked for is found without
-/// reading all of its link. There c is how many records the plan of the `find` looks at from which
-/// it is walked, v the number of records before each leg of each walk and of pairs that the leg
-/// follows, and w the steps of one look-up. Forward there is one walk, backward one for each record
+/// reading all of its link. There the reader states c, for the `find` from which it is
+/// walked, and w, for one look-up; v is the number of records before each leg of each walk and of
+/// pairs that the leg follows. Forward there is one walk, backward one for each record
 /// of the last `find`.
 ///
 /// It is given up where a call of the reader is, or where there was no memory.

@@ -30,7 +30,7 @@ pub trait LinkReader {
     /// It holds this state.
     ghost holds: { Self → State → Type 0 };
 
-    /// No look-up in this state costs more.
+    /// What its steps in this state are bounded by.
     ghost costs: { Self → State → Costs → Type 0 };
 
     /// How many steps there were.
