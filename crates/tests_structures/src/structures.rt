@@ -122,6 +122,8 @@ pub(crate) fn played<B: Leaves + Drop>(
 ) -> Result<Octets, Fail>
     requires ready { IsReady B.View engine.old }
     requires well_formed { IsWellFormed (schema_of engine.old) }
+    ensures ready { IsReady B.View engine.new }
+    ensures schema { schema_of engine.new ≡ schema_of engine.old }
 {
     let mut answers = Octets(Vec::new(alloc));
     for line in script.split('\n') {
