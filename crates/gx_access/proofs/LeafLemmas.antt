@@ -1,6 +1,6 @@
 -- The fragments' leaves are the data leaves of the tree, each at its place; and a record has no more
 -- data entries than entries.
-use Rattle.std.proofs.Common.{◌≡◌, ℕ, zero, suc, List, [], ◌∷◌, ◌++◌, refl, sym, ap, ◌∙◌, subst, Bool, true, false, not, if◌then◌else◌, map, length, length-append, append-nil, arith, ◌≤◌, ◌<◌, Some, None, nat_eq, nat_lt}
+use Rattle.std.proofs.Common.{◌≡◌, ℕ, zero, suc, List, [], ◌∷◌, ◌++◌, refl, sym, ap, ◌∙◌, subst, Bool, true, false, if◌then◌else◌, length, length-append, append-nil, arith, ◌≤◌, ◌<◌, Some, None, nat_eq, nat_lt}
 use Rattle.std.specs.List.{flat_map, filter}
 use Rattle.std.specs.Option.{option_map}
 use Rattle.std.proofs.lemmas.List.{map-append}
@@ -12,8 +12,6 @@ use Rattle.gx_values.specs.declared.records.Form.{Form}
 use Rattle.gx_values.specs.declared.records.Rec.{Rec}
 use Rattle.gx_mapping.specs.declared.parts.Part.{Part}
 use Rattle.gx_mapping.specs.Rule.{Rule}
-use Rattle.gx_encode.specs.Forms.{changed}
-use Rattle.gx_split.specs.Groups.{chosen}
 use Rattle.gx_stack.specs.Tree.{Tree, Kids, leaf, layer, no_kids, kid, kid_count, entries_of, kid_entries, tree_form, IsValid, AreValid}
 use Rattle.gx_access.specs.declared.arrangement.Arrangement.{Arrangement}
 use Rattle.gx_access.specs.declared.arrangement.Arrangement.TheVariants.{Same, ByValue, Body, Coded, Groups, Columns, Cut, Other}
@@ -23,11 +21,11 @@ use Rattle.gx_access.specs.declared.access.Tested.{Tested}
 use Rattle.gx_access.specs.declared.access.View.{View}
 use Rattle.gx_access.specs.declared.access.Fragment.{Fragment}
 use Rattle.gx_access.specs.declared.access.Chooser.{Chooser}
-use Rattle.gx_access.specs.Access.{Choice, Choices, Only, By, choice, data_of, kid_data, fragment_of, whole_view, flat, below_actual, code_slot, is_free, others_group}
+use Rattle.gx_access.specs.Access.{Choice, Choices, Only, By, choice, data_of, kid_data, fragment_of, whole_view, flat}
 use Rattle.gx_access.specs.Views.{room_below, coded_view, group_views, chooser_of}
-use Rattle.gx_access.specs.Whole.{Below, only_fragments, both, joined, followed, first_of, column_fragments, kid_choices, access_row, access_below, kids_below, access_of, data_leaves, kids_data_leaves}
+use Rattle.gx_access.specs.Whole.{Below, only_fragments, joined, first_of, column_fragments, kid_choices, access_row, access_below, kids_below, access_of, data_leaves, kids_data_leaves}
 use Rattle.gx_access.specs.Leaves.{fragment_leaves, choice_leaves, choices_leaves}
-use Rattle.gx_access.proofs.Induction.{none_is, from_flat, from_if, from_both, from_followed, from_map, from_only}
+use Rattle.gx_access.proofs.Induction.{none_is, from_flat, from_both, from_followed, from_map, from_only}
 
 past : (c : ℕ) → nat_lt (suc (suc c)) 2 ≡ false
 past c = le-ltb (suc (suc c)) 2 (omega arith)

@@ -4,3 +4,6 @@ pub mod Induction
 pub mod HeldLemmas
 pub mod LeafLemmas
 pub mod ReadLemmas
+pub mod ViewSteps
+pub mod DefaultSteps
+pub mod CompileSteps

@@ -1,8 +1,6 @@
 -- What a layer does with the data of a record: seven ways, each said of the parts for its data
 -- children.
 use Rattle.std.specs.Prelude.{◌≡◌, ◌<◌, ℕ, Bool, true, nat_eq, nat_lt, List, [], ◌∷◌}
-use Rattle.gx_values.specs.declared.values.Code.{Code}
-use Rattle.gx_values.specs.declared.values.Value.{Value}
 use Rattle.gx_values.specs.declared.records.Rec.{Rec}
 use Rattle.gx_mapping.specs.declared.parts.Part.{Part}
 use Rattle.gx_mapping.specs.Rule.{Rule, data_parts}
