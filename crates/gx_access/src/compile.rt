@@ -274,8 +274,8 @@ fn cut_access<M: Arranged>(
 
 /// The access of a node, where it has one. `None`: it has a partition below a segment or a
 /// transposition, or one by a data field below `actual`; a segment, a transposition or a code below
-/// `actual`; a code on a code; a division of anything but a leaf; or a layer that doesn't tell what
-/// it does. `NoMemory`: there was none for it.
+/// `actual`; a code on a code; a division of anything but a leaf; more than 65,535 layers `actual`
+/// above a leaf; or a layer that doesn't tell what it does. `NoMemory`: there was none for it.
 pub fn access_of<M: Arranged>(alloc: Global, node: &Node<M>) -> Result<Option<Access>, NoMemory>
     requires { IsValid M.rule (tree_of node.now) }
 
