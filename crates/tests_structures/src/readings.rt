@@ -169,21 +169,32 @@ fn records_text(alloc: Global, records: &Recs) -> Result<String, Fail> {
     Ok(text)
 }
 
-fn expect_asked(rt: &impl Abort, alloc: Global, equation: &str) -> Result<(), Fail> {
-    let mut engine = started(alloc, SCHEMA.as_bytes(), equation.as_bytes())?;
-    played(alloc, SCRIPT, &mut engine)?;
+fn expect_asked<B: Leaves + Drop>(
+    rt: &impl Abort,
+    alloc: Global,
+    engine: &mut Engine<B>,
+) -> Result<(), Fail>
+    requires ready { IsReady B.View engine.old }
+    requires well_formed { IsWellFormed (schema_of engine.old) }
+{
     for asked in ASKED {
-        let records = records_of(alloc, asked.lines, &mut engine)?;
+        let records = records_of(alloc, asked.lines, engine)?;
         let text = records_text(alloc, &records)?;
         check_row(rt, asked.lines, text.as_str() == asked.records);
     }
     Ok(())
 }
 
+fn expect_asked_under(rt: &impl Abort, alloc: Global, equation: &str) -> Result<(), Fail> {
+    let mut engine = started(alloc, SCHEMA.as_bytes(), equation.as_bytes())?;
+    played(alloc, SCRIPT, &mut engine)?;
+    expect_asked(rt, alloc, &mut engine)
+}
+
 #[test]
 fn records_are_those_that_are_asked_for(rt: HostRuntime) -> Result<(), Fail> {
     for equation in EQUATIONS {
-        expect_asked(&rt, rt.alloc(), equation)?;
+        expect_asked_under(&rt, rt.alloc(), equation)?;
     }
     Ok(())
 }
