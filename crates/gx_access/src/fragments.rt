@@ -1,6 +1,6 @@
 // Fragments, with the bytes of their defaults.
-ghost use Rattle.std.specs.Prelude.{◌≡◌, ◌++◌, IfOk};
-ghost use Rattle.gx_actual.specs.Bodies.{field_bytes, HasLength};
+ghost use Rattle.std.specs.Prelude.{◌≡◌, IfOk};
+ghost use Rattle.gx_actual.specs.Bodies.{HasLength};
 ghost use Rattle.gx_split.specs.Groups.{defaults_of};
 ghost use Rattle.gx_access.specs.Access.{pick, fragment_of, defaults_in, defaults_body};
 

@@ -1,5 +1,5 @@
 // What each layer does with the data of records.
-ghost use Rattle.std.specs.Prelude.{◌≡◌, ℕ, List, Bool, IfOk};
+ghost use Rattle.std.specs.Prelude.{◌≡◌, List, IfOk};
 ghost use Rattle.gx_values.specs.declared.records.Form.{Form};
 ghost use Rattle.gx_values.specs.declared.values.Value.{Value as FieldValue};
 ghost use Rattle.gx_partition.specs.declared.place.Where.{Where};

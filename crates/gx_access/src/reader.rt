@@ -1,5 +1,5 @@
 // The values at the front of a fragment's body, each at the number of its field.
-ghost use Rattle.std.specs.Prelude.{◌≡◌, ◌<◌, ◌++◌, List, ℕ, length, map, slice_set, slice_index_or, true, IfSome, IsSomeAnd};
+ghost use Rattle.std.specs.Prelude.{◌≡◌, ◌<◌, ◌++◌, List, ℕ, length, map, slice_set, slice_index_or, true, IsSomeAnd};
 ghost use Rattle.gx_values.specs.declared.values.Value.{Value as FieldValue};
 ghost use Rattle.gx_values.specs.Values.{Fits, no_field};
 ghost use Rattle.gx_values.specs.Borrowed.{value_of};

@@ -1,8 +1,8 @@
 // What the children of a layer have of a record.
-ghost use Rattle.std.specs.Prelude.{◌≡◌, ◌∷◌, [], ◌++◌, map, not, true, false, get_or, IfOk, IfSome, IfNone, if◌then◌else◌, Some, None, nat_lt};
+ghost use Rattle.std.specs.Prelude.{◌≡◌, ◌∷◌, [], ◌++◌, map, not, true, false, get_or, IfOk, if◌then◌else◌, Some, None};
 ghost use Rattle.gx_encode.specs.Forms.{changed};
 ghost use Rattle.gx_split.specs.Groups.{chosen};
-ghost use Rattle.gx_access.specs.Access.{tested, all_slots, whole_view, flat, code_slot, is_free};
+ghost use Rattle.gx_access.specs.Access.{tested, whole_view, flat, code_slot, is_free};
 ghost use Rattle.gx_access.specs.Views.{room_below, coded_view, group_views, column_view, chooser_of};
 
 use crate::access::{Chooser, Group, NestedGroups, Slot, Slots, Tested, View};
