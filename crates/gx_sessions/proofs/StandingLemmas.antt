@@ -1,0 +1,244 @@
+-- A session goes on by a command.
+use Rattle.std.proofs.Common.{◌≡◌, ℕ, ◌+◌, ◌<◌, ◌≤◌, ◌⊎◌, List, [], ◌∷◌, ◌++◌, length, get_or, set, Bool, true, false, cond, Option, Some, None, refl, sym, ap, subst, ◌∙◌, arith, inl, inr}
+use Rattle.std.proofs.lemmas.Bool.{true≢false, cases_lt}
+use Rattle.std.proofs.lemmas.List.{append-nil, get_or_append_left, get_or_push, get_or-set_other, length-append}
+use Rattle.std.proofs.lemmas.Grind.{get_or-set_at}
+use Rattle.gx_schema.specs.declared.schema.Schema.{Schema}
+use Rattle.gx_commands.specs.declared.command.Command.{Command}
+use Rattle.gx_commands.specs.declared.command.Command.TheVariants as command
+use Rattle.gx_commands.specs.Commands.{IsOfSchema, inside_after}
+use Rattle.gx_sharing.specs.Locks.{Item, free, stronger, lock_of}
+use Rattle.gx_sharing.specs.Kept.{is_kept, kept_of}
+use Rattle.gx_sharing.specs.Sharing.{Session, outside, inside, ended, holds, session_after}
+use Rattle.gx_sharing.proofs.Modes.{held_push}
+use Rattle.gx_sharing.proofs.Carried.{is_control, Kind, begins, commits, aborts, plain, kind_of, plain_session}
+use Rattle.gx_sessions.specs.declared.locks.Lock.{Lock}
+use Rattle.gx_sessions.specs.declared.session.SessionState.{SessionState}
+use Rattle.gx_sessions.specs.declared.session.Standing.{Standing}
+use Rattle.gx_sessions.specs.declared.session.Standing.TheVariants.{Outside, Inside, Ended}
+use Rattle.gx_sessions.specs.declared.locks.Lock.TheVariants.{Free}
+use Rattle.gx_sessions.specs.Places.{mode_of, item_at}
+use Rattle.gx_sessions.specs.Standings.{stands_in, bare, standing_after, lock_in, IsSession, AreKept, AreStronger, AreFree}
+
+-- ---- with nothing carried out
+
+bare_free : (schema : Schema) (standing : Standing) (x : Item) → holds schema (bare standing) x ≡ free
+bare_free schema Outside x = refl
+bare_free schema Inside x = refl
+bare_free schema Ended x = refl
+
+pub bare_session : (schema : Schema) (standing : Standing) (state : SessionState)
+    → state.standing ≡ standing → state.kept.items ≡ [] → AreFree state.locks.items
+    → IsSession schema (bare standing) state
+bare_session schema Outside state is none no_lock = record {
+  standing = is;
+  kept = none;
+  locks = λ i lt. ap mode_of (no_lock i lt);
+}
+bare_session schema Inside state is none no_lock = record {
+  standing = is;
+  kept = none;
+  locks = λ i lt. ap mode_of (no_lock i lt);
+}
+bare_session schema Ended state is none no_lock = record {
+  standing = is;
+  kept = none;
+  locks = λ i lt. ap mode_of (no_lock i lt);
+}
+
+-- ---- after a command
+
+abbrev standing_or : Standing → Option Standing → Standing
+standing_or d None = d
+standing_or d (Some s) = s
+
+plain_standing : (c : Command) → is_control c ≡ false → standing_after c ≡ None
+plain_standing command.Begin e = absurd (true≢false e)
+plain_standing command.Commit e = absurd (true≢false e)
+plain_standing command.Abort e = absurd (true≢false e)
+plain_standing (command.Insert f values) e = refl
+plain_standing (command.Get f key) e = refl
+plain_standing (command.Update f key changes) e = refl
+plain_standing (command.Delete f key) e = refl
+plain_standing (command.Connect l owner member) e = refl
+plain_standing (command.Disconnect l member) e = refl
+plain_standing (command.Members l owner order) e = refl
+plain_standing (command.Owner l member) e = refl
+plain_standing (command.Find q) e = refl
+plain_standing (command.ReorganizeFile f) e = refl
+plain_standing (command.ReorganizeLink l) e = refl
+plain_standing command.Nothing e = refl
+
+some_not_none : (s : Standing) → ◌≡◌ {A = Option Standing} None (Some s) → ⊥
+some_not_none s e = cc
+
+begun : (s : Session) → session_after s command.Begin ≡ inside []
+begun outside = refl
+begun (inside cs) = refl
+begun ended = refl
+
+committed : (s : Session) → session_after s command.Commit ≡ outside
+committed outside = refl
+committed (inside cs) = refl
+committed ended = refl
+
+aborted : (s : Session) → session_after s command.Abort ≡ outside
+aborted outside = refl
+aborted (inside cs) = refl
+aborted ended = refl
+
+-- after one that begins a transaction or ends it
+pub after_control : (s : Session) (c : Command) (standing : Standing)
+    → standing_after c ≡ Some standing → session_after s c ≡ bare standing
+after_control s c standing e = go c (kind_of c) e
+  where
+    go : (d : Command) → Kind d → standing_after d ≡ Some standing
+        → session_after s d ≡ bare standing
+    go command.Begin begins same =
+        begun s ∙ ap (λ (o : Option Standing). bare (standing_or Outside o)) same
+    go command.Commit commits same =
+        committed s ∙ ap (λ (o : Option Standing). bare (standing_or Outside o)) same
+    go command.Abort aborts same =
+        aborted s ∙ ap (λ (o : Option Standing). bare (standing_or Outside o)) same
+    go d (plain h) same = absurd (some_not_none standing (sym (plain_standing d h) ∙ same))
+
+pub control_inside : (b : Bool) (c : Command) (standing : Standing)
+    → standing_after c ≡ Some standing → stands_in standing ≡ inside_after b c
+control_inside b c standing e = go c (kind_of c) e
+  where
+    go : (d : Command) → Kind d → standing_after d ≡ Some standing
+        → stands_in standing ≡ inside_after b d
+    go command.Begin begins same =
+        ap (λ (o : Option Standing). stands_in (standing_or Outside o)) (sym same)
+    go command.Commit commits same =
+        ap (λ (o : Option Standing). stands_in (standing_or Inside o)) (sym same)
+    go command.Abort aborts same =
+        ap (λ (o : Option Standing). stands_in (standing_or Inside o)) (sym same)
+    go d (plain h) same = absurd (some_not_none standing (sym (plain_standing d h) ∙ same))
+
+pub not_control : (c : Command) → standing_after c ≡ None → is_control c ≡ false
+not_control c e = go c (kind_of c) e
+  where
+    go : (d : Command) → Kind d → standing_after d ≡ None → is_control d ≡ false
+    go command.Begin begins same = absurd (some_not_none Inside (sym same))
+    go command.Commit commits same = absurd (some_not_none Outside (sym same))
+    go command.Abort aborts same = absurd (some_not_none Outside (sym same))
+    go d (plain h) same = h
+
+pub plain_inside : (b : Bool) (c : Command) → is_control c ≡ false → inside_after b c ≡ b
+plain_inside b command.Begin e = absurd (true≢false e)
+plain_inside b command.Commit e = absurd (true≢false e)
+plain_inside b command.Abort e = absurd (true≢false e)
+plain_inside b (command.Insert f values) e = refl
+plain_inside b (command.Get f key) e = refl
+plain_inside b (command.Update f key changes) e = refl
+plain_inside b (command.Delete f key) e = refl
+plain_inside b (command.Connect l owner member) e = refl
+plain_inside b (command.Disconnect l member) e = refl
+plain_inside b (command.Members l owner order) e = refl
+plain_inside b (command.Owner l member) e = refl
+plain_inside b (command.Find q) e = refl
+plain_inside b (command.ReorganizeFile f) e = refl
+plain_inside b (command.ReorganizeLink l) e = refl
+plain_inside b command.Nothing e = refl
+
+-- where no transaction is open, a session that isn't changed by one goes on as it stands
+pub stays_so : (schema : Schema) (s : Session) (c : Command) (state : SessionState)
+    → standing_after c ≡ None → stands_in state.standing ≡ false → IsSession schema s state
+    → IsSession schema (session_after s c) state
+stays_so schema outside c state e shut is =
+    subst (λ (s : Session). IsSession schema s state) (sym (plain_session outside c (not_control c e)))
+    is
+stays_so schema ended c state e shut is =
+    subst (λ (s : Session). IsSession schema s state) (sym (plain_session ended c (not_control c e)))
+    is
+stays_so schema (inside cs) c state e shut is =
+    absurd (true≢false (sym (ap stands_in is.standing) ∙ shut))
+
+pub goes_on : (schema : Schema) (s : Session) (c : Command) (old new : SessionState)
+    → standing_after c ≡ None → old.standing ≡ Inside → IsSession schema s old
+    → ((cs : List Command) → IsSession schema (inside cs) old
+    → IsSession schema (inside (cs ++ c ∷ [])) new)
+    → IsSession schema (session_after s c) new
+goes_on schema outside c old new e open_ is went =
+    absurd (true≢false (sym (ap stands_in open_) ∙ ap stands_in is.standing))
+goes_on schema ended c old new e open_ is went =
+    absurd (true≢false (sym (ap stands_in open_) ∙ ap stands_in is.standing))
+goes_on schema (inside cs) c old new e open_ is went =
+    subst (λ (s : Session). IsSession schema s new)
+    (sym (plain_session (inside cs) c (not_control c e))) (went cs is)
+
+-- ---- what is kept
+
+pub kept_push : (cs : List Command) (c : Command)
+    → kept_of (cs ++ c ∷ []) ≡ kept_of cs ++ kept_of (c ∷ [])
+kept_push [] c = refl
+kept_push (d ∷ cs) c = go (is_kept d) (kept_push cs c)
+  where
+    go : (b : Bool) → kept_of (cs ++ c ∷ []) ≡ kept_of cs ++ kept_of (c ∷ [])
+        → cond b (d ∷ kept_of (cs ++ c ∷ [])) (kept_of (cs ++ c ∷ []))
+        ≡ cond b (d ∷ kept_of cs) (kept_of cs) ++ kept_of (c ∷ [])
+    go true e = ap (λ (es : List Command). d ∷ es) e
+    go false e = e
+
+pub kept_more : (schema : Schema) (cs : List Command) (c : Command) → AreKept schema cs
+    → IsOfSchema schema c → AreKept schema (cs ++ kept_of (c ∷ []))
+kept_more schema cs c are of_schema = go (is_kept c) refl
+  where
+    at : (b : Bool) → is_kept c ≡ b → (i : ℕ) → i < length (cs ++ c ∷ [])
+        → (i < length cs) ⊎ (length cs ≤ i) → is_kept c ≡ true
+        → IsOfSchema schema (get_or (cs ++ c ∷ []) i command.Nothing)
+        × (is_kept (get_or (cs ++ c ∷ []) i command.Nothing) ≡ true)
+    at b e i lt (inl front) keeps =
+        subst (λ (d : Command). IsOfSchema schema d × (is_kept d ≡ true))
+        (sym (get_or_append_left cs (c ∷ []) command.Nothing i front)) (are i front)
+    at b e i lt (inr last) keeps =
+        let long : length (cs ++ c ∷ []) ≡ length cs + 1 = length-append cs (c ∷ []) in
+        subst (λ (d : Command). IsOfSchema schema d × (is_kept d ≡ true))
+        (sym (get_or_push cs c command.Nothing i (omega (arith, lt, last, long)))) (of_schema, keeps)
+
+    go : (b : Bool) → is_kept c ≡ b → AreKept schema (cs ++ cond b (c ∷ []) [])
+    go true e = λ i lt. at true e i lt (cases_lt i (length cs)) e
+    go false e = subst (AreKept schema) (sym (append-nil cs)) are
+
+-- a transaction goes on by a command
+pub went_on : (schema : Schema) (cs : List Command) (c : Command) (old new : SessionState)
+    → IsSession schema (inside cs) old → new.standing ≡ old.standing
+    → new.kept.items ≡ old.kept.items ++ kept_of (c ∷ [])
+    → AreStronger schema c old.locks.items new.locks.items
+    → IsSession schema (inside (cs ++ c ∷ [])) new
+went_on schema cs c old new is standing kept locks = record {
+  standing = standing ∙ is.standing;
+  kept = kept ∙ ap (λ (es : List Command). es ++ kept_of (c ∷ [])) is.kept ∙ sym (kept_push cs c);
+  locks = λ i lt.
+      locks.each i (omega (arith, lt, locks.many))
+      ∙ ap (λ m. stronger m (lock_of schema c (item_at schema i)))
+      (is.locks i (omega (arith, lt, locks.many)))
+      ∙ sym (held_push schema cs c (item_at schema i));
+}
+
+-- ---- locks, one after the other
+
+module _ (schema : Schema) (c : Command) (old locks : List Lock) (place : ℕ) (x : Lock)
+    (many : length locks ≡ length old) (lt : place < length old) where
+  pub stronger_behind : ((i : ℕ) → i < place → mode_of (lock_in locks i)
+      ≡ stronger (mode_of (lock_in old i)) (lock_of schema c (item_at schema i)))
+      → ((i : ℕ) → place ≤ i → lock_in locks i ≡ lock_in old i)
+      → mode_of x ≡ stronger (mode_of (lock_in locks place)) (lock_of schema c (item_at schema place))
+      → (i : ℕ) → i < place + 1 → mode_of (lock_in (set locks place x) i)
+      ≡ stronger (mode_of (lock_in old i)) (lock_of schema c (item_at schema i))
+  stronger_behind behind ahead is i within = elim (cases_lt i place) [
+    | inl before ↦ ap mode_of (get_or-set_other locks place i x Free (omega (arith, before)))
+        ∙ behind i before
+    | inr after ↦
+        let e : i ≡ place = omega (arith, within, after) in
+        ap mode_of (get_or-set_at locks place i x Free e (omega (arith, lt, many)))
+        ∙ is ∙ ap (λ l. stronger (mode_of l) (lock_of schema c (item_at schema place)))
+        (ahead place (omega arith))
+        ∙ ap (λ k. stronger (mode_of (lock_in old k)) (lock_of schema c (item_at schema k))) (sym e)
+  ]
+
+  pub stronger_ahead : ((i : ℕ) → place ≤ i → lock_in locks i ≡ lock_in old i)
+      → (i : ℕ) → place + 1 ≤ i → lock_in (set locks place x) i ≡ lock_in old i
+  stronger_ahead ahead i past =
+      get_or-set_other locks place i x Free (omega (arith, past)) ∙ ahead i (omega (arith, past))
