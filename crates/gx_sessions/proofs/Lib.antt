@@ -1,2 +1,6 @@
 pub mod HolderLemmas
 pub mod StandingLemmas
+pub mod SharedLemmas
+pub mod AgainLemmas
+pub mod CarryLemmas
+pub mod BringLemmas

@@ -4,3 +4,5 @@
 mod holder;
 mod locks;
 mod session;
+mod shared;
+mod step;
