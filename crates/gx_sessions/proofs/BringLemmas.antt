@@ -36,7 +36,8 @@ module _ {S : Type 0} (g : Ghosts S) where
       → place_reason (stands_in state.standing) c ≡ None
       → IsAt g (play_of schema p n) e → IsShortFor g e (play_of schema p n) c
       → IsShortAmong schema built limit p (commands_of (p.session n) ++ c ∷ [])
-  short_last p n c schema built limit state e same_schema same_built same_limit is allowed at short =
+  short_last p n c schema built limit state e same_schema same_built same_limit is allowed at
+      short =
       go (p.session n) is at short
     where
       go : (s : Session) → IsSession schema s state

@@ -150,7 +150,8 @@ module _ {S : Type 0} (g : Ghosts S)
   }
     where
       one : (image : Image)
-          → IsOldOrNew (HoldsFor g mid q.kept) (HoldsFor g mid (after_command (schema_of mid) q c).kept)
+          → IsOldOrNew (HoldsFor g mid q.kept) (HoldsFor g mid (after_command (schema_of mid) q
+          c).kept)
           (g.content (leaves_of mid)).now image
           → IsOldOrNew (HoldsFor g old p.kept) (HoldsFor g old next.kept)
           (g.content (leaves_of old)).now image

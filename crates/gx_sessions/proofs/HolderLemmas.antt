@@ -44,7 +44,11 @@ found_none test first (suc many) none =
 before_it : (test : ℕ → Bool) (k n : ℕ) → ((j : ℕ) → j < k → test (j + 1) ≡ false) → 1 ≤ n
     → n < 1 + k → test n ≡ false
 before_it test k n none a b =
-    let e : (n - 1) + 1 ≡ n = omega (arith, a) in ap test (sym e) ∙ none (n - 1) (omega (arith, a, b))
+    let e : (n - 1) + 1 ≡ n = omega (arith, a) in ap test (sym e) ∙ none (n - 1) (omega (
+      arith,
+      a,
+      b,
+    ))
 
 -- of the eight sessions
 pub first_session : (test : ℕ → Bool) (k : ℕ) → k < 8
@@ -182,20 +186,26 @@ module _ (schema : Schema) (p : Sharing) (n : ℕ) (c : Command) where
           file_there place lt ∙ ap file (sym e) in
           ap barring here
           ∙ sym (among_at file 0 (length schema.files) place links_of lt
-          (λ j a b. ap barring (sym (file_there j (omega (arith, b, lt)))) ∙ none j (omega (arith, b)))
+          (λ j a b. ap barring (sym (file_there j (omega (arith, b, lt)))) ∙ none j (omega
+          (arith, b)))
           (ap (λ (x : Item). is_some (barring x)) (sym here) ∙ is))
 
       at_link : length schema.files ≤ place
           → barring (item_at schema place) ≡ holder_among schema p n c (items_of schema)
       at_link le =
           let k : ℕ = place - length schema.files in
-          let e : length schema.files + (0 + (place - length schema.files)) ≡ place = omega (arith, le) in
+          let e : length schema.files + (0 + (place - length schema.files)) ≡ place = omega
+          (arith, le) in
           let here : item_at schema place ≡ link (0 + (place - length schema.files)) =
           ap (item_at schema) (sym e) ∙ link_there (0 + (place - length schema.files)) in
           ap barring here
           ∙ sym (files_free (λ i lt. none i (omega (arith, lt, le)))
           ∙ ap (holder_among schema p n c) (sym (append-nil links_of))
-          ∙ among_at link 0 (length schema.links) (place - length schema.files) [] (omega (arith, within, le))
+          ∙ among_at link 0 (length schema.links) (place - length schema.files) [] (omega (
+            arith,
+            within,
+            le,
+          ))
           (λ j a b. ap barring (sym (link_there j))
           ∙ none (length schema.files + j) (omega (arith, b, le)))
           (ap (λ (x : Item). is_some (barring x)) (sym here) ∙ is))

@@ -193,7 +193,8 @@ module _ {S : Type 0} (g : Ghosts S) where
       → IsAt g (seeing p (Some (played schema p.kept before))) e
       → IsShortFor g e (seeing p (Some (played schema p.kept before))) c
       → IsShortAmong schema built limit p cs
-  short_at p cs before c later schema built limit e same_schema same_built same_limit parts at short =
+  short_at p cs before c later schema built limit e same_schema same_built same_limit parts at
+      short =
       let w = played schema p.kept before in
       let q = seeing p (Some w) in
       let next : seen_state (after_command (schema_of e) q c) ≡ next_state schema w c =

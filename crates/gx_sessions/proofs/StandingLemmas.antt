@@ -7,9 +7,9 @@ use Rattle.gx_schema.specs.declared.schema.Schema.{Schema}
 use Rattle.gx_commands.specs.declared.command.Command.{Command}
 use Rattle.gx_commands.specs.declared.command.Command.TheVariants as command
 use Rattle.gx_commands.specs.Commands.{IsOfSchema, inside_after}
-use Rattle.gx_sharing.specs.Locks.{Item, free, stronger, lock_of}
+use Rattle.gx_sharing.specs.Locks.{stronger, lock_of}
 use Rattle.gx_sharing.specs.Kept.{is_kept, kept_of}
-use Rattle.gx_sharing.specs.Sharing.{Session, outside, inside, ended, holds, session_after}
+use Rattle.gx_sharing.specs.Sharing.{Session, outside, inside, ended, session_after}
 use Rattle.gx_sharing.proofs.Modes.{held_push}
 use Rattle.gx_sharing.proofs.Carried.{is_control, Kind, begins, commits, aborts, plain, kind_of, plain_session}
 use Rattle.gx_sessions.specs.declared.locks.Lock.{Lock}
@@ -21,11 +21,6 @@ use Rattle.gx_sessions.specs.Places.{mode_of, item_at}
 use Rattle.gx_sessions.specs.Standings.{stands_in, bare, standing_after, lock_in, IsSession, AreKept, AreStronger, AreFree}
 
 -- ---- with nothing carried out
-
-bare_free : (schema : Schema) (standing : Standing) (x : Item) → holds schema (bare standing) x ≡ free
-bare_free schema Outside x = refl
-bare_free schema Inside x = refl
-bare_free schema Ended x = refl
 
 pub bare_session : (schema : Schema) (standing : Standing) (state : SessionState)
     → state.standing ≡ standing → state.kept.items ≡ [] → AreFree state.locks.items
@@ -147,10 +142,12 @@ pub stays_so : (schema : Schema) (s : Session) (c : Command) (state : SessionSta
     → standing_after c ≡ None → stands_in state.standing ≡ false → IsSession schema s state
     → IsSession schema (session_after s c) state
 stays_so schema outside c state e shut is =
-    subst (λ (s : Session). IsSession schema s state) (sym (plain_session outside c (not_control c e)))
+    subst (λ (s : Session). IsSession schema s state) (sym (plain_session outside c (not_control
+    c e)))
     is
 stays_so schema ended c state e shut is =
-    subst (λ (s : Session). IsSession schema s state) (sym (plain_session ended c (not_control c e)))
+    subst (λ (s : Session). IsSession schema s state) (sym (plain_session ended c (not_control c
+    e)))
     is
 stays_so schema (inside cs) c state e shut is =
     absurd (true≢false (sym (ap stands_in is.standing) ∙ shut))
@@ -195,7 +192,10 @@ kept_more schema cs c are of_schema = go (is_kept c) refl
     at b e i lt (inr last) keeps =
         let long : length (cs ++ c ∷ []) ≡ length cs + 1 = length-append cs (c ∷ []) in
         subst (λ (d : Command). IsOfSchema schema d × (is_kept d ≡ true))
-        (sym (get_or_push cs c command.Nothing i (omega (arith, lt, last, long)))) (of_schema, keeps)
+        (sym (get_or_push cs c command.Nothing i (omega (arith, lt, last, long)))) (
+          of_schema,
+          keeps,
+        )
 
     go : (b : Bool) → is_kept c ≡ b → AreKept schema (cs ++ cond b (c ∷ []) [])
     go true e = λ i lt. at true e i lt (cases_lt i (length cs)) e
@@ -224,7 +224,8 @@ module _ (schema : Schema) (c : Command) (old locks : List Lock) (place : ℕ) (
   pub stronger_behind : ((i : ℕ) → i < place → mode_of (lock_in locks i)
       ≡ stronger (mode_of (lock_in old i)) (lock_of schema c (item_at schema i)))
       → ((i : ℕ) → place ≤ i → lock_in locks i ≡ lock_in old i)
-      → mode_of x ≡ stronger (mode_of (lock_in locks place)) (lock_of schema c (item_at schema place))
+      → mode_of x ≡ stronger (mode_of (lock_in locks place)) (lock_of schema c (item_at schema
+      place))
       → (i : ℕ) → i < place + 1 → mode_of (lock_in (set locks place x) i)
       ≡ stronger (mode_of (lock_in old i)) (lock_of schema c (item_at schema i))
   stronger_behind behind ahead is i within = elim (cases_lt i place) [

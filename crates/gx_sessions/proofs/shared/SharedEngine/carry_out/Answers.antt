@@ -90,7 +90,8 @@ returns-in_err-step-clause-ends g c =
     (sym (err_is c.from_residual-in_err-step.result c.in_err-step.field-0.0
     c.from_residual-in_err-step.ensures.1))
     (ends_by g.B.View c.args.command c.args.self.now.engine c.bring.new.self.engine
-    c.step.new.engine c.args.out.now c.step.new.out (Err c.in_err-step.field-0.0) c.in_ok-bring.ensures.carries c.in_err-step.ensures.rest
+    c.step.new.engine c.args.out.now c.step.new.out (Err c.in_err-step.field-0.0)
+    c.in_ok-bring.ensures.carries c.in_err-step.ensures.rest
     c.in_err-step.ensures.kept c.in_err-step.ensures.unsaid c.in_err-step.ensures.cause.0
     c.in_err-step.ensures.cause.1 c.in_err-step.ensures.goes_on.0 c.in_err-step.ensures.goes_on.1)
 
