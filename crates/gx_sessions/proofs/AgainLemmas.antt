@@ -11,20 +11,6 @@ use Rattle.gx_sharing.specs.Kept.{is_kept}
 use Rattle.gx_sharing.proofs.Carried.{is_control, Kind, begins, commits, aborts, plain, kind_of}
 use Rattle.gx_sessions.proofs.StandingLemmas.{plain_inside}
 
-pub due_begin : {S : Type 0} (e : Engine S) → is_open e ≡ false → IsDue e command.Begin
-due_begin e shut = record {
-  of_schema = tt;
-  few = omega arith;
-  allowed = ap (λ b. place_reason b command.Begin) shut;
-}
-
-pub due_abort : {S : Type 0} (e : Engine S) → is_open e ≡ true → IsDue e command.Abort
-due_abort e open_ = record {
-  of_schema = tt;
-  few = omega arith;
-  allowed = ap (λ b. place_reason b command.Abort) open_;
-}
-
 -- what is said of a kept command
 record IsQuietChange (c : Command) : Type 0 where
   few : length (conds_of c) < 2 ^ 16

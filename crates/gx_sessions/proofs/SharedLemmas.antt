@@ -1,5 +1,5 @@
 -- What an engine stands for while the commands of sessions are carried out.
-use Rattle.std.proofs.Common.{◌≡◌, ℕ, suc, ◌+◌, ◌<◌, ◌≤◌, List, [], ◌∷◌, ◌++◌, length, get_or, take, drop, Bool, true, false, cond, Option, Some, None, is_some, unwrap_or, Result, Ok, Err, OnOk, refl, sym, ap, subst, ◌∙◌, arith, eq-eqb, append_assoc, take-append-drop, drop-cons}
+use Rattle.std.proofs.Common.{◌≡◌, ℕ, suc, ◌+◌, ◌<◌, ◌≤◌, List, [], ◌∷◌, ◌++◌, length, get_or, take, drop, Bool, true, false, cond, Option, Some, None, unwrap_or, Result, Ok, Err, OnOk, refl, sym, ap, subst, ◌∙◌, arith, eq-eqb, append_assoc, take-append-drop, drop-cons}
 use Rattle.std.specs.Prelude.{IsErrAnd}
 use Rattle.std.proofs.lemmas.Bool.{true≢false}
 use Rattle.std.proofs.lemmas.List.{take_more}
@@ -79,10 +79,6 @@ outside_wants_none (command.ReorganizeFile f) e want = some_reason _ e
 outside_wants_none (command.ReorganizeLink l) e want = some_reason _ e
 
 -- ---- views
-
-shut_none : (w : Option State) → is_some w ≡ false → w ≡ None
-shut_none None e = refl
-shut_none (Some s) e = absurd (true≢false e)
 
 -- what a session sees after a command that was carried out on its view
 view_after : (schema : Schema) (p : Sharing) (n : ℕ) (c : Command)
@@ -436,20 +432,6 @@ module _ {S : Type 0} (g : Ghosts S) where
       subst (λ (t : State). IsAt g (seeing p (Some t)) e)
       (ap (λ (x : Schema). played x p.kept kept) same ∙ ap (played schema p.kept) (all ∙ is.kept)
       ∙ kept_played schema p.kept cs) at
-
-  pub opened_outside : (schema : Schema) (p : Sharing) (s : Session) (state : SessionState)
-      (e : Engine S) → stands_in state.standing ≡ false → IsSession schema s state
-      → IsAt g (seeing p None) e → IsAt g (seeing p (view_in schema p.kept s)) e
-  opened_outside schema p outside state e shut is at = at
-  opened_outside schema p ended state e shut is at = at
-  opened_outside schema p (inside cs) state e shut is at =
-      absurd (true≢false (sym (ap stands_in is.standing) ∙ shut))
-
-  pub shut_at : (p : Sharing) (w : Option State) (e : Engine S) → is_open e ≡ false
-      → IsAt g (seeing p w) e → IsAt g (seeing p None) e
-  shut_at p w e shut at =
-      subst (λ (x : Option State). IsAt g (seeing p x) e)
-      (shut_none w (sym at.stands.inside_same ∙ shut)) at
 
   -- ---- after a command
 

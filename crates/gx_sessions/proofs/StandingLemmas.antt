@@ -11,35 +11,14 @@ use Rattle.gx_sharing.specs.Locks.{stronger, lock_of}
 use Rattle.gx_sharing.specs.Kept.{is_kept, kept_of}
 use Rattle.gx_sharing.specs.Sharing.{Session, outside, inside, ended, session_after}
 use Rattle.gx_sharing.proofs.Modes.{held_push}
-use Rattle.gx_sharing.proofs.Carried.{is_control, Kind, begins, commits, aborts, plain, kind_of, plain_session}
+use Rattle.gx_sharing.proofs.Carried.{is_control, Kind, begins, commits, aborts, plain, kind_of}
 use Rattle.gx_sessions.specs.declared.locks.Lock.{Lock}
 use Rattle.gx_sessions.specs.declared.session.SessionState.{SessionState}
 use Rattle.gx_sessions.specs.declared.session.Standing.{Standing}
-use Rattle.gx_sessions.specs.declared.session.Standing.TheVariants.{Outside, Inside, Ended}
+use Rattle.gx_sessions.specs.declared.session.Standing.TheVariants.{Outside}
 use Rattle.gx_sessions.specs.declared.locks.Lock.TheVariants.{Free}
 use Rattle.gx_sessions.specs.Places.{mode_of, item_at}
-use Rattle.gx_sessions.specs.Standings.{stands_in, bare, standing_after, lock_in, IsSession, AreKept, AreStronger, AreFree}
-
--- ---- with nothing carried out
-
-pub bare_session : (schema : Schema) (standing : Standing) (state : SessionState)
-    → state.standing ≡ standing → state.kept.items ≡ [] → AreFree state.locks.items
-    → IsSession schema (bare standing) state
-bare_session schema Outside state is none no_lock = record {
-  standing = is;
-  kept = none;
-  locks = λ i lt. ap mode_of (no_lock i lt);
-}
-bare_session schema Inside state is none no_lock = record {
-  standing = is;
-  kept = none;
-  locks = λ i lt. ap mode_of (no_lock i lt);
-}
-bare_session schema Ended state is none no_lock = record {
-  standing = is;
-  kept = none;
-  locks = λ i lt. ap mode_of (no_lock i lt);
-}
+use Rattle.gx_sessions.specs.Standings.{bare, standing_after, lock_in, IsSession, AreKept, AreStronger}
 
 -- ---- after a command
 
@@ -97,29 +76,6 @@ after_control s c standing e = go c (kind_of c) e
         aborted s ∙ ap (λ (o : Option Standing). bare (standing_or Outside o)) same
     go d (plain h) same = absurd (some_not_none standing (sym (plain_standing d h) ∙ same))
 
-pub control_inside : (b : Bool) (c : Command) (standing : Standing)
-    → standing_after c ≡ Some standing → stands_in standing ≡ inside_after b c
-control_inside b c standing e = go c (kind_of c) e
-  where
-    go : (d : Command) → Kind d → standing_after d ≡ Some standing
-        → stands_in standing ≡ inside_after b d
-    go command.Begin begins same =
-        ap (λ (o : Option Standing). stands_in (standing_or Outside o)) (sym same)
-    go command.Commit commits same =
-        ap (λ (o : Option Standing). stands_in (standing_or Inside o)) (sym same)
-    go command.Abort aborts same =
-        ap (λ (o : Option Standing). stands_in (standing_or Inside o)) (sym same)
-    go d (plain h) same = absurd (some_not_none standing (sym (plain_standing d h) ∙ same))
-
-pub not_control : (c : Command) → standing_after c ≡ None → is_control c ≡ false
-not_control c e = go c (kind_of c) e
-  where
-    go : (d : Command) → Kind d → standing_after d ≡ None → is_control d ≡ false
-    go command.Begin begins same = absurd (some_not_none Inside (sym same))
-    go command.Commit commits same = absurd (some_not_none Outside (sym same))
-    go command.Abort aborts same = absurd (some_not_none Outside (sym same))
-    go d (plain h) same = h
-
 pub plain_inside : (b : Bool) (c : Command) → is_control c ≡ false → inside_after b c ≡ b
 plain_inside b command.Begin e = absurd (true≢false e)
 plain_inside b command.Commit e = absurd (true≢false e)
@@ -136,34 +92,6 @@ plain_inside b (command.Find q) e = refl
 plain_inside b (command.ReorganizeFile f) e = refl
 plain_inside b (command.ReorganizeLink l) e = refl
 plain_inside b command.Nothing e = refl
-
--- where no transaction is open, a session that isn't changed by one goes on as it stands
-pub stays_so : (schema : Schema) (s : Session) (c : Command) (state : SessionState)
-    → standing_after c ≡ None → stands_in state.standing ≡ false → IsSession schema s state
-    → IsSession schema (session_after s c) state
-stays_so schema outside c state e shut is =
-    subst (λ (s : Session). IsSession schema s state) (sym (plain_session outside c (not_control
-    c e)))
-    is
-stays_so schema ended c state e shut is =
-    subst (λ (s : Session). IsSession schema s state) (sym (plain_session ended c (not_control c
-    e)))
-    is
-stays_so schema (inside cs) c state e shut is =
-    absurd (true≢false (sym (ap stands_in is.standing) ∙ shut))
-
-pub goes_on : (schema : Schema) (s : Session) (c : Command) (old new : SessionState)
-    → standing_after c ≡ None → old.standing ≡ Inside → IsSession schema s old
-    → ((cs : List Command) → IsSession schema (inside cs) old
-    → IsSession schema (inside (cs ++ c ∷ [])) new)
-    → IsSession schema (session_after s c) new
-goes_on schema outside c old new e open_ is went =
-    absurd (true≢false (sym (ap stands_in open_) ∙ ap stands_in is.standing))
-goes_on schema ended c old new e open_ is went =
-    absurd (true≢false (sym (ap stands_in open_) ∙ ap stands_in is.standing))
-goes_on schema (inside cs) c old new e open_ is went =
-    subst (λ (s : Session). IsSession schema s new)
-    (sym (plain_session (inside cs) c (not_control c e))) (went cs is)
 
 -- ---- what is kept
 
