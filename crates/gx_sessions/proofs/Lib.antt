@@ -4,3 +4,5 @@ pub mod SharedLemmas
 pub mod AgainLemmas
 pub mod CarryLemmas
 pub mod BringLemmas
+pub mod SessionsLemmas
+pub mod TurnLemmas

@@ -290,6 +290,17 @@ module _ {S : Type 0} (g : Ghosts S) where
     sound = sound_by c old new r passed;
   }
 
+  pub keeps_still : (l : S) → Keeps g l l
+  keeps_still l = record {
+    leaves = refl;
+    kept = refl;
+    kept_whole = (λ h. h, λ h. h);
+    limit = refl;
+    head = refl;
+    calm = λ s h. h;
+    silent = record { said = refl; shelf = refl; script = refl; aside = refl };
+  }
+
   pub carries_still : (e : Engine S) → IsReady g e → stop_of e ≡ None → Carries g e e (Ok tt)
   carries_still e ready going = record {
     schema = refl;
@@ -307,17 +318,6 @@ module _ {S : Type 0} (g : Ghosts S) where
     going = going;
     sound = λ s. s;
   }
-    where
-      keeps_still : (l : S) → Keeps g l l
-      keeps_still l = record {
-        leaves = refl;
-        kept = refl;
-        kept_whole = (λ h. h, λ h. h);
-        limit = refl;
-        head = refl;
-        calm = λ s h. h;
-        silent = record { said = refl; shelf = refl; script = refl; aside = refl };
-      }
 
   pub keeps_then : (a b c : S) → Keeps g a b → Keeps g b c → Keeps g a c
   keeps_then a b c x y = record {

@@ -1,3 +1,4 @@
 pub mod Places
 pub mod Standings
 pub mod Shared
+pub mod Turns

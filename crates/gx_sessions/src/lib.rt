@@ -4,5 +4,8 @@
 mod holder;
 mod locks;
 mod session;
+mod sessions;
 mod shared;
 mod step;
+
+pub use sessions::{Sessions, Turn};

@@ -106,8 +106,8 @@ impl SessionState {
     }
 }
 
-// Where a session stands after a command that begins a transaction or ends it.
-fn after_control(command: &Command) -> Option<Standing>
+/// Where a session stands after a command that begins a transaction or ends it.
+pub(crate) fn after_control(command: &Command) -> Option<Standing>
     ensures { result ≡ standing_after command.now }
 {
     match command {

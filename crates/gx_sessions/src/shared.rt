@@ -1,5 +1,5 @@
 // The engine that sessions share.
-ghost use Rattle.std.specs.Prelude.{◌≡◌, ◌++◌, ◌∷◌, [], Option, Some, None, Err, true, false, OnOk};
+ghost use Rattle.std.specs.Prelude.{◌≡◌, ℕ, ◌++◌, ◌∷◌, [], Option, Some, None, Err, true, false, OnOk};
 ghost use Rattle.gx_device.specs.Content.{Content};
 ghost use Rattle.gx_commands.specs.Commands.{inside_after};
 ghost use Rattle.gx_ports.specs.Stops.{is_fault};
@@ -34,6 +34,25 @@ impl<B: Leaves + Drop> SharedEngine<B> {
         SharedEngine {
             engine,
             carried: None,
+        }
+    }
+
+    /// The engine as it stands.
+    pub(crate) fn into_engine(self) -> Engine<B>
+        ensures { result ≡ self.engine }
+    {
+        let SharedEngine { engine, carried: _ } = self;
+        engine
+    }
+
+    /// It doesn't stand for this session any more.
+    pub(crate) fn forget(&mut self, session: u8)
+        ensures engine { self.new.engine ≡ self.old.engine }
+        ensures forgot { self.new.carried ≡ Some session → ⊥ }
+        ensures others { (n : ℕ) → self.new.carried ≡ Some n → self.old.carried ≡ Some n }
+    {
+        if self.stands_for(session) {
+            self.carried = None;
         }
     }
 
