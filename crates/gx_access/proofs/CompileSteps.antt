@@ -1,10 +1,10 @@
 -- The access of a node, step by step.
 use Rattle.std.proofs.lemmas.List.{map-append}
-use Rattle.std.proofs.Common.{◌≡◌, ℕ, suc, ◌-◌, take, drop, ◌<◌, ◌≤◌, List, [], ◌∷◌, ◌++◌, length, map, get_or, refl, sym, ap, subst, ◌∙◌, arith, append_assoc, Some, None, Option, Bool, true, false, if◌then◌else◌}
+use Rattle.std.proofs.Common.{◌≡◌, ℕ, suc, ◌-◌, take, take_all, drop, ◌<◌, ◌≤◌, List, [], ◌∷◌, ◌++◌, length, map, get_or, refl, sym, ap, subst, ◌∙◌, arith, append_assoc, Some, None, Option, Bool, true, false, if◌then◌else◌}
 use Rattle.std.specs.Bool.{then_some}
 use Rattle.std.specs.Prelude.{Result, Ok, Err, IfOk, IfSome}
 use Rattle.std.specs.List.{flat_map}
-use Rattle.std.specs.Option.{option_map}
+use Rattle.std.specs.Option.{option_map, option_and_then}
 use Rattle.gx_values.specs.declared.values.Value.{Value}
 use Rattle.gx_values.specs.declared.records.Field.{Field}
 use Rattle.gx_mapping.specs.Rule.{Rule}
@@ -17,7 +17,7 @@ use Rattle.gx_stack.specs.Seen.{tree_of, kids_from}
 use Rattle.gx_stack.proofs.Seen.{seen_layer, seen_leaf}
 use Rattle.gx_access.specs.declared.arrangement.Arrangement.{Arrangement}
 use Rattle.gx_access.specs.declared.arrangement.Arrangement.TheVariants.{Groups}
-use Rattle.gx_access.specs.declared.access.Slot.{Slot}
+use Rattle.gx_codec.specs.declared.slots.Slot.{Slot}
 use Rattle.gx_access.specs.declared.access.Tested.{Tested}
 use Rattle.gx_access.specs.declared.access.View.{View}
 use Rattle.gx_access.specs.declared.access.Fragment.{Fragment}
@@ -29,7 +29,7 @@ use Rattle.gx_access.specs.declared.access.Access.TheFolds.{fold-roll-Access}
 use Rattle.gx_access.specs.Access.{Choice, Choices, Only, By, no_choices, choice, flat, fragment_of}
 use Rattle.gx_access.specs.Seen.{choice_step, choice_of, choices_from}
 use Rattle.gx_access.specs.Views.{if_flat, group_views}
-use Rattle.gx_access.specs.Whole.{Below, only_fragments, both, joined, followed, first_leaf, column_fragments, kid_choices, access_row, access_below, kids_below}
+use Rattle.gx_access.specs.Whole.{Below, only_fragments, both, joined, first_leaf, column_fragments, kid_choices, access_row, access_below, kids_below}
 
 -- ---- accesses as alternatives
 
@@ -78,17 +78,13 @@ pub layer_high : {M : Type 0} (n : Node M) (l : LayerNode M) → n ≡ nodes.Lay
     → height (tree_of n) ≡ suc (kids_height (kids_from (map tree_of l.kids.items)))
 layer_high n l is = ap height (seen_layer n l is)
 
-take_all : {A : Type 0} (xs : List A) → take (length xs) xs ≡ xs
-take_all [] = refl
-take_all (x ∷ xs) = ap (λ ys. x ∷ ys) (take_all xs)
-
 -- the first of some, and those behind it
 pub split_first : {A : Type 0} (xs : List A) (x : A) → 1 ≤ length xs → x ≡ get_or xs 0 x
     → xs ≡ x ∷ take (length xs - 1) (drop 1 xs)
 split_first [] x some at = absurd (omega arith)
 split_first (y ∷ xs) x some at =
     let short : length (y ∷ xs) - 1 ≡ length xs = omega arith in
-    ap (λ z. z ∷ xs) (sym at) ∙ ap (λ ys. x ∷ ys) (sym (take_all xs))
+    ap (λ z. z ∷ xs) (sym at) ∙ ap (λ ys. x ∷ ys) (sym (take_all (length xs) xs (omega arith)))
     ∙ ap (λ n. x ∷ take n xs) (sym short)
 
 -- ---- columns
@@ -299,16 +295,16 @@ module _ {M : Type 0} (rule : M → Rule) (arranged : M → Arrangement) (fields
   -- two children and more
   pub groups_row : (ns : List (Node M)) (n m : Node M) (mask : List Bool) (own : List Field)
       (x : View) → 2 ≤ length ns → n ≡ get_or ns 0 n → m ≡ get_or ns 1 m
-      → followed (group_views mask own x) (λ (p : View × View).
+      → option_and_then (λ (p : View × View).
       joined ((access_below rule arranged fields (tree_of n)).of p.0)
-      ((access_below rule arranged fields (tree_of m)).of p.1))
+      ((access_below rule arranged fields (tree_of m)).of p.1)) (group_views mask own x)
       ≡ access_row fields (Groups mask) own (of_nodes ns) x
   groups_row [] n m mask own x some first second = absurd (omega arith)
   groups_row (a ∷ []) n m mask own x some first second = absurd (omega arith)
   groups_row (a ∷ b ∷ ns) n m mask own x some first second =
-      λ j. followed (group_views mask own x) (λ (p : View × View).
+      λ j. option_and_then (λ (p : View × View).
       joined ((access_below rule arranged fields (tree_of (first j))).of p.0)
-      ((access_below rule arranged fields (tree_of (second j))).of p.1))
+      ((access_below rule arranged fields (tree_of (second j))).of p.1)) (group_views mask own x)
 
   -- what both groups have
   pub groups_found : (ns : List (Node M)) (n m : Node M) (mask : List Bool) (own : List Field)
@@ -319,7 +315,7 @@ module _ {M : Type 0} (rule : M → Rule) (arranged : M → Arrangement) (fields
       → joined o p ≡ access_row fields (Groups mask) own (of_nodes ns) x
   groups_found ns n m mask own x one other o p some first second views o_is p_is =
       (λ j. joined (o_is j) (p_is j))
-      ∙ ap (λ (q : Option (View × View)). followed q (λ (p : View × View).
+      ∙ ap (option_and_then (λ (p : View × View).
       joined ((access_below rule arranged fields (tree_of n)).of p.0)
       ((access_below rule arranged fields (tree_of m)).of p.1))) (sym views)
       ∙ groups_row ns n m mask own x some first second

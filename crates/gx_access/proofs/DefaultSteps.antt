@@ -13,9 +13,10 @@ use Rattle.gx_values.specs.Values.{default_in, default_of, no_value}
 use Rattle.gx_actual.specs.Bodies.{field_bytes, body_of, HasLength}
 use Rattle.gx_encode.specs.Rules.{coded}
 use Rattle.gx_split.specs.Groups.{defaults_of}
-use Rattle.gx_access.specs.declared.access.Slot.{Slot}
-use Rattle.gx_access.specs.Codec.{stored_value}
-use Rattle.gx_access.specs.Access.{pick, picked}
+use Rattle.gx_codec.specs.declared.slots.Slot.{Slot}
+use Rattle.gx_codec.specs.Stored.{stored_value}
+use Rattle.gx_codec.specs.Slots.{pick}
+use Rattle.gx_access.specs.Access.{picked}
 
 body_suc : (vs : List Value) (slots : List Slot) (i : ℕ) (d : Slot) → i < length slots
     → body_of (picked vs (take (suc i) slots))

@@ -1,7 +1,7 @@
 -- The access of a tree, by the rows of its layers.
 use Rattle.std.proofs.Common.{◌≡◌, ℕ, zero, suc, List, [], ◌∷◌, ◌++◌, refl, sym, ap, ◌∙◌, subst, Bool, true, false, not, if◌then◌else◌, map, length, get_or, ◌<◌, Option, Some, None}
 use Rattle.std.specs.List.{flat_map}
-use Rattle.std.specs.Option.{option_map}
+use Rattle.std.specs.Option.{option_map, option_and_then}
 use Rattle.std.specs.Prelude.{nat_lt, slice_index_or}
 use Rattle.std.proofs.lemmas.Option.{same_Some}
 use Rattle.std.proofs.lemmas.Bool.{ltb-true}
@@ -20,15 +20,16 @@ use Rattle.gx_stack.specs.Tree.{Tree, Kids, leaf, layer, no_kids, kid, tree_form
 use Rattle.gx_access.specs.declared.arrangement.Arrangement.{Arrangement}
 use Rattle.gx_access.specs.declared.arrangement.Arrangement.TheVariants.{Same, ByValue, Body, Coded, Groups, Columns, Cut, Other}
 use Rattle.gx_access.specs.Arrangements.{IsArranged}
-use Rattle.gx_access.specs.declared.access.Slot.{Slot}
+use Rattle.gx_codec.specs.declared.slots.Slot.{Slot}
 use Rattle.gx_access.specs.declared.access.Tested.{Tested}
 use Rattle.gx_access.specs.declared.access.View.{View}
 use Rattle.gx_access.specs.declared.access.Fragment.{Fragment}
 use Rattle.gx_access.specs.declared.access.Chooser.{Chooser}
 use Rattle.gx_access.specs.declared.access.Chooser.TheVariants.{OfData}
-use Rattle.gx_access.specs.Access.{Choice, Choices, Only, By, choice, picked, all_slots, whole_view, fragment_of, fragments_of, fragments_entries, data_of, AreStored, flat, below_actual, code_slot, is_free, others_group, ColumnsStored, ChoicesStored, IsChooser}
+use Rattle.gx_access.specs.Access.{Choice, Choices, Only, By, choice, picked, all_slots, whole_view, fragment_of, fragments_of, fragments_entries, data_entries, flat, below_actual, code_slot, is_free, others_group}
+use Rattle.gx_access.proofs.Stored.{AreStored, ColumnsStored, ChoicesStored, IsChooser}
 use Rattle.gx_access.specs.Views.{if_flat, most_wraps, room_below, coded_view, group_views, no_slot, chooser_of}
-use Rattle.gx_access.specs.Whole.{Below, only_fragments, both, joined, followed, first_of, column_fragments, kid_choices, access_row, access_below, kids_below, access_of, IsAccess}
+use Rattle.gx_access.specs.Whole.{Below, only_fragments, both, joined, first_of, column_fragments, kid_choices, access_row, access_below, kids_below, access_of, IsAccess}
 use Rattle.gx_access.proofs.Rows.{stored_leaf, stored_same, stored_body, stored_coded, stored_groups, stored_columns, stored_cut, stored_by_value, key_chooser, data_chooser}
 use Rattle.gx_access.proofs.DataLeaves.{data_entry, entry_data}
 
@@ -61,10 +62,10 @@ from_both f (Some a) (Some b) c is = (a, b, refl, refl, same_Some _ _ is)
 from_both f (Some a) None c is = none_is None c (λ h. h) is
 from_both f None p c is = none_is None c (λ h. h) is
 
-pub from_followed : {A B : Type 0} (o : Option A) (f : A → Option B) (b : B)
-    → followed o f ≡ Some b → (a : A) × (o ≡ Some a) × (f a ≡ Some b)
-from_followed (Some a) f b is = (a, refl, is)
-from_followed None f b is = none_is None b (λ h. h) is
+pub from_then : {A B : Type 0} (o : Option A) (f : A → Option B) (b : B)
+    → option_and_then f o ≡ Some b → (a : A) × (o ≡ Some a) × (f a ≡ Some b)
+from_then (Some a) f b is = (a, refl, is)
+from_then None f b is = none_is None b (λ h. h) is
 
 -- the view below `actual`
 pub from_room : (x y : View) → room_below x ≡ Some y → below_actual x ≡ y
@@ -219,19 +220,19 @@ module _ {M : Type 0} (rule : M → Rule) (arranged : M → Arrangement) (fields
   row_sound m Same (kid t ks) (k ∷ bs) x ch row s leaves found =
       stored_same rule m t ks x ch row (s.0 x ch found)
   row_sound m Body no_kids [] x ch row s leaves found =
-      none_is None ch (λ h. h) (from_followed (room_below x) (first_of []) ch found).2
+      none_is None ch (λ h. h) (from_then (room_below x) (first_of []) ch found).2
   row_sound m Body no_kids (k ∷ bs) x ch row s leaves found = absurd s
   row_sound m Body (kid t ks) [] x ch row s leaves found = absurd s
   row_sound m Body (kid t ks) (k ∷ bs) x ch row s leaves found =
-      let p = from_followed (room_below x) (first_of (k ∷ bs)) ch found in
+      let p = from_then (room_below x) (first_of (k ∷ bs)) ch found in
       stored_body rule m t ks x ch row
       (subst (λ y. AreStored rule t y ch) (sym (from_room x p.0 p.1)) (s.0 p.0 ch p.2))
   row_sound m (Coded i c) no_kids [] x ch row s leaves found =
-      none_is None ch (λ h. h) (from_followed (coded_view i c x) (first_of []) ch found).2
+      none_is None ch (λ h. h) (from_then (coded_view i c x) (first_of []) ch found).2
   row_sound m (Coded i c) no_kids (k ∷ bs) x ch row s leaves found = absurd s
   row_sound m (Coded i c) (kid t ks) [] x ch row s leaves found = absurd s
   row_sound m (Coded i c) (kid t ks) (k ∷ bs) x ch row s leaves found =
-      let p = from_followed (coded_view i c x) (first_of (k ∷ bs)) ch found in
+      let p = from_then (coded_view i c x) (first_of (k ∷ bs)) ch found in
       let below = from_coded i c x p.0 p.1 in
       at_flat (layer m (kid t ks)) x ch below.0
       (stored_coded rule m t ks x.slots x.groups i c ch row below.1
@@ -244,7 +245,7 @@ module _ {M : Type 0} (rule : M → Rule) (arranged : M → Arrangement) (fields
   row_sound m (Groups mask) (kid t no_kids) (k ∷ l ∷ bs) x ch row s leaves found = absurd s.1
   row_sound m (Groups mask) (kid t (kid u ks)) (k ∷ []) x ch row s leaves found = absurd s.1
   row_sound m (Groups mask) (kid t (kid u ks)) (k ∷ l ∷ bs) x ch row s leaves found =
-      let q = from_followed (group_views mask (rule m).form.fields x)
+      let q = from_then (group_views mask (rule m).form.fields x)
       (λ (p : View × View). joined (k.of p.0) (l.of p.1)) ch found in
       let views = from_groups mask (rule m).form.fields x q.0 q.1 in
       let p = from_both (λ (fs : List Fragment) (gs : List Fragment). Only (fs ++ gs))
@@ -291,18 +292,21 @@ module _ {M : Type 0} (rule : M → Rule) (arranged : M → Arrangement) (fields
 
 module _ {M : Type 0} (rule : M → Rule) (arranged : M → Arrangement)
     (is : (m : M) → IsArranged (rule m) (arranged m)) where
+  -- the data entries of a record are those of its fragments
+  pub data_is : (t : Tree M) (ch : Choice) (r : Rec) → access_of rule arranged t ≡ Some ch
+      → IsOf (tree_form rule t) r → data_entries rule t r ≡ fragments_entries (fragments_of ch r) r
+  data_is t ch r found of =
+      let fields = (tree_form rule t).fields in
+      ap (λ (vs : List Value). data_entries rule t (record { key = r.key; fields = vs }))
+      (sym (ap (λ n. picked r.fields (all_slots 0 n)) (fit_long fields r.fields of.fields)
+      ∙ whole_values r.fields))
+      ∙ (tree_sound rule arranged fields is t (whole_view (length fields)) ch found r).here refl
+
   -- the access that a tree is found to have is one
   pub access_is : (t : Tree M) (ch : Choice) → IsValid rule t
       → access_of rule arranged t ≡ Some ch → IsAccess rule t ch
-  access_is t ch valid found =
-      let same : (r : Rec) → IsOf (tree_form rule t) r
-      → data_of rule t r ≡ fragments_entries (fragments_of ch r) r =
-      λ r of.
-      ap (λ (vs : List Value). data_of rule t (record { key = r.key; fields = vs }))
-      (sym (ap (λ n. picked r.fields (all_slots 0 n)) (fit_long (tree_form rule t).fields r.fields of.fields)
-      ∙ whole_values r.fields))
-      ∙ (tree_sound rule arranged (tree_form rule t).fields is t (whole_view (length (tree_form rule t).fields)) ch found r).here refl in
-      record {
-        holds = λ r e of h. data_entry rule t r e (subst (In e) (sym (same r of)) h);
-        only = λ r e of h there. subst (In e) (same r of) (entry_data rule t r e valid h there);
-      }
+  access_is t ch valid found = record {
+    holds = λ r e of h. data_entry rule t r e (subst (In e) (sym (data_is t ch r found of)) h);
+    only = λ r e of h there.
+        subst (In e) (data_is t ch r found of) (entry_data rule t r e valid h there);
+  }

@@ -16,16 +16,16 @@ use Rattle.gx_stack.specs.Tree.{Tree, Kids, leaf, layer, no_kids, kid, kid_count
 use Rattle.gx_access.specs.declared.arrangement.Arrangement.{Arrangement}
 use Rattle.gx_access.specs.declared.arrangement.Arrangement.TheVariants.{Same, ByValue, Body, Coded, Groups, Columns, Cut, Other}
 use Rattle.gx_access.specs.Arrangements.{HasDataChildren, is_data_child}
-use Rattle.gx_access.specs.declared.access.Slot.{Slot}
+use Rattle.gx_codec.specs.declared.slots.Slot.{Slot}
 use Rattle.gx_access.specs.declared.access.Tested.{Tested}
 use Rattle.gx_access.specs.declared.access.View.{View}
 use Rattle.gx_access.specs.declared.access.Fragment.{Fragment}
 use Rattle.gx_access.specs.declared.access.Chooser.{Chooser}
-use Rattle.gx_access.specs.Access.{Choice, Choices, Only, By, choice, data_of, kid_data, fragment_of, whole_view, flat}
+use Rattle.gx_access.specs.Access.{Choice, Choices, Only, By, choice, data_entries, kid_data, fragment_of, whole_view, flat}
 use Rattle.gx_access.specs.Views.{room_below, coded_view, group_views, chooser_of}
 use Rattle.gx_access.specs.Whole.{Below, only_fragments, joined, first_of, column_fragments, kid_choices, access_row, access_below, kids_below, access_of, data_leaves, kids_data_leaves}
 use Rattle.gx_access.specs.Leaves.{fragment_leaves, choice_leaves, choices_leaves}
-use Rattle.gx_access.proofs.Induction.{none_is, from_flat, from_both, from_followed, from_map, from_only}
+use Rattle.gx_access.proofs.Induction.{none_is, from_flat, from_both, from_then, from_map, from_only}
 
 past : (c : ℕ) → nat_lt (suc (suc c)) 2 ≡ false
 past c = le-ltb (suc (suc c)) 2 (omega arith)
@@ -68,7 +68,7 @@ module _ {M : Type 0} (rule : M → Rule) where
 
   mutual
     pub fewer_data : (t : Tree M) (r : Rec)
-        → length (data_of rule t r) ≤ length (entries_of rule t r)
+        → length (data_entries rule t r) ≤ length (entries_of rule t r)
     fewer_data (leaf n form) r = omega arith
     fewer_data (layer m ks) r =
         fewer_parts ks (rule m).holds_rest (fewer_kid ks) ((rule m).parts r)
@@ -182,18 +182,18 @@ module _ {M : Type 0} (rule : M → Rule) (arranged : M → Arrangement) (fields
   row_leaves rule' rest own Same (kid t ks) (k ∷ bs) x ch are s found =
       s.1 x ch found ∙ only_first rest t ks are
   row_leaves rule' rest own Body no_kids [] x ch are s found =
-      none_is None ch (λ h. h) (from_followed (room_below x) (first_of []) ch found).2
+      none_is None ch (λ h. h) (from_then (room_below x) (first_of []) ch found).2
   row_leaves rule' rest own Body no_kids (k ∷ bs) x ch are s found = absurd s
   row_leaves rule' rest own Body (kid t ks) [] x ch are s found = absurd s
   row_leaves rule' rest own Body (kid t ks) (k ∷ bs) x ch are s found =
-      let p = from_followed (room_below x) (first_of (k ∷ bs)) ch found in
+      let p = from_then (room_below x) (first_of (k ∷ bs)) ch found in
       s.1 p.0 ch p.2 ∙ only_first rest t ks are
   row_leaves rule' rest own (Coded i c) no_kids [] x ch are s found =
-      none_is None ch (λ h. h) (from_followed (coded_view i c x) (first_of []) ch found).2
+      none_is None ch (λ h. h) (from_then (coded_view i c x) (first_of []) ch found).2
   row_leaves rule' rest own (Coded i c) no_kids (k ∷ bs) x ch are s found = absurd s
   row_leaves rule' rest own (Coded i c) (kid t ks) [] x ch are s found = absurd s
   row_leaves rule' rest own (Coded i c) (kid t ks) (k ∷ bs) x ch are s found =
-      let p = from_followed (coded_view i c x) (first_of (k ∷ bs)) ch found in
+      let p = from_then (coded_view i c x) (first_of (k ∷ bs)) ch found in
       s.1 p.0 ch p.2 ∙ only_first rest t ks are
   row_leaves rule' rest own (Groups mask) no_kids [] x ch are s found = none_is None ch (λ h. h) found
   row_leaves rule' rest own (Groups mask) no_kids (k ∷ bs) x ch are s found = absurd s
@@ -203,7 +203,7 @@ module _ {M : Type 0} (rule : M → Rule) (arranged : M → Arrangement) (fields
   row_leaves rule' rest own (Groups mask) (kid t no_kids) (k ∷ l ∷ bs) x ch are s found = absurd s.2
   row_leaves rule' rest own (Groups mask) (kid t (kid u ks)) (k ∷ []) x ch are s found = absurd s.2
   row_leaves rule' rest own (Groups mask) (kid t (kid u ks)) (k ∷ l ∷ bs) x ch are s found =
-      let q = from_followed (group_views mask own x)
+      let q = from_then (group_views mask own x)
       (λ (p : View × View). joined (k.of p.0) (l.of p.1)) ch found in
       let p = from_both (λ (fs : List Fragment) (gs : List Fragment). Only (fs ++ gs))
       (only_fragments (k.of q.0.0)) (only_fragments (l.of q.0.1)) ch q.2 in

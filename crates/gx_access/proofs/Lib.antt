@@ -1,9 +1,10 @@
+pub mod Stored
 pub mod Rows
 pub mod DataLeaves
 pub mod Induction
 pub mod HeldLemmas
+pub mod SpanLemmas
 pub mod LeafLemmas
-pub mod ReadLemmas
 pub mod ViewSteps
 pub mod DefaultSteps
 pub mod CompileSteps

@@ -25,16 +25,18 @@ use Rattle.gx_divide.specs.Rules.{bytes_in, numbered, piece_part}
 use Rattle.gx_stack.specs.declared.entries.LeafEntry.{LeafEntry}
 use Rattle.gx_stack.specs.Tree.{Tree, Kids, leaf, layer, no_kids, kid, entry_in}
 use Rattle.std.specs.Prelude.{is_none}
-use Rattle.gx_access.specs.Codec.{stored_value, wrapped}
+use Rattle.gx_codec.specs.Stored.{stored_value, wrapped}
+use Rattle.gx_codec.specs.Slots.{pick}
 use Rattle.gx_access.specs.declared.arrangement.Arrangement.TheVariants.{Same, ByValue, Body, Coded, Groups, Columns, Cut}
 use Rattle.gx_access.specs.Arrangements.{IsArranged}
-use Rattle.gx_access.specs.declared.access.Slot.{Slot}
+use Rattle.gx_codec.specs.declared.slots.Slot.{Slot}
 use Rattle.gx_access.specs.declared.access.Tested.{Tested}
 use Rattle.gx_access.specs.declared.access.View.{View}
 use Rattle.gx_access.specs.declared.access.Fragment.{Fragment}
 use Rattle.gx_access.specs.declared.access.Chooser.{Chooser}
 use Rattle.gx_access.specs.declared.access.Chooser.TheVariants.{OfKey, OfData}
-use Rattle.gx_access.specs.Access.{Choice, Choices, Only, By, no_choices, choice, pick, picked, seen, all_default, is_absent, tested, fragment_entries, fragment_of, fragments_entries, chooser_value, fragments_at, data_of, kid_data, IsStored, AreStored, flat, below_actual, code_slot, is_free, others_group, ColumnsStored, ChoicesStored, IsChooser}
+use Rattle.gx_access.specs.Access.{Choice, Choices, Only, By, no_choices, choice, picked, seen, all_default, is_absent, tested, fragment_entries, fragment_of, fragments_entries, chooser_value, fragments_at, data_entries, kid_data, flat, below_actual, code_slot, is_free, others_group}
+use Rattle.gx_access.proofs.Stored.{IsStored, AreStored, ColumnsStored, ChoicesStored, IsChooser}
 
 -- a test that is known chooses
 if_true : {A : Type 0} (b : Bool) (x y : A) → b ≡ true → (if b then x else y) ≡ x
@@ -91,7 +93,7 @@ changed_picked zero c vs (s ∷ slots) is =
 changed_picked (suc i) c vs (s ∷ slots) is =
     ap (λ ys. pick vs s ∷ ys) (changed_picked i c vs slots is)
 
-wrapped_key : (n : ℕ) (r : Rec) → (wrapped n r).key ≡ r.key
+pub wrapped_key : (n : ℕ) (r : Rec) → (wrapped n r).key ≡ r.key
 wrapped_key zero r = refl
 wrapped_key (suc n) r = wrapped_key n r
 
@@ -132,7 +134,7 @@ module _ {M : Type 0} (rule : M → Rule) where
   stored_one m t ks x y ch r parts same s = record {
     here = λ there.
         ap (flat_map (λ (p : Part). kid_data rule (kid t ks) p.child p.rec)) parts
-        ∙ append-nil (data_of rule t (seen y r))
+        ∙ append-nil (data_entries rule t (seen y r))
         ∙ s.here (ap (λ g. is_absent g r.fields) same ∙ there);
     absent = λ gone. s.absent (ap (λ g. is_absent g r.fields) same ∙ gone);
   }
@@ -163,11 +165,11 @@ module _ {M : Type 0} (rule : M → Rule) where
 
   -- the second part, where there is one
   second : (t u : Tree M) (ks : Kids M) (q : Rec) (b : Bool) (es : List LeafEntry)
-      → (b ≡ true → es ≡ []) → (b ≡ false → data_of rule u q ≡ es)
+      → (b ≡ true → es ≡ []) → (b ≡ false → data_entries rule u q ≡ es)
       → flat_map (λ (p : Part). kid_data rule (kid t (kid u ks)) p.child p.rec)
       (if b then [] else record { child = 1; rec = q } ∷ []) ≡ es
   second t u ks q true es none some = sym (none refl)
-  second t u ks q false es none some = append-nil (data_of rule u q) ∙ some refl
+  second t u ks q false es none some = append-nil (data_entries rule u q) ∙ some refl
 
   pub stored_groups : (m : M) (t u : Tree M) (ks : Kids M) (slots : List Slot)
       (groups : List (List Tested)) (mask : List Bool) (fs gs : List Fragment)

@@ -3,7 +3,7 @@ use Rattle.std.proofs.Common.{◌≡◌, ℕ, zero, suc, ◌+◌, ◌<◌, ◌�
 use Rattle.std.specs.Prelude.{slice_set, is_none}
 use Rattle.gx_encode.specs.Forms.{changed}
 use Rattle.gx_split.specs.Groups.{chosen}
-use Rattle.gx_access.specs.declared.access.Slot.{Slot}
+use Rattle.gx_codec.specs.declared.slots.Slot.{Slot}
 use Rattle.gx_access.specs.Access.{all_slots, is_free}
 
 pub slots_more : (j i : ℕ)

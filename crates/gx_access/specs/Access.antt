@@ -1,5 +1,5 @@
 -- How the records of a tree are stored: which leaves have which of their data fields, and how.
-use Rattle.std.specs.Prelude.{◌≡◌, ℕ, zero, suc, Bool, true, false, ◌&&◌, ◌||◌, List, [], ◌∷◌, map, get_or, is_none, slice_index_or, Option, Some, None, if◌then◌else◌}
+use Rattle.std.specs.Prelude.{ℕ, zero, suc, Bool, true, false, ◌&&◌, ◌||◌, List, [], ◌∷◌, map, is_none, slice_index_or, Option, Some, None, if◌then◌else◌}
 use Rattle.std.specs.List.{flat_map}
 use Rattle.gx_values.specs.declared.values.Code.{Code}
 use Rattle.gx_values.specs.declared.values.Value.{Value}
@@ -9,26 +9,21 @@ use Rattle.gx_values.specs.Values.{is_default, no_value}
 use Rattle.gx_mapping.specs.Rule.{Rule, data_parts}
 use Rattle.gx_actual.specs.Bodies.{body_of}
 use Rattle.gx_split.specs.Groups.{chosen, defaults_of}
-use Rattle.gx_partition.specs.declared.place.Where.{Where}
-use Rattle.gx_partition.specs.Places.{value_at}
 use Rattle.gx_partition.specs.Bounds.{child_of}
 use Rattle.gx_divide.specs.Pieces.{pieces}
 use Rattle.gx_divide.specs.Rules.{bytes_in, numbered}
 use Rattle.gx_stack.specs.declared.entries.LeafEntry.{LeafEntry}
 use Rattle.gx_stack.specs.Tree.{Tree, Kids, leaf, layer, no_kids, kid, entry_in}
-use Rattle.gx_access.specs.declared.access.Slot.{Slot}
+use Rattle.gx_codec.specs.declared.slots.Slot.{Slot}
 use Rattle.gx_access.specs.declared.access.Tested.{Tested}
 use Rattle.gx_access.specs.declared.access.View.{View}
 use Rattle.gx_access.specs.declared.access.Fragment.{Fragment}
 use Rattle.gx_access.specs.declared.access.Chooser.{Chooser}
 use Rattle.gx_access.specs.declared.access.Chooser.TheVariants.{OfKey, OfData}
-use Rattle.gx_access.specs.Codec.{stored_value, wrapped}
+use Rattle.gx_codec.specs.Stored.{wrapped}
+use Rattle.gx_codec.specs.Slots.{pick}
 
 -- ---- what a node has of a record
-
--- the value of a slot, by its code
-abbrev pub pick : List Value → Slot → Value
-pick vs s = stored_value s.code (get_or vs s.number no_value)
 
 abbrev pub picked : List Value → List Slot → List Value
 picked vs slots = map (pick vs) slots
@@ -116,26 +111,15 @@ abbrev mutual
 
 -- the leaf entries that records are gathered from
 abbrev mutual
-  pub data_of : {M : Type 0} (rule : M → Rule) → Tree M → Rec → List LeafEntry
-  data_of rule (leaf n form) r = entry_in n r ∷ []
-  data_of rule (layer m ks) r =
+  pub data_entries : {M : Type 0} (rule : M → Rule) → Tree M → Rec → List LeafEntry
+  data_entries rule (leaf n form) r = entry_in n r ∷ []
+  data_entries rule (layer m ks) r =
       flat_map (λ p. kid_data rule ks p.child p.rec) (data_parts (rule m) r)
 
   pub kid_data : {M : Type 0} (rule : M → Rule) → Kids M → ℕ → Rec → List LeafEntry
   kid_data rule no_kids c r = []
-  kid_data rule (kid t ks) zero r = data_of rule t r
+  kid_data rule (kid t ks) zero r = data_entries rule t r
   kid_data rule (kid t ks) (suc c) r = kid_data rule ks c r
-
--- What a node has of each record are the entries of its fragments; where it has no part of the
--- record, they have none.
-pub record IsStored {M : Type 0} (rule : M → Rule) (t : Tree M) (x : View) (ch : Choice)
-    (r : Rec) : Type 0 where
-  pub here : is_absent x.groups r.fields ≡ false
-      → data_of rule t (seen x r) ≡ fragments_entries (fragments_of ch r) r
-  pub absent : is_absent x.groups r.fields ≡ true → fragments_entries (fragments_of ch r) r ≡ []
-
-abbrev pub AreStored : {M : Type 0} (rule : M → Rule) → Tree M → View → Choice → Type 0
-AreStored rule t x ch = (r : Rec) → IsStored rule t x ch r
 
 -- ---- whole records
 
@@ -166,20 +150,3 @@ is_free (suc i) (s ∷ slots) = is_free i slots
 
 abbrev pub others_group : List Bool → List Field → List Slot → List Tested
 others_group mask fields slots = chosen mask (tested fields slots)
-
--- the fragments of each column, and those of each child of a partition
-abbrev pub ColumnsStored : {M : Type 0} (rule : M → Rule) → Kids M → List (List Tested)
-    → List Slot → List (List Fragment) → Type 0
-ColumnsStored rule no_kids groups [] [] = Unit {0}
-ColumnsStored rule (kid t ks) groups (s ∷ slots) (fs ∷ fss) =
-    AreStored rule t (flat (s ∷ []) groups) (Only fs) × ColumnsStored rule ks groups slots fss
-ColumnsStored rule _ groups _ _ = ⊥
-
-abbrev pub ChoicesStored : {M : Type 0} (rule : M → Rule) → Kids M → View → Choices → Type 0
-ChoicesStored rule no_kids x no_choices = Unit {0}
-ChoicesStored rule (kid t ks) x (choice ch cs) = AreStored rule t x ch × ChoicesStored rule ks x cs
-ChoicesStored rule _ x _ = ⊥
-
--- the field by which a partition chooses, as the record itself has it
-abbrev pub IsChooser : View → Where → Chooser → Type 0
-IsChooser x at chooser = (r : Rec) → value_at at (seen x r) ≡ chooser_value chooser r

@@ -7,7 +7,7 @@ use Rattle.gx_divide.specs.Rules.{divide_rule, bytes_in, numbered, size_of, form
 use Rattle.gx_encode.specs.Rules.{encode_rule, field_of, used_code_of, form_of as encode_form}
 use Rattle.gx_index.specs.Rules.{index_rule, field_of as index_field, form_of as index_form}
 use Rattle.gx_mapping.proofs.RuleLemmas.{all_data}
-use Rattle.gx_partition.specs.Rules.{partition_rule}
+use Rattle.gx_partition.specs.Rules.{partition_rule, at_of, bounds_of, form_of as partition_form}
 use Rattle.gx_partition.specs.declared.place.Where.{Where}
 use Rattle.gx_split.specs.SegmentRules.{segment_rule, segment_parts, mask_of, form_of as segment_form}
 use Rattle.gx_split.specs.TransposeRules.{transpose_rule, columns, form_of as transpose_form}
@@ -18,16 +18,16 @@ use Rattle.gx_values.specs.declared.records.Form.{Form}
 use Rattle.gx_values.specs.declared.values.Code.{Code}
 use Rattle.gx_values.specs.declared.values.Value.{Value}
 use Rattle.gx_access.specs.Arrangements.{IsArranged, HasDataChildren}
-use Rattle.gx_access.specs.declared.arrangement.Arrangement.TheVariants.{Same, ByValue, Body, Coded, Groups, Columns, Cut, Other}
+use Rattle.gx_access.specs.declared.arrangement.Arrangement.TheVariants.{Same, ByValue, Body, Coded, Groups, Columns, Cut}
 use Rattle.gx_access.specs.declared.arrangement.Arrangement.{Arrangement}
 
--- the bounds of a partition aren't told
+-- how each mapping has the data of records
 abbrev pub any_arranged : AnyMapping → Arrangement
 any_arranged (any.Actual m) = Body
 any_arranged (any.Encode m) = Coded (field_of m) (used_code_of m)
 any_arranged (any.Segment m) = Groups (mask_of m)
 any_arranged (any.Transpose m) = Columns
-any_arranged (any.Partition m) = Other
+any_arranged (any.Partition m) = ByValue (at_of m) (bounds_of m)
 any_arranged (any.Divide m) = Cut (size_of m)
 any_arranged (any.Index m) = Same
 
@@ -37,7 +37,7 @@ actual_arranged form r = refl
 encode_arranged : (form : Form) (i : ℕ) (c : Code) → IsArranged (encode_rule form i c) (Coded i c)
 encode_arranged form i c r = refl
 
-pub partition_arranged : (form : Form) (at : Where) (bounds : List Value)
+partition_arranged : (form : Form) (at : Where) (bounds : List Value)
     → IsArranged (partition_rule form at bounds) (ByValue at bounds)
 partition_arranged form at bounds r = refl
 
@@ -68,7 +68,7 @@ encode_holds : (form : Form) (i : ℕ) (c : Code)
     → HasDataChildren (encode_rule form i c) (Coded i c)
 encode_holds form i code c below = alone c below
 
-pub partition_holds : (form : Form) (at : Where) (bounds : List Value)
+partition_holds : (form : Form) (at : Where) (bounds : List Value)
     → HasDataChildren (partition_rule form at bounds) (ByValue at bounds)
 partition_holds form at bounds c below = refl
 
@@ -92,7 +92,7 @@ any_arranges (any.Actual m) = actual_arranged (actual_form m)
 any_arranges (any.Encode m) = encode_arranged (encode_form m) (field_of m) (used_code_of m)
 any_arranges (any.Segment m) = segment_arranged (segment_form m) (mask_of m)
 any_arranges (any.Transpose m) = transpose_arranged (transpose_form m)
-any_arranges (any.Partition m) = λ r. refl
+any_arranges (any.Partition m) = partition_arranged (partition_form m) (at_of m) (bounds_of m)
 any_arranges (any.Divide m) = divide_arranged (divide_form m) (size_of m)
 any_arranges (any.Index m) = index_arranged (index_form m) (index_field m)
 
@@ -101,6 +101,6 @@ any_children (any.Actual m) = actual_holds (actual_form m)
 any_children (any.Encode m) = encode_holds (encode_form m) (field_of m) (used_code_of m)
 any_children (any.Segment m) = segment_holds (segment_form m) (mask_of m)
 any_children (any.Transpose m) = transpose_holds (transpose_form m)
-any_children (any.Partition m) = λ c below. refl
+any_children (any.Partition m) = partition_holds (partition_form m) (at_of m) (bounds_of m)
 any_children (any.Divide m) = divide_holds (divide_form m) (size_of m)
 any_children (any.Index m) = index_holds (index_form m) (index_field m)

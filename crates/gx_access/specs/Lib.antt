@@ -1,4 +1,3 @@
-pub mod Codec
 pub mod Arrangements
 pub mod Access
 pub mod Seen
@@ -6,5 +5,4 @@ pub mod Views
 pub mod Whole
 pub mod Held
 pub mod Leaves
-pub mod Reading
 pub mod Layers

@@ -6,7 +6,7 @@ use Rattle.gx_encode.specs.Forms.{changed}
 use Rattle.gx_split.specs.Groups.{chosen}
 use Rattle.gx_partition.specs.declared.place.Where.{Where}
 use Rattle.gx_partition.specs.declared.place.Where.TheVariants.{Key, Rest}
-use Rattle.gx_access.specs.declared.access.Slot.{Slot}
+use Rattle.gx_codec.specs.declared.slots.Slot.{Slot}
 use Rattle.gx_access.specs.declared.access.View.{View}
 use Rattle.gx_access.specs.declared.access.Chooser.{Chooser}
 use Rattle.gx_access.specs.declared.access.Chooser.TheVariants.{OfKey, OfData}

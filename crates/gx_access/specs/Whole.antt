@@ -1,7 +1,7 @@
 -- The access of a tree: each record has in one alternative exactly its data entries.
 use Rattle.std.specs.Prelude.{ℕ, suc, Bool, List, [], ◌∷◌, ◌++◌, length, Option, Some, None, if◌then◌else◌}
 use Rattle.std.specs.List.{flat_map}
-use Rattle.std.specs.Option.{option_map}
+use Rattle.std.specs.Option.{option_map, option_and_then}
 use Rattle.gx_values.specs.declared.records.Field.{Field}
 use Rattle.gx_values.specs.declared.records.Rec.{Rec}
 use Rattle.gx_mapping.specs.Rule.{Rule, In, IsOf}
@@ -9,7 +9,7 @@ use Rattle.gx_stack.specs.declared.entries.LeafEntry.{LeafEntry}
 use Rattle.gx_stack.specs.Tree.{Tree, Kids, leaf, layer, no_kids, kid, entries_of, tree_form}
 use Rattle.gx_access.specs.declared.arrangement.Arrangement.{Arrangement}
 use Rattle.gx_access.specs.declared.arrangement.Arrangement.TheVariants.{Same, ByValue, Body, Coded, Groups, Columns, Cut}
-use Rattle.gx_access.specs.declared.access.Slot.{Slot}
+use Rattle.gx_codec.specs.declared.slots.Slot.{Slot}
 use Rattle.gx_access.specs.declared.access.Tested.{Tested}
 use Rattle.gx_access.specs.declared.access.View.{View}
 use Rattle.gx_access.specs.declared.access.Fragment.{Fragment}
@@ -75,10 +75,6 @@ abbrev pub first_leaf : List Below → Option ℕ
 first_leaf [] = None
 first_leaf (k ∷ ks) = k.leaf
 
-abbrev pub followed : {A B : Type 0} → Option A → (A → Option B) → Option B
-followed None f = None
-followed (Some a) f = f a
-
 -- both lists of fragments, one after the other
 abbrev pub joined : Option Choice → Option Choice → Option Choice
 joined one other =
@@ -90,10 +86,10 @@ abbrev pub access_row : List Field → Arrangement → List Field → List Below
 access_row fields Same own ks x = first_of ks x
 access_row fields (ByValue at bounds) own ks x =
     both (λ chooser cs. By chooser bounds cs) (chooser_of at x) (kid_choices ks x)
-access_row fields Body own ks x = followed (room_below x) (first_of ks)
-access_row fields (Coded i c) own ks x = followed (coded_view i c x) (first_of ks)
+access_row fields Body own ks x = option_and_then (first_of ks) (room_below x)
+access_row fields (Coded i c) own ks x = option_and_then (first_of ks) (coded_view i c x)
 access_row fields (Groups mask) own (k ∷ l ∷ ks) x =
-    followed (group_views mask own x) (λ p. joined (k.of p.0) (l.of p.1))
+    option_and_then (λ p. joined (k.of p.0) (l.of p.1)) (group_views mask own x)
 access_row fields Columns own ks x =
     if_flat x.wraps (option_map (λ fss. Only (flat_map (λ fs. fs) fss))
     (column_fragments ks x.groups x.slots))

@@ -1,16 +1,8 @@
 // How the records of a tree are stored: which leaves have which of their data fields, and how.
 
-use gx_values::{Code, Field, Octets, Values};
+use gx_codec::Slot;
+use gx_values::{Field, Octets, Values};
 use std::marker::Model;
-
-/// One data field of a record.
-#[derive(Clone, Copy, Debug)]
-pub struct Slot {
-    /// its number among the data fields of the record
-    pub number: usize,
-    /// its code, if it has one
-    pub code: Option<Code>,
-}
 
 /// Slots in their order, seen as a list.
 #[derive(Debug, Drop)]
@@ -18,7 +10,7 @@ pub struct Slots(pub Vec<Slot>);
 
 impl Model for Slots {
     ghost use Rattle.std.specs.Prelude.{List};
-    ghost use Rattle.gx_access.specs.declared.access.Slot.{Slot};
+    ghost use Rattle.gx_codec.specs.declared.slots.Slot.{Slot};
 
     ghost Value = { List Slot };
 

@@ -2,10 +2,12 @@
 ghost use Rattle.std.specs.Prelude.{◌≡◌, IfOk};
 ghost use Rattle.gx_actual.specs.Bodies.{HasLength};
 ghost use Rattle.gx_split.specs.Groups.{defaults_of};
-ghost use Rattle.gx_access.specs.Access.{pick, fragment_of, defaults_in, defaults_body};
+ghost use Rattle.gx_codec.specs.Slots.{pick};
+ghost use Rattle.gx_access.specs.Access.{fragment_of, defaults_in, defaults_body};
 
-use crate::access::{Fragment, Slot, Slots, View};
+use crate::access::{Fragment, Slots, View};
 use gx_actual::push_value;
+use gx_codec::Slot;
 use gx_values::{Fields, NoMemory, Octets, Value, default_of};
 use std::alloc::Global;
 

@@ -1,11 +1,5 @@
 // What each layer does with the data of records.
-ghost use Rattle.std.specs.Prelude.{◌≡◌, List, IfOk};
-ghost use Rattle.gx_values.specs.declared.records.Form.{Form};
-ghost use Rattle.gx_values.specs.declared.values.Value.{Value as FieldValue};
-ghost use Rattle.gx_partition.specs.declared.place.Where.{Where};
-ghost use Rattle.gx_partition.specs.Rules.{partition_rule};
-ghost use Rattle.gx_access.specs.declared.arrangement.Arrangement.TheVariants.{ByValue};
-ghost use Rattle.gx_access.specs.Arrangements.{IsArranged, HasDataChildren};
+ghost use Rattle.std.specs.Prelude.{◌≡◌, IfOk};
 
 use crate::arrangement::{Arranged, Arrangement, Mask};
 use gx_types::AnyMapping;
@@ -27,7 +21,10 @@ impl Arranged for AnyMapping {
                 Ok(Arrangement::Groups(mask_of(alloc, mapping.mask())?))
             }
             AnyMapping::Transpose(_) => Ok(Arrangement::Columns),
-            AnyMapping::Partition(_) => Ok(Arrangement::Other),
+            AnyMapping::Partition(mapping) => {
+                let bounds = mapping.bounds().copy(alloc)?;
+                Ok(Arrangement::ByValue(mapping.place(), bounds))
+            }
             AnyMapping::Divide(mapping) => Ok(Arrangement::Cut(mapping.piece_size())),
             AnyMapping::Index(_) => Ok(Arrangement::Same),
         }
@@ -47,10 +44,3 @@ fn mask_of(alloc: Global, marks: &[bool]) -> Result<Mask, NoMemory>
     }
     Ok(Mask(copies))
 }
-
-/// A partition has each record in one child as it is, by its place and bounds. It does nothing.
-pub fn partition_is_by_value()
-    ensures { (form : Form) (at : Where) (bounds : List FieldValue) →
-        IsArranged (partition_rule form at bounds) (ByValue at bounds)
-        × HasDataChildren (partition_rule form at bounds) (ByValue at bounds) }
-{}

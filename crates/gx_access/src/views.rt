@@ -5,8 +5,9 @@ ghost use Rattle.gx_split.specs.Groups.{chosen};
 ghost use Rattle.gx_access.specs.Access.{tested, whole_view, flat, code_slot, is_free};
 ghost use Rattle.gx_access.specs.Views.{room_below, coded_view, group_views, column_view, chooser_of};
 
-use crate::access::{Chooser, Group, NestedGroups, Slot, Slots, Tested, View};
+use crate::access::{Chooser, Group, NestedGroups, Slots, Tested, View};
 use crate::arrangement::Mask;
+use gx_codec::Slot;
 use gx_partition::Where;
 use gx_values::{Code, Field, Fields, NoMemory};
 use std::alloc::{AllocError, Global};

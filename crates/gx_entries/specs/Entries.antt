@@ -94,11 +94,6 @@ IsPlain (layer m no_kids) = ⊥
 IsPlain (layer m (kid (leaf i form) ks)) = IsActual m
 IsPlain (layer m (kid (layer q qs) ks)) = ⊥
 
--- of each data field, whether it is in the first group, or in the second
-abbrev pub of_group : Bool → List Bool → List Bool
-of_group true mask = mask
-of_group false mask = map not mask
-
 -- the bodies of the entries of each record with these data, in the first leaf and in the second one
 abbrev pub AreBodies : Tree AnyMapping → List Value → List ℕ → Option (List ℕ) → Type 0
 AreBodies t fields body other = (n k : ℕ) (key : List Value) → AreTwoLeaves t n k

@@ -22,7 +22,7 @@ use Rattle.gx_ports.specs.declared.leaves.Entry.{Entry}
 use Rattle.gx_ports.specs.LeafMaps.{LeafMap, map_at, entry_of, selected, counted}
 use Rattle.gx_actual.specs.Bodies.{body_of}
 use Rattle.gx_split.specs.Groups.{chosen, defaults_of}
-use Rattle.gx_mapping.proofs.FieldLemmas.{fit_length}
+use Rattle.gx_mapping.proofs.FieldLemmas.{fit_at, fit_length}
 use Rattle.gx_gather.proofs.Lists.{none_some, bool_cases}
 use Rattle.gx_stack.specs.Tree.{Tree, leaves_of}
 use Rattle.gx_types.specs.declared.any.AnyMapping.{AnyMapping}
@@ -30,12 +30,12 @@ use Rattle.gx_model.specs.States.{File, Row}
 use Rattle.gx_scan.specs.declared.groups.Groups.{Groups}
 use Rattle.gx_scan.specs.Files.{IsStorable, IsTreeFor, IsInternal}
 use Rattle.gx_scan.specs.Groups.{AreGroups, IsSplitRow, has_others, first_stored, other_stored, other_entry}
-use Rattle.gx_scan.specs.Stored.{code_at, stored_value, stored_values, HasCode, HaveCodes}
-use Rattle.gx_scan.proofs.CodeLemmas.{nothing_stored}
+use Rattle.gx_codec.specs.Stored.{code_at, stored_value, stored_values, HasCode, HaveCodes}
+use Rattle.gx_codec.proofs.LayoutLemmas.{nothing_stored}
 use Rattle.gx_scan.specs.Records.{list_of_one}
 use Rattle.gx_scan.specs.Steps.{HaveAtMost, rows_inside}
 use Rattle.gx_scan.proofs.GroupLemmas.{firsts_stored, others_stored, rows_split_inside, steps_inside}
-use Rattle.gx_scan.proofs.JoinLemmas.{joined_at, chosen_next, defaults_there}
+use Rattle.gx_scan.proofs.JoinLemmas.{chosen_next, defaults_there}
 use Rattle.gx_scan.proofs.KeyLemmas.{one_at_key, row_found, steps_at_key}
 use Rattle.gx_scan.proofs.StepLemmas.{counted_most}
 
@@ -69,13 +69,12 @@ pub split_at : (fields : List Field) (mask : List Bool) (vs : List Value) (i : �
     (b : Bool) → AreFit fields vs → i < length fields → length mask ≡ length fields
     → f ≡ get_or fields i f → b ≡ get_or mask i false → SplitAt f mask vs i b
 split_at fields mask vs i f b fit lt long item at =
-    let x = joined_at fields mask vs i f b fit lt long item at in
     let many = fit_length fields vs fit in
     let d = value.Int (pos 0) in
     let v = get_or vs i d in
     record {
       value = v;
-      fits = subst (Fits f.kind) (sym x.is) x.fits;
+      fits = subst (λ (g : Field). Fits g.kind v) (sym item) (fit_at i fields vs f d fit lt);
       first = chosen_next mask vs i d b (omega (arith, lt, long)) (omega (arith, long, many)) at;
       others = chosen_next (map not mask) vs i d (not b)
           (omega (arith, lt, long, length-map mask not))

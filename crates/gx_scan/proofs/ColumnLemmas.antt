@@ -45,7 +45,7 @@ use Rattle.gx_scan.specs.Files.{rec_of, file_records, IsStorable, IsTreeFor, IsI
 use Rattle.gx_scan.specs.Records.{list_of_one}
 use Rattle.gx_scan.specs.Steps.{HaveAtMost, is_key_inside, rows_inside}
 use Rattle.gx_scan.specs.Entries.{ArePlaces, entry_of_row}
-use Rattle.gx_scan.specs.Stored.{HaveCodes}
+use Rattle.gx_codec.specs.Stored.{HaveCodes}
 use Rattle.gx_scan.specs.Columns.{AreColumns, ArePlacesOfKids, AreColumnEntries, column_row, column_entry}
 use Rattle.gx_scan.proofs.FileLemmas.{set_of}
 use Rattle.gx_scan.proofs.EntryLemmas.{filter_map, map_joined, span_entries}

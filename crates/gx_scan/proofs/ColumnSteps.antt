@@ -35,10 +35,10 @@ use Rattle.gx_types.specs.Any.{any_rule}
 use Rattle.gx_model.specs.States.{Row, IsRowOf}
 use Rattle.gx_scan.specs.declared.places.Place.{Place}
 use Rattle.gx_scan.specs.Entries.{ArePlaces}
-use Rattle.gx_scan.specs.Stored.{code_at, stored_value, stored_values, HasCode, HaveCodes}
+use Rattle.gx_codec.specs.Stored.{code_at, stored_value, stored_values, HasCode, HaveCodes}
 use Rattle.gx_scan.specs.Columns.{AreColumns, ArePlacesOfKids, AreColumnEntries, column_entry}
 use Rattle.gx_scan.proofs.BothLemmas.{stored_front}
-use Rattle.gx_scan.proofs.CodeLemmas.{nothing_stored}
+use Rattle.gx_codec.proofs.LayoutLemmas.{nothing_stored}
 use Rattle.gx_scan.proofs.ColumnLemmas.{place_at, places_many, value_fits}
 use Rattle.gx_scan.proofs.PlaceLemmas.{kids_many}
 use Rattle.gx_scan.proofs.ScanLemmas.{row_of}

@@ -25,7 +25,7 @@ use Rattle.gx_actual.specs.BodyLaws.{same_body}
 use Rattle.gx_stack.specs.Tree.{leaf_body}
 use Rattle.gx_model.specs.States.{Row, IsRowOf}
 use Rattle.gx_scan.specs.Files.{IsStorable}
-use Rattle.gx_scan.specs.Entries.{wrapped, entry_of_row, IsStoredRow}
+use Rattle.gx_scan.specs.Entries.{entry_of_row, IsStoredRow}
 
 -- ---- one record
 
@@ -96,37 +96,6 @@ entry_at P made rs es i e all same lt item =
       is = item ∙ ap (λ (l : List Entry). get_or l i e) same ∙ x.2;
       more = ap (λ n. take n rs) (let y : i + 1 ≡ suc i = omega arith in y) ∙ x.3;
     }
-
--- ---- the values behind the lengths of a body
-
-length_be : (w : ℕ) → length (to_be_bytes w16 w) ≡ 2
-length_be w = refl
-
--- so many lengths of two bytes each stand before the values
-pub record IsBehind (body : List ℕ) (front : ℕ) (values : List ℕ) : Type 0 where
-  pub long : front ≤ length body
-  pub is : drop front body ≡ values
-
-behind_more : (body values : List ℕ) (front : ℕ) → IsBehind body front values
-    → IsBehind (body_of (value.Bytes body ∷ [])) (front + 2) values
-behind_more body values front is =
-    let two = to_be_bytes w16 (length body) in
-    let all : body_of (value.Bytes body ∷ []) ≡ two ++ body = append-nil (two ++ body) in
-    record {
-      long = omega (arith, is.long, ap length all, length-append two body, length_be (length body));
-      is = ap (drop (front + 2)) all
-          ∙ ap (λ n. drop n (two ++ body)) (let y : front + 2 ≡ length two + front =
-          omega (arith, length_be (length body)) in y) ∙ drop-append-add two body front ∙ is.is;
-    }
-
-pub values_behind : (n : ℕ) (r : Rec)
-    → IsBehind (leaf_body (wrapped (suc n) r).fields) (2 * n) (body_of r.fields)
-values_behind zero r = record { long = omega arith; is = refl }
-values_behind (suc n) r =
-    subst (λ k. IsBehind (leaf_body (wrapped (suc (suc n)) r).fields) k (body_of r.fields))
-    (let y : 2 * n + 2 ≡ 2 * suc n = omega arith in y)
-    (behind_more (leaf_body (wrapped (suc n) r).fields) (body_of r.fields) (2 * n)
-    (values_behind n r))
 
 -- ---- the records within a span
 

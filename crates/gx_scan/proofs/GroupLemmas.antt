@@ -50,7 +50,7 @@ use Rattle.gx_scan.specs.Files.{rec_of, file_records, IsStorable, IsTreeFor, IsI
 use Rattle.gx_scan.specs.Steps.{HaveAtMost, is_key_inside, rows_inside}
 use Rattle.gx_scan.specs.Entries.{below, entry_of_row, data_leaves, IsAlone, ArePlaces}
 use Rattle.gx_scan.specs.Groups.{AreGroups, ArePlain, IsSplitRow, group_row, has_others, first_entry, other_entry, first_stored, other_stored}
-use Rattle.gx_scan.specs.Stored.{HaveCodes}
+use Rattle.gx_codec.specs.Stored.{HaveCodes}
 use Rattle.gx_scan.proofs.FileLemmas.{set_of}
 use Rattle.gx_scan.proofs.EntryLemmas.{filter_map, map_joined, span_entries}
 use Rattle.gx_scan.proofs.ListingLemmas.{filter_twice, same_filter}

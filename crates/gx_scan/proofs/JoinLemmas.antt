@@ -30,14 +30,13 @@ use Rattle.gx_mapping.proofs.RuleLemmas.{all_in}
 use Rattle.gx_gather.proofs.Lists.{from_map, in_filter, all_of}
 use Rattle.gx_gather.proofs.Orders.{Ascends, not_before_itself}
 use Rattle.gx_split.specs.Groups.{chosen, defaults_of, are_default}
-use Rattle.gx_mapping.proofs.FieldLemmas.{fit_length}
+use Rattle.gx_mapping.proofs.FieldLemmas.{fit_at, fit_length}
 use Rattle.gx_split.specs.GroupLaws.{chosen_fit, only_defaults}
 use Rattle.gx_model.specs.States.{Row, IsRowOf}
 use Rattle.gx_model.specs.Found.{meets_cond, meets_conds}
 use Rattle.gx_scan.specs.declared.groups.Groups.{Groups}
 use Rattle.gx_scan.specs.Groups.{has_others, other_entry}
 use Rattle.gx_scan.proofs.PlaceLemmas.{key_cmp}
-use Rattle.gx_scan.proofs.ScanLemmas.{value_there}
 
 abbrev none : Value
 none = value.Int (pos 0)
@@ -78,62 +77,6 @@ chosen_next {A} mask xs i d b lt same at =
     ap (λ n. cond b (get_or xs i d ∷ chosen (drop n mask) (drop n xs)) (chosen (drop n mask) (drop n
     xs))) next)
 
-body_cond : (b : Bool) (v : Value) (vs : List Value)
-    → body_of (cond b (v ∷ vs) vs) ≡ cond b (field_bytes v ++ body_of vs) (body_of vs)
-body_cond true v vs = refl
-body_cond false v vs = refl
-
-body_cond_not : (b : Bool) (v : Value) (vs : List Value)
-    → body_of (cond (not b) (v ∷ vs) vs) ≡ cond b (body_of vs) (field_bytes v ++ body_of vs)
-body_cond_not true v vs = refl
-body_cond_not false v vs = refl
-
--- the value of a field at the front of the body of its group
-pub record JoinedAt (f : Field) (mask : List Bool) (vs : List Value) (i : ℕ) (b : Bool) : Type 0
-  where
-    pub value : Value
-    pub fits : Fits f.kind value
-    pub first : body_of (chosen (drop i mask) (drop i vs))
-        ≡ cond b (field_bytes value ++ body_of (chosen (drop (i + 1) mask) (drop (i + 1) vs)))
-        (body_of (chosen (drop (i + 1) mask) (drop (i + 1) vs)))
-    pub others : body_of (chosen (drop i (map not mask)) (drop i vs))
-        ≡ cond b (body_of (chosen (drop (i + 1) (map not mask)) (drop (i + 1) vs)))
-        (field_bytes value
-        ++ body_of (chosen (drop (i + 1) (map not mask)) (drop (i + 1) vs)))
-    pub more : body_of (take (i + 1) vs) ≡ body_of (take i vs) ++ field_bytes value
-    pub is : get_or vs i none ≡ value
-
-pub joined_at : (fields : List Field) (mask : List Bool) (vs : List Value) (i : ℕ) (f : Field) (b :
-    Bool)
-    → AreFit fields vs → i < length fields → length mask ≡ length fields → f ≡ get_or fields i f
-    → b ≡ get_or mask i false → JoinedAt f mask vs i b
-joined_at fields mask vs i f b fit lt long item at =
-    let x = value_there fields vs i f (body_of (drop i vs)) fit lt item refl in
-    let many = fit_length fields vs fit in
-    let v = get_or vs i none in
-    record {
-      value = v;
-      fits = subst (Fits f.kind) (sym x.is) x.fits;
-      first = ap body_of (chosen_next mask vs i none b (omega (arith, lt, long)) (omega (
-        arith,
-        long,
-        many,
-      )) at)
-          ∙ body_cond b v (chosen (drop (i + 1) mask) (drop (i + 1) vs));
-      others = ap body_of (chosen_next (map not mask) vs i none (not b) (omega (
-        arith,
-        lt,
-        long,
-        length-map mask not,
-      )) (omega (arith, long, many, length-map mask not))
-          (turned_at mask i b (omega (arith, lt, long)) at))
-          ∙ body_cond_not b v (chosen (drop (i + 1) (map not mask)) (drop (i + 1) vs));
-      more = ap body_of (take_more vs i none (omega (arith, lt, many)))
-          ∙ flat_map-append field_bytes (take i vs) (v ∷ [])
-          ∙ ap (λ (l : List ℕ). body_of (take i vs) ++ l) (append-nil (field_bytes v));
-      is = refl;
-    }
-
 -- the defaults of the fields that a mask leaves out
 defaults_cond : (b : Bool) (f : Field) (fs : List Field)
     → body_of (defaults_of (cond (not b) (f ∷ fs) fs))
@@ -164,25 +107,6 @@ left_out false x y e = refl
 pub kept : (b : Bool) (x y : List ℕ) → b ≡ true → cond b x y ≡ x
 kept true x y e = refl
 kept false x y e = cc
-
--- ---- a condition that isn't met
-
-pub unmet_at : (r : Row) (conds : List Cond) (i : ℕ) (c : Cond) → i < length conds → c
-    ≡ get_or conds i c
-    → meets_cond r c ≡ false → meets_conds conds r ≡ false
-unmet_at r [] i c lt at unmet = absurd (omega arith)
-unmet_at r (d ∷ conds) zero c lt at unmet = first (meets_cond r d) (list_all (meets_cond r) conds)
-    (ap (meets_cond r) (sym at) ∙ unmet)
-  where
-    first : (a b : Bool) → a ≡ false → (a && b) ≡ false
-    first true b e = cc
-    first false b e = refl
-unmet_at r (d ∷ conds) (suc i) c lt at unmet = later (meets_cond r d) (list_all (meets_cond r)
-    conds) (unmet_at r conds i c (omega arith) at unmet)
-  where
-    later : (a b : Bool) → b ≡ false → (a && b) ≡ false
-    later true b e = e
-    later false b e = refl
 
 -- ---- the entries of the second leaf, from a number on
 

@@ -1,7 +1,6 @@
 pub mod CallLemmas
 pub mod FileLemmas
 pub mod RecordLemmas
-mod CodeLemmas
 mod EntryLemmas
 mod PlaceLemmas
 mod GroupLemmas

@@ -58,8 +58,8 @@ use Rattle.gx_model.specs.States.{File, Row, IsRowOf, HasRowsOf}
 use Rattle.gx_scan.specs.declared.places.Place.{Place}
 use Rattle.gx_scan.specs.declared.places.Above.{Above}
 use Rattle.gx_scan.specs.Files.{rec_of, file_records, IsStorable, IsTreeFor}
-use Rattle.gx_scan.specs.Stored.{stored_values, stored_rec, HaveCodes, IsWithCode}
-use Rattle.gx_scan.specs.Entries.{wrapped, below, entry_of_row, IsStoredRow, IsPassed, PassesOn, data_leaves, kids_data, IsAlone, ArePlaces, ArePlacesBelow, IsPlaceOf, first_leaf, leaf_of, rows_at}
+use Rattle.gx_codec.specs.Stored.{wrapped, stored_values, stored_rec, HaveCodes, IsWithCode}
+use Rattle.gx_scan.specs.Entries.{below, entry_of_row, IsStoredRow, IsPassed, PassesOn, data_leaves, kids_data, IsAlone, ArePlaces, ArePlacesBelow, IsPlaceOf, first_leaf, leaf_of, rows_at}
 use Rattle.gx_scan.proofs.FileLemmas.{set_of}
 
 abbrev pub number : Place → ℕ

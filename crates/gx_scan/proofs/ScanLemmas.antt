@@ -17,37 +17,6 @@ use Rattle.gx_scan.proofs.EntryLemmas.{RowAt, entry_at}
 abbrev none : Value
 none = value.Int (pos 0)
 
--- ---- a value in a body
-
-there : (fs : List Field) (vs : List Value) (i : ℕ) (d : Field) → AreFit fs vs → i < length fs
-    → (v : Value) × Fits (get_or fs i d).kind v
-    × (body_of (drop i vs) ≡ field_bytes v ++ body_of (drop (suc i) vs))
-    × (get_or vs i none ≡ v)
-there [] vs i d fit lt = absurd (omega arith)
-there (f ∷ fs) [] i d fit lt = absurd fit
-there (f ∷ fs) (v ∷ vs) zero d fit lt = (v, fit.0, refl, refl)
-there (f ∷ fs) (v ∷ vs) (suc i) d fit lt = there fs vs i d fit.1 (omega arith)
-
--- the value of a field, and what follows it
-pub record ValueAt (f : Field) (vs : List Value) (i : ℕ) (rest : List ℕ) : Type 0 where
-  pub value : Value
-  pub fits : Fits f.kind value
-  pub front : rest ≡ field_bytes value ++ body_of (drop (i + 1) vs)
-  pub is : get_or vs i none ≡ value
-
-pub value_there : (fs : List Field) (vs : List Value) (i : ℕ) (f : Field) (rest : List ℕ)
-    → AreFit fs vs → i < length fs → f ≡ get_or fs i f → rest ≡ body_of (drop i vs)
-    → ValueAt f vs i rest
-value_there fs vs i f rest fit lt item is =
-    let x = there fs vs i f fit lt in
-    let next : suc i ≡ i + 1 = omega arith in
-    record {
-      value = x.0;
-      fits = subst (λ (g : Field). Fits g.kind x.0) (sym item) x.1;
-      front = is ∙ x.2 ∙ ap (λ n. field_bytes x.0 ++ body_of (drop n vs)) next;
-      is = x.3;
-    }
-
 -- past the last field there is none
 pub none_past : (fs : List Field) (vs : List Value) (i : ℕ) → AreFit fs vs → length fs ≤ i
     → none ≡ get_or vs i none

@@ -1,11 +1,10 @@
 -- Records that stand whole in leaves.
-use Rattle.std.specs.Prelude.{[], ◌≡◌, ℕ, zero, suc, List, ◌∷◌, ◌++◌, Option, map, nat_eq, Bool, true, false, if◌then◌else◌}
+use Rattle.std.specs.Prelude.{[], ◌≡◌, ℕ, suc, List, ◌∷◌, ◌++◌, Option, map, nat_eq, Bool, true, false, if◌then◌else◌}
 use Rattle.std.specs.List.{filter}
 use Rattle.std.specs.FinMap as fin
 use Rattle.gx_values.specs.declared.values.Code.{Code}
 use Rattle.gx_values.specs.declared.records.Rec.{Rec}
 use Rattle.gx_values.specs.Keys.{bytes_of, AreKeyFields}
-use Rattle.gx_actual.specs.Rules.{actual_rec}
 use Rattle.gx_mapping.specs.declared.parts.Part.{Part}
 use Rattle.gx_mapping.specs.Rule.{Rule, In, IsOf}
 use Rattle.gx_stack.specs.declared.entries.LeafEntry.{LeafEntry}
@@ -16,12 +15,7 @@ use Rattle.gx_schema.specs.declared.schema.FileDef.{FileDef}
 use Rattle.gx_model.specs.States.{File, Row, IsRowOf}
 use Rattle.gx_scan.specs.declared.places.Place.{Place}
 use Rattle.gx_scan.specs.Files.{rec_of}
-use Rattle.gx_scan.specs.Stored.{stored_rec, HaveCodes}
-
--- a record below so many layers `actual`
-abbrev pub wrapped : ℕ → Rec → Rec
-wrapped zero r = r
-wrapped (suc n) r = actual_rec (wrapped n r)
+use Rattle.gx_codec.specs.Stored.{wrapped, stored_rec, HaveCodes}
 
 -- a record below layers, of which so many are `actual` and the others give its data fields these
 -- codes

@@ -13,7 +13,7 @@ use Rattle.gx_types.specs.Any.{any_rule}
 use Rattle.gx_model.specs.States.{Row, IsRowOf}
 use Rattle.gx_scan.specs.declared.groups.Groups.{Groups}
 use Rattle.gx_scan.specs.declared.both.Rest.{Rest}
-use Rattle.gx_scan.specs.Stored.{stored_values, HaveCodes}
+use Rattle.gx_codec.specs.Stored.{stored_values, HaveCodes}
 use Rattle.gx_scan.specs.Entries.{ArePlaces, entry_of_row}
 
 -- A segment splits the tree's records by the mask, and each of the two groups stands whole in one

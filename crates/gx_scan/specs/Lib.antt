@@ -1,6 +1,5 @@
 pub mod Files
 pub mod Records
-pub mod Stored
 pub mod Entries
 pub mod Groups
 pub mod Columns

@@ -14,14 +14,13 @@ ghost use Rattle.gx_scan.specs.Entries.{entry_of_row};
 ghost use Rattle.gx_scan.specs.Files.{IsStorable};
 ghost use Rattle.gx_scan.specs.Groups.{has_others, first_stored, other_stored, IsSplitRow, IsLeft};
 ghost use Rattle.gx_scan.specs.Records.{list_of_one};
-ghost use Rattle.gx_scan.specs.Stored.{code_at, stored_value, HasCode, HaveCodes};
+ghost use Rattle.gx_codec.specs.Stored.{code_at, stored_value, HasCode, HaveCodes};
 
 use crate::groups::Groups;
 use crate::joined::default_body;
 use crate::places::Place;
 use crate::records::data_fields;
-use crate::scan::behind_lengths;
-use crate::stored::{read_front, split_stored};
+use gx_codec::{behind_lengths, read_front, split_stored};
 use gx_ports::Entries;
 use gx_schema::FileDef;
 use gx_values::{Code, Field, Kind, NoMemory, ValueRef, Values};
@@ -115,7 +114,7 @@ fn rest_of<'a>(place: &'a Place, body: &'a [u8]) -> Option<Rest<'a>>
 }
 
 // The values of these fields, of two groups. `None`: they are those of no values that fit.
-fn read_both(
+pub(crate) fn read_both(
     alloc: Global,
     fields: &[Field],
     mask: &[bool],

@@ -15,15 +15,14 @@ ghost use Rattle.gx_model.specs.States.{Row as TheRow, IsRowOf};
 ghost use Rattle.gx_scan.specs.declared.places.Place.{Place as ThePlace};
 ghost use Rattle.gx_scan.specs.Files.{IsStorable, IsTreeFor};
 ghost use Rattle.gx_scan.specs.Entries.{entry_of_row};
-ghost use Rattle.gx_scan.specs.Stored.{HaveCodes};
+ghost use Rattle.gx_codec.specs.Stored.{HaveCodes};
 ghost use Rattle.gx_scan.specs.Columns.{AreColumns, ArePlainColumns, AreColumnEntries, column_entry};
 ghost use Rattle.gx_scan.specs.Search.{IsKeySearch, FindsValues, AddsWithin, AddsChosen};
 
 use crate::entries::{PLAIN_ROOM, add_met, entries_at, select_at};
 use crate::places::Place;
 use crate::records::data_fields;
-use crate::scan::behind_lengths;
-use crate::stored::{read_front, split_stored};
+use gx_codec::{behind_lengths, read_front, split_stored};
 use gx_commands::Cond;
 use gx_gather::NO_BLOCK;
 use gx_ports::{Entries, Leaves, Stop};

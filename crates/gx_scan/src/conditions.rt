@@ -4,23 +4,20 @@ ghost use Rattle.std.specs.Prelude.{◌≡◌, List, pos, slice_index_or, Some, 
 ghost use Rattle.gx_values.specs.declared.values.Value.{Value as FieldValue};
 ghost use Rattle.gx_values.specs.declared.values.Value.TheVariants as value;
 ghost use Rattle.gx_values.specs.Values.{Fits, AreFit, value_cmp, is_met};
-ghost use Rattle.gx_values.specs.Borrowed.{value_of};
 ghost use Rattle.gx_values.specs.Keys.{bytes_of, IsKeyKind};
 ghost use Rattle.gx_actual.specs.Bodies.{body_of, AreShort};
 ghost use Rattle.gx_model.specs.States.{Row as TheRow};
 ghost use Rattle.gx_model.specs.Found.{meets_cond, meets_conds};
 ghost use Rattle.gx_scan.specs.Files.{IsStorable};
 ghost use Rattle.gx_scan.specs.Entries.{entry_of_row, IsStoredRow};
-ghost use Rattle.gx_scan.specs.Stored.{stored_value, stored_values, HasCode, HaveCodes};
+ghost use Rattle.gx_codec.specs.Stored.{stored_values, HaveCodes};
 
-use crate::codes::Codes;
 use crate::places::Place;
 use crate::records::data_fields;
-use crate::scan::behind_lengths;
-use crate::stored::{decoded, split_stored};
+use gx_codec::{Codes, behind_lengths, front_at, meets_front};
 use gx_commands::Cond;
 use gx_schema::FileDef;
-use gx_values::{Code, Field, Kind, NoMemory, ValueRef, key_value, meets};
+use gx_values::{Field, Kind, NoMemory, ValueRef, key_value};
 use std::alloc::Global;
 
 /// Whether the record of an entry of a place meets every condition. `None`: the entry is that of no
@@ -97,37 +94,12 @@ fn meets_data(
         ≡ Some (is_met cond.now.op
         (value_cmp (slice_index_or vs index (value.Int (pos 0))) cond.now.bound))) }
 {
-    let mut rest = stored;
-    for (at, field) in fields.iter().enumerate() {
-        let code = codes.code_at(at);
-        let Some((front, more)) = split_stored(field.kind, code, rest) else {
-            return Ok(None);
-        };
-        if at == index {
-            return meets_front(alloc, field.kind, code, cond, front);
-        }
-        rest = more;
+    if index >= fields.len() {
+        return Ok(Some(ValueRef::Int(0).meets(cond.op, &cond.bound)));
     }
-    Ok(Some(ValueRef::Int(0).meets(cond.op, &cond.bound)))
-}
-
-// Whether the value for which this stands, by its code if it has one, meets the condition.
-fn meets_front(
-    alloc: Global,
-    kind: Kind,
-    code: Option<Code>,
-    cond: &Cond,
-    front: ValueRef<'_>,
-) -> Result<Option<bool>, NoMemory>
-    ensures { (v : FieldValue) → Fits kind v → HasCode code v →
-        value_of front.entry ≡ stored_value code v → IfOk result (λ found. found
-        ≡ Some (is_met cond.now.op (value_cmp v cond.now.bound))) }
-{
-    let Some(code) = code else {
-        return Ok(Some(front.meets(cond.op, &cond.bound)));
+    let Some(front) = front_at(fields, codes, index, stored) else {
+        return Ok(None);
     };
-    match decoded(alloc, kind, code, front)? {
-        Some(value) => Ok(Some(meets(&value, cond.op, &cond.bound))),
-        None => Ok(None),
-    }
+    let code = codes.code_at(index);
+    meets_front(alloc, fields[index].kind, code, front, cond.op, &cond.bound)
 }

@@ -1,16 +1,16 @@
 // The records of a file whose two groups of data fields stand in entries of two leaves. Conditions
-// on the first group are tested on its bytes; the bodies of both are joined for what is left.
-ghost use Rattle.std.specs.Prelude.{◌≡◌, ◌≢◌, ◌++◌, ◌∷◌, [], List, ℕ, length, map, filter, not, drop, true, false, pos, slice_index_or, if◌then◌else◌, IfOk, IfSome, IsSomeAnd};
+// are tested on their bytes, and only a record that meets them all is made.
+ghost use Rattle.std.specs.Prelude.{◌≡◌, ◌≢◌, ◌++◌, ◌∷◌, [], List, ℕ, length, map, filter, not, drop, true, pos, slice_index_or, Some, IfOk, IfSome, IsSomeAnd};
 ghost use Rattle.std.specs.List.{AllByRecursion};
 ghost use Rattle.std.specs.List.Sorted.{IsStrictlySortedBy};
 ghost use Rattle.gx_values.specs.declared.values.Value.{Value as FieldValue};
 ghost use Rattle.gx_values.specs.declared.values.Value.TheVariants as value;
-ghost use Rattle.gx_values.specs.Values.{Fits, AreFit, default_in, value_cmp};
+ghost use Rattle.gx_values.specs.Values.{AreFit, default_in, value_cmp};
 ghost use Rattle.gx_values.specs.Borrowed.{value_of};
 ghost use Rattle.gx_values.specs.Keys.{bytes_of};
 ghost use Rattle.gx_schema.specs.Lookups.{data_fields};
 ghost use Rattle.gx_ports.specs.LeafMaps.{entry_of, Extends};
-ghost use Rattle.gx_actual.specs.Bodies.{field_bytes, body_of, IsShort, AreShort};
+ghost use Rattle.gx_actual.specs.Bodies.{field_bytes, body_of, AreShort};
 ghost use Rattle.gx_split.specs.Groups.{chosen, defaults_of};
 ghost use Rattle.gx_model.specs.States.{Row as TheRow, IsRowOf};
 ghost use Rattle.gx_model.specs.Found.{value_at, meets_conds};
@@ -18,16 +18,15 @@ ghost use Rattle.gx_scan.specs.Files.{IsStorable};
 ghost use Rattle.gx_scan.specs.Groups.{has_others, first_entry, other_entry};
 ghost use Rattle.gx_scan.specs.Search.{AddsChosen};
 
-use crate::entries::{PLAIN_ROOM, add_met};
+use crate::both::{Rest, read_both};
 use crate::groups::Groups;
 use crate::records::data_fields;
-use crate::scan::behind_lengths;
-use gx_actual::split_value;
+use gx_codec::{Group, behind_lengths, front_at};
 use gx_commands::Cond;
 use gx_ports::Entries;
 use gx_rows::Row;
 use gx_schema::FileDef;
-use gx_values::{Field, Kind, NoMemory, ValueRef, key_value};
+use gx_values::{Field, Kind, NoMemory, ValueRef, key_value, read_value_key};
 use std::alloc::{AllocError, Global};
 
 /// Appends the records of the entries that meet the conditions, in the order of the entries, and
@@ -53,7 +52,6 @@ pub(crate) fn add_joined_rows(
         conds.now rows.old.items rows.new.items result }
 {
     let defaults = default_body(alloc, data_fields(file), groups.mask)?;
-    let mut plain = Vec::with_capacity(alloc, PLAIN_ROOM)?;
     let mut at = 0;
     for index in 0..firsts.len() {
         let entry = firsts.entry(index);
@@ -63,7 +61,7 @@ pub(crate) fn add_joined_rows(
         };
         at = after;
         if !add_joined(
-            alloc, file, groups, conds, entry.key, entry.body, other, &mut plain, rows,
+            alloc, file, groups, conds, entry.key, entry.body, other, rows,
         )? {
             return Ok(false);
         }
@@ -112,7 +110,6 @@ fn add_joined(
     key: &[u8],
     first: &[u8],
     others: &[u8],
-    plain: &mut Vec<u8>,
     rows: &mut Vec<Row>,
 ) -> Result<bool, NoMemory>
     requires storable { IsStorable file.now }
@@ -126,56 +123,75 @@ fn add_joined(
     ensures fit { AllByRecursion (IsRowOf file.now) rows.old.items →
         AllByRecursion (IsRowOf file.now) rows.new.items }
 {
-    let mask = groups.mask;
     let Some(first) = behind_lengths(first, groups.first.lengths) else {
         return Ok(false);
     };
-    if is_ruled_out(file, mask, conds, key, first) {
+    let Some(is_met) = meets_both(file, groups.mask, conds, key, first, others) else {
+        return Ok(false);
+    };
+    if !is_met {
         return Ok(true);
     }
-    plain.clear();
-    if !push_joined(data_fields(file), mask, first, others, plain)? {
+    let Some(row) = joined_row(alloc, file, groups.mask, key, first, others)? else {
         return Ok(false);
-    }
-    add_met(alloc, file, conds, key, plain.as_slice(), rows)
+    };
+    rows.push(row)?;
+    Ok(true)
 }
 
-// Whether the key or the first group of a record, by their bytes, fail a condition.
-fn is_ruled_out(file: &FileDef, mask: &[bool], conds: &[Cond], key: &[u8], first: &[u8]) -> bool
+// Whether the record with this key and these bytes of its groups meets every condition. `None`:
+// they are those of no record.
+fn meets_both(
+    file: &FileDef,
+    mask: &[bool],
+    conds: &[Cond],
+    key: &[u8],
+    first: &[u8],
+    others: &[u8],
+) -> Option<bool>
     requires storable { IsStorable file.now }
     requires long { length mask.now ≡ length (data_fields file.now) }
     ensures { (r : TheRow) → IsRowOf file.now r → key.now ≡ bytes_of r.0 →
-        first.now ≡ body_of (chosen mask.now r.1) → result ≡ true →
-        meets_conds conds.now r ≡ false }
+        first.now ≡ body_of (chosen mask.now r.1) →
+        others.now ≡ body_of (chosen (map not mask.now) r.1) →
+        result ≡ Some (meets_conds conds.now r) }
 {
     for cond in conds {
-        if let Some(value) = first_value(file, mask, cond.field, key, first)
-            && !value.meets(cond.op, &cond.bound)
-        {
-            return true;
+        let value = field_value(file, mask, cond.field, key, first, others)?;
+        if !value.meets(cond.op, &cond.bound) {
+            return Some(false);
         }
     }
-    false
+    Some(true)
 }
 
-// The value of a field, the key being field 0. `None`: the first group hasn't the field.
-fn first_value<'a>(
+// The value of a field, the key being field 0, and 0 where the file has no such field. `None`: the
+// bytes are those of no record.
+fn field_value<'a>(
     file: &FileDef,
     mask: &[bool],
     field: u16,
     key: &'a [u8],
     first: &'a [u8],
+    others: &'a [u8],
 ) -> Option<ValueRef<'a>>
     requires storable { IsStorable file.now }
     requires long { length mask.now ≡ length (data_fields file.now) }
     ensures { (r : TheRow) → IsRowOf file.now r → key.now ≡ bytes_of r.0 →
         first.now ≡ body_of (chosen mask.now r.1) →
-        IfSome result (λ v. value_of v ≡ value_at r field) }
+        others.now ≡ body_of (chosen (map not mask.now) r.1) →
+        IsSomeAnd result (λ v. value_of v ≡ value_at r field) }
 {
     if field == 0 {
         return key_value(file.fields.0[0].kind, key);
     }
-    data_value(data_fields(file), mask, usize::from(field) - 1, first)
+    data_value(
+        data_fields(file),
+        mask,
+        usize::from(field) - 1,
+        first,
+        others,
+    )
 }
 
 // The same of one of these fields, counted from 0.
@@ -184,103 +200,66 @@ fn data_value<'a>(
     mask: &[bool],
     index: usize,
     first: &'a [u8],
+    others: &'a [u8],
 ) -> Option<ValueRef<'a>>
     requires short { AreShort fields.now }
     requires long { length mask.now ≡ length fields.now }
     ensures { (vs : List FieldValue) → AreFit fields.now vs →
         first.now ≡ body_of (chosen mask.now vs) →
-        IfSome result (λ v. value_of v ≡ slice_index_or vs index (value.Int (pos 0))) }
+        others.now ≡ body_of (chosen (map not mask.now) vs) →
+        IsSomeAnd result (λ v. value_of v ≡ slice_index_or vs index (value.Int (pos 0))) }
 {
-    let mut rest = first;
-    for (at, field) in fields.iter().enumerate() {
-        if !mask[at] {
-            continue;
-        }
-        let (value, more) = split_value(field.kind, rest)?;
-        if at == index {
-            return Some(value);
-        }
-        rest = more;
+    if index >= fields.len() {
+        return Some(ValueRef::Int(0));
     }
-    None
+    if mask[index] {
+        let group = Group {
+            mask,
+            is_first: true,
+        };
+        front_at(fields, &group, index, first)
+    } else {
+        let group = Group {
+            mask,
+            is_first: false,
+        };
+        front_at(fields, &group, index, others)
+    }
 }
 
-// Appends the body of the values whose groups have these bodies, and answers whether it is one.
-fn push_joined(
-    fields: &[Field],
+// The record with this key and these bytes of its groups, if they are those of one.
+fn joined_row(
+    alloc: Global,
+    file: &FileDef,
     mask: &[bool],
+    key: &[u8],
     first: &[u8],
     others: &[u8],
-    plain: &mut Vec<u8>,
-) -> Result<bool, AllocError>
-    requires short { AreShort fields.now }
-    requires long { length mask.now ≡ length fields.now }
-    ensures { (vs : List FieldValue) → AreFit fields.now vs →
-        first.now ≡ body_of (chosen mask.now vs) →
-        others.now ≡ body_of (chosen (map not mask.now) vs) →
-        IfOk result (λ is. (is ≡ true) × (plain.new.items ≡ plain.old.items ++ body_of vs)) }
+) -> Result<Option<Row>, NoMemory>
+    requires storable { IsStorable file.now }
+    requires long { length mask.now ≡ length (data_fields file.now) }
+    ensures read { (r : TheRow) → IsRowOf file.now r → key.now ≡ bytes_of r.0 →
+        first.now ≡ body_of (chosen mask.now r.1) →
+        others.now ≡ body_of (chosen (map not mask.now) r.1) →
+        IfOk result (λ found. found ≡ Some r) }
+    ensures fits { IfOk result (λ found. IfSome found (IsRowOf file.now)) }
 {
-    let mut first = first;
-    let mut others = others;
-    for (at, field) in fields.iter().enumerate() {
-        let Some((more, more_others)) = push_front(mask[at], field.kind, first, others, plain)?
-        else {
-            return Ok(false);
-        };
-        first = more;
-        others = more_others;
-    }
-    Ok(true)
-}
-
-// Appends the bytes of the value at the front of the group, and gives what follows in both. `None`:
-// there is none.
-fn push_front<'a>(
-    is_first: bool,
-    kind: Kind,
-    first: &'a [u8],
-    others: &'a [u8],
-    plain: &mut Vec<u8>,
-) -> Result<Option<(&'a [u8], &'a [u8])>, AllocError>
-    requires { IsShort kind }
-    ensures { (v : FieldValue) (more more_others : List ℕ) → Fits kind v →
-        first.now ≡ (if is_first then field_bytes v ++ more else more) →
-        others.now ≡ (if is_first then more_others else field_bytes v ++ more_others) →
-        IfOk result (λ left. IsSomeAnd left (λ m. (m.0.now ≡ more) × (m.1.now ≡ more_others)
-        × (plain.new.items ≡ plain.old.items ++ field_bytes v))) }
-{
-    if is_first {
-        let Some(more) = push_as_it_is(kind, first, plain)? else {
-            return Ok(None);
-        };
-        return Ok(Some((more, others)));
-    }
-    let Some(more) = push_as_it_is(kind, others, plain)? else {
+    let kind = file.fields.0[0].kind;
+    let Some(key) = read_value_key(alloc, kind, key)? else {
         return Ok(None);
     };
-    Ok(Some((first, more)))
-}
-
-// The same of one group.
-fn push_as_it_is<'a>(
-    kind: Kind,
-    rest: &'a [u8],
-    plain: &mut Vec<u8>,
-) -> Result<Option<&'a [u8]>, AllocError>
-    requires { IsShort kind }
-    ensures { (v : FieldValue) (more : List ℕ) → Fits kind v → rest.now ≡ field_bytes v ++ more →
-        IfOk result (λ left. IsSomeAnd left
-        (λ m. (m.now ≡ more) × (plain.new.items ≡ plain.old.items ++ field_bytes v))) }
-{
-    let Some((_, more)) = split_value(kind, rest) else {
+    let first = Rest {
+        codes: &[],
+        body: first,
+    };
+    let others = Rest {
+        codes: &[],
+        body: others,
+    };
+    let Some(values) = read_both(alloc, data_fields(file), mask, first, others)? else {
         return Ok(None);
     };
-    let width = rest.len().saturating_sub(more.len());
-    let Some((front, _)) = rest.split_at_checked(width) else {
-        return Ok(None);
-    };
-    plain.extend_from_slice(front)?;
-    Ok(Some(more))
+    Ok(Some(Row { key, values }))
 }
 
 /// The body of the defaults of the fields outside the first group. `NoMemory`: there was none for

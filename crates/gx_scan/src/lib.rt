@@ -11,7 +11,6 @@ mod by_key;
 mod by_pieces;
 mod by_records;
 mod coded;
-mod codes;
 mod columns;
 mod conditions;
 mod entries;
@@ -23,7 +22,6 @@ mod places;
 mod records;
 mod scan;
 mod searched;
-mod stored;
 mod within;
 
 pub use by_index::rows_where;

@@ -6,9 +6,9 @@ ghost use Rattle.gx_stack.specs.Seen.{tree_of};
 ghost use Rattle.gx_types.specs.Any.{any_rule};
 ghost use Rattle.gx_scan.specs.declared.places.Place.{Place as ThePlace};
 ghost use Rattle.gx_scan.specs.Entries.{PassesOn, ArePlaces, ArePlacesBelow};
-ghost use Rattle.gx_scan.specs.Stored.{IsWithCode};
+ghost use Rattle.gx_codec.specs.Stored.{IsWithCode};
 
-use crate::codes::Codes;
+use gx_codec::Codes;
 use gx_mapping::Mapping;
 use gx_stack::Node;
 use gx_types::{AnyMapping, Passing};

@@ -1,8 +1,7 @@
 // The records of a file among the entries of its leaf that meet conditions: the conditions are
 // tested on the bytes of an entry, and only a record that meets them all is made.
-ghost use Rattle.std.specs.Prelude.{◌≡◌, [], List, pos, suc, map, slice_index_or, Some, IfOk, IfSome, IsSomeAnd};
+ghost use Rattle.std.specs.Prelude.{◌≡◌, [], List, pos, map, slice_index_or, Some, IfOk, IfSome, IsSomeAnd};
 ghost use Rattle.std.specs.List.{AllByRecursion};
-ghost use Rattle.gx_values.specs.declared.records.Rec.{Rec as Record};
 ghost use Rattle.gx_values.specs.declared.values.Value.{Value as FieldValue};
 ghost use Rattle.gx_values.specs.declared.values.Value.TheVariants as value;
 ghost use Rattle.gx_values.specs.Values.{AreFit};
@@ -14,12 +13,12 @@ ghost use Rattle.gx_model.specs.States.{Row as TheRow, IsRowOf};
 ghost use Rattle.gx_model.specs.Found.{value_at, meets_conds};
 ghost use Rattle.gx_scan.specs.Files.{IsStorable};
 ghost use Rattle.gx_schema.specs.Lookups.{data_fields};
-ghost use Rattle.gx_stack.specs.Tree.{leaf_body};
-ghost use Rattle.gx_scan.specs.Entries.{entry_of_row, wrapped};
+ghost use Rattle.gx_scan.specs.Entries.{entry_of_row};
 ghost use Rattle.gx_scan.specs.Search.{AddsChosen};
 
 use crate::records::data_fields;
-use gx_actual::{read_body, split_value};
+use gx_actual::read_body;
+use gx_codec::{Plain, behind_lengths, front_at};
 use gx_commands::Cond;
 use gx_ports::Entries;
 use gx_rows::Row;
@@ -62,15 +61,6 @@ pub(crate) fn add_chosen_rows(
         rows.push(row)?;
     }
     Ok(true)
-}
-
-// The bytes of the values in a body. `None`: the body is too short for the lengths before them.
-pub(crate) fn behind_lengths(body: &[u8], lengths: u32) -> Option<&[u8]>
-    ensures { (r : Record) → body.now ≡ leaf_body (wrapped (suc lengths) r).fields →
-        IsSomeAnd result (λ values. values.now ≡ body_of r.fields) }
-{
-    let (_, values) = body.split_at_checked(2 * lengths as usize)?;
-    Some(values)
 }
 
 // The record of an entry, if it is one.
@@ -167,13 +157,9 @@ fn data_value<'a>(fields: &[Field], index: usize, body: &'a [u8]) -> Option<Valu
     ensures { (vs : List FieldValue) → AreFit fields.now vs → body.now ≡ body_of vs →
         IsSomeAnd result (λ v. value_of v ≡ slice_index_or vs index (value.Int (pos 0))) }
 {
-    let mut rest = body;
-    for (at, field) in fields.iter().enumerate() {
-        let (value, more) = split_value(field.kind, rest)?;
-        if at == index {
-            return Some(value);
-        }
-        rest = more;
+    if index < fields.len() {
+        front_at(fields, &Plain, index, body)
+    } else {
+        Some(ValueRef::Int(0))
     }
-    Some(ValueRef::Int(0))
 }

@@ -19,7 +19,7 @@ use Rattle.gx_model.specs.Found.{is_chosen}
 use Rattle.gx_model.specs.Texts.{row_text}
 use Rattle.gx_model.specs.Commands.{no_record, lacks_of, IsListText, IsAnswerOr, IsReply}
 use Rattle.gx_model.specs.Play.{Playing, good, start_at, end_at, seen_state, IsAnswered}
-use Rattle.gx_model.specs.Runs.{IsPlayFrom}
+use Rattle.gx_play.specs.Asked.{IsPlayFrom}
 use Rattle.gx_play.specs.Plays.{Engine}
 use Rattle.gx_play.specs.Plays.{IsAt, schema_of, built_of, leaves_of}
 use Rattle.gx_play.specs.declared.ending.Ending.{Ending}

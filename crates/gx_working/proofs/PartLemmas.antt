@@ -11,8 +11,8 @@ use Rattle.gx_ports.proofs.ImageLemmas.{prefix_both}
 use Rattle.gx_types.specs.declared.built.Built.{Built}
 use Rattle.gx_model.specs.States.{State}
 use Rattle.gx_model.specs.Play.{Playing}
-use Rattle.gx_model.specs.Runs.{Runs}
-use Rattle.gx_model.proofs.RunLemmas.{run_on}
+use Rattle.gx_play.specs.Asked.{Runs}
+use Rattle.gx_play.proofs.AskedLemmas.{run_on}
 use Rattle.gx_engine.specs.Crashes.{HoldsState}
 use Rattle.gx_play.specs.declared.play.Answers.TheVariants as answers
 use Rattle.gx_play.specs.Images.{IsPlayImage, LeavesPlay}

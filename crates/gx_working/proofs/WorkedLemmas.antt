@@ -12,9 +12,9 @@ use Rattle.gx_commands.specs.declared.command.LineWhy.{LineWhy}
 use Rattle.gx_commands.specs.Lines.{Lines, script_lines}
 use Rattle.gx_types.specs.declared.built.Built.{Built}
 use Rattle.gx_model.specs.States.{State}
-use Rattle.gx_model.specs.Play.{Playing, End, good, stopped, start_at, is_inside}
-use Rattle.gx_model.specs.Runs.{Runs, IsPlayFrom}
-use Rattle.gx_model.proofs.RunLemmas.{run_on}
+use Rattle.gx_model.specs.Play.{Playing, End, good, stopped, start_at, end_at, is_inside}
+use Rattle.gx_play.specs.Asked.{Runs, IsPlayFrom}
+use Rattle.gx_play.proofs.AskedLemmas.{run_on, play_once, command_runs}
 use Rattle.gx_play.specs.Plays.{Engine}
 use Rattle.gx_play.specs.Plays.{IsAt, schema_of, built_of, leaves_of}
 use Rattle.gx_play.specs.declared.play.PlayEnd.{PlayEnd}
@@ -27,7 +27,7 @@ use Rattle.gx_work.specs.Schema.{work_schema}
 use Rattle.gx_work.specs.Workload.{lines_text, tasks, work_script}
 use Rattle.gx_work.proofs.LineLemmas.{IsSmall, line_of}
 use Rattle.gx_work.proofs.RunLemmas.{RunsTo}
-use Rattle.gx_work.proofs.WorkLemmas.{task_lines, task_once, tasks_small, length_tasks}
+use Rattle.gx_work.proofs.WorkLemmas.{task_lines, tasks_small, length_tasks}
 use Rattle.gx_play.specs.declared.play.Answers.TheVariants as answers
 use Rattle.gx_play.specs.Answering.{beside, with_answers}
 use Rattle.gx_working.specs.Worked.{IsWorkedFirst, IsWorkedFull, IsWorkedAs}
@@ -59,6 +59,22 @@ up_to_start g start e at =
 pub record AreFew (ts : List Task) : Type 0 where
   pub small : AllByRecursion IsSmall ts
   pub few : length ts ≤ 25002
+
+-- tasks that run, and end outside a transaction, have one play, which ends well
+task_once : (p : Playing) (ts : List Task) (commits : ℕ) (r : RunsTo p ts false commits)
+    (text : List ℕ) (final : Playing) (end : End)
+    → IsPlayFrom work_schema p (record { lines = map line_of ts; stop = None }) text final end
+    → (text ≡ r.text) × (final ≡ r.final) × (end ≡ good)
+task_once p ts commits r text final end h =
+    play_once work_schema p (record { lines = map line_of ts; stop = None }) text r.text final r.final
+    end good h
+    (record {
+      ran = map line_of ts;
+      next = Ok None;
+      first = (refl, refl);
+      runs = command_runs work_schema p (map line_of ts) r.text r.final r.runs;
+      ends = sym (ap (end_at (length (map line_of ts))) r.inside_is);
+    })
 
 -- the tasks ran, and these are their answers
 pub record IsNext {S : Type 0} (g : Ghosts S) (p : Playing) (ts : List Task) (commits : ℕ)
@@ -96,7 +112,8 @@ up_to_next g start done ts some commits e f text u r next = record {
   runs = subst (λ ls. Runs work_schema (start_at start) ls (u.text ++ r.text) r.final)
       (sym (map-append line_of done ts))
       (run_on work_schema (start_at start) u.final r.final (map line_of done)
-      (map line_of ts) u.text r.text u.runs r.runs);
+      (map line_of ts) u.text r.text u.runs
+      (command_runs work_schema u.final (map line_of ts) r.text r.final r.runs));
   at = next.at;
   outside = r.inside_is;
   commits_are = r.commits_are;

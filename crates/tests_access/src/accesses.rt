@@ -17,7 +17,7 @@ struct Case {
     access: &'static str,
 }
 
-const CASES: [Case; 14] = [
+const CASES: [Case; 20] = [
     Case {
         schema: ITEMS,
         equation: "item = actual(bplus)",
@@ -91,6 +91,59 @@ const CASES: [Case; 14] = [
 1: 1 of 0 1, in 0 1, by 8, else [0, 0, 0, 0, 0, 0, 0, 0, 0]
 ",
     },
+    // partitions: over a segment, and by a field of the key
+    Case {
+        schema: ITEMS,
+        equation: r#"item = partition(id "m", segment(name, actual(heap), actual(bplus)), actual(heap))"#,
+        access: "key 0 [Text(Octets([109]))]
+0: 1 of 0
+1: 1 of 1 2, in 1 2, else [0, 0, 0, 0, 0, 0, 0, 0, 0, 0, 0, 0, 0, 0, 0, 0]
+2: 1 of 0 1 2
+",
+    },
+    // over a code over a segment, and by a data field
+    Case {
+        schema: ITEMS,
+        equation: "item = partition(quantity 5, encode(price pack, segment(name, actual(heap),
+    actual(heap))), actual(heap))",
+        access: " 1 [Int(5)]
+0: 1 of 0
+1: 1 of 1 2 pack, in 1 2 pack, else [0, 0, 0, 0, 0, 0, 0, 0, 0, 0]
+2: 1 of 0 1 2
+",
+    },
+    // below an index, with two bounds
+    Case {
+        schema: ITEMS,
+        equation: "item = index(quantity, partition(price 5 10, actual(heap), actual(bplus), actual(heap)),
+    bplus)",
+        access: " 2 [Int(5), Int(10)]
+0: 1 of 0 1 2
+1: 1 of 0 1 2
+2: 1 of 0 1 2
+",
+    },
+    // below `actual`, over a division
+    Case {
+        schema: ITEMS,
+        equation: r#"item = encode(name rle, actual(partition(id "m", divide(8, heap), heap)))"#,
+        access: "key 0 [Text(Octets([109]))]
+0: 1 of 0 rle 1 2, by 8
+1: 1 of 0 rle 1 2
+",
+    },
+    // a partition in a partition
+    Case {
+        schema: ITEMS,
+        equation: r#"item = partition(id "m", partition(quantity 5, actual(heap), actual(heap)),
+    actual(heap))"#,
+        access: "key 0 [Text(Octets([109]))]
+ 1 [Int(5)]
+0: 1 of 0 1 2
+1: 1 of 0 1 2
+2: 1 of 0 1 2
+",
+    },
     // partitions below a segment and a transposition
     Case {
         schema: ITEMS,
@@ -117,6 +170,11 @@ const CASES: [Case; 14] = [
     Case {
         schema: ITEMS,
         equation: "item = actual(divide(8, divide(4, heap)))",
+        access: "none",
+    },
+    Case {
+        schema: ITEMS,
+        equation: r#"item = actual(divide(8, partition(id "m", heap, heap)))"#,
         access: "none",
     },
 ];

@@ -8,7 +8,8 @@ ghost use Rattle.gx_stack.specs.Tree.{IsValid};
 ghost use Rattle.gx_types.specs.Any.{any_rule};
 ghost use Rattle.gx_types.specs.Nodes.{AreNodes};
 
-use gx_access::{Access, Chooser, Fragment, Slot, access_of};
+use gx_access::{Access, Chooser, Fragment, access_of};
+use gx_codec::Slot;
 use gx_equation::{Equation, read_equation};
 use gx_schema::{Schema, read_schema};
 use gx_stack::Node;

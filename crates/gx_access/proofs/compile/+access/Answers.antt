@@ -7,8 +7,8 @@ use Rattle.gx_access.specs.Access.{Only, By}
 use Rattle.gx_access.specs.declared.access.Fragment.{Fragment}
 use Rattle.gx_access.specs.Seen.{choice_of, choices_from}
 use Rattle.gx_access.specs.Views.{coded_view}
-use Rattle.std.specs.Option.{option_map}
-use Rattle.gx_access.specs.Whole.{access_below, access_row, first_of, followed}
+use Rattle.std.specs.Option.{option_map, option_and_then}
+use Rattle.gx_access.specs.Whole.{access_below, access_row, first_of}
 use Rattle.gx_access.proofs.CompileSteps.{ok_weaker, of_nodes, layer_high, layer_row, leaf_row, alternative_done, alternatives_done, column_done, column_failed, where_flat, none_left, joined_none, joined_one, joined_both, groups_found, groups_few}
 use Rattle.gx_access.proofs.compile.+access.Goals as goal
 
@@ -113,7 +113,7 @@ access_row-returns-in-Other g t c =
 pub access_row-returns-in-None : goal.access_row-returns-in-None
 access_row-returns-in-None g t c =
     let bs = of_nodes g.M.Mapping.rule g.M.Arranged.arranged c.args.fields.now c.args.kids.now in
-    ap (λ o. followed o (first_of bs)) (sym c.in-None.is ∙ c.in_ok-below-in-Body.ensures)
+    ap (λ o. option_and_then (first_of bs) o) (sym c.in-None.is ∙ c.in_ok-below-in-Body.ensures)
     ∙ ap (λ a. access_row c.args.fields.now a c.args.own.now bs c.args.view.now) (sym c.in-Body.is)
 
 pub access_row-returns-in-Some : goal.access_row-returns-in-Some
@@ -121,7 +121,7 @@ access_row-returns-in-Some g t c =
     let bs = of_nodes g.M.Mapping.rule g.M.Arranged.arranged c.args.fields.now c.args.kids.now in
     ok_weaker c.first_access-in-Some.result _ _
     (λ found h. h
-    ∙ ap (λ o. followed o (first_of bs)) (sym c.in-Some.is ∙ c.in_ok-below-in-Body.ensures)
+    ∙ ap (λ o. option_and_then (first_of bs) o) (sym c.in-Some.is ∙ c.in_ok-below-in-Body.ensures)
     ∙ ap (λ a. access_row c.args.fields.now a c.args.own.now bs c.args.view.now) (sym c.in-Body.is))
     c.first_access-in-Some.ensures
 
@@ -130,7 +130,7 @@ access_row-returns-in-Some-2 g t c =
     let bs = of_nodes g.M.Mapping.rule g.M.Arranged.arranged c.args.fields.now c.args.kids.now in
     ok_weaker c.first_access-in-Some-2.result _ _
     (λ found h. h
-    ∙ ap (λ o. followed o (first_of bs)) (sym c.in-Some-2.is ∙ c.in_ok-below-in-Coded.ensures
+    ∙ ap (λ o. option_and_then (first_of bs) o) (sym c.in-Some-2.is ∙ c.in_ok-below-in-Coded.ensures
     ∙ ap (λ i. coded_view i c.in-Coded.code c.args.view.now) c.from.ensures)
     ∙ ap (λ a. access_row c.args.fields.now a c.args.own.now bs c.args.view.now) (sym c.in-Coded.is))
     c.first_access-in-Some-2.ensures
@@ -138,7 +138,7 @@ access_row-returns-in-Some-2 g t c =
 pub access_row-returns-in-None-2 : goal.access_row-returns-in-None-2
 access_row-returns-in-None-2 g t c =
     let bs = of_nodes g.M.Mapping.rule g.M.Arranged.arranged c.args.fields.now c.args.kids.now in
-    ap (λ o. followed o (first_of bs)) (sym c.in-None-2.is ∙ c.in_ok-below-in-Coded.ensures
+    ap (λ o. option_and_then (first_of bs) o) (sym c.in-None-2.is ∙ c.in_ok-below-in-Coded.ensures
     ∙ ap (λ i. coded_view i c.in-Coded.code c.args.view.now) c.from.ensures)
     ∙ ap (λ a. access_row c.args.fields.now a c.args.own.now bs c.args.view.now) (sym c.in-Coded.is)
 

@@ -1,6 +1,6 @@
 use Rattle.std.proofs.Common.{rules, ◌≡◌, List, length, sym, ap, subst, ◌∙◌, arith, get_or, Bool, true, false}
 use Rattle.std.specs.Prelude.{is_none, not}
-use Rattle.gx_access.specs.declared.access.Slot.{Slot}
+use Rattle.gx_codec.specs.declared.slots.Slot.{Slot}
 use Rattle.gx_access.proofs.ViewSteps.{free_at, free_past}
 use Rattle.gx_access.proofs.views.is_free.Goals as goal
 

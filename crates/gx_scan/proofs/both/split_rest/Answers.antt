@@ -1,6 +1,6 @@
 use Rattle.std.proofs.Common.{◌++◌, ◌∙◌, sym, ap, subst}
 use Rattle.gx_actual.specs.Bodies.{field_bytes, body_of}
-use Rattle.gx_scan.specs.Stored.{stored_value, stored_values, HasCode, HaveCodes}
+use Rattle.gx_codec.specs.Stored.{stored_value, stored_values, HasCode, HaveCodes}
 use Rattle.gx_scan.proofs.BothLemmas.{stored_front}
 use Rattle.gx_scan.proofs.both.split_rest.Goals as goal
 

@@ -2,7 +2,7 @@ use Rattle.std.proofs.Common.{rules, ◌≡◌, ◌<◌, ◌++◌, ◌∙◌, �
 use Rattle.std.specs.Prelude.{IsSomeAnd}
 use Rattle.gx_actual.specs.Bodies.{field_bytes, body_of}
 use Rattle.gx_scan.specs.Files.{rec_of}
-use Rattle.gx_scan.specs.Stored.{stored_rec, stored_value, stored_values, HasCode}
+use Rattle.gx_codec.specs.Stored.{stored_rec, stored_value, stored_values, HasCode}
 use Rattle.gx_scan.proofs.ColumnSteps.{alone_stored}
 use Rattle.gx_scan.proofs.by_columns.read_alone.Goals as goal
 

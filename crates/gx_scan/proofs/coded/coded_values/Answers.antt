@@ -3,7 +3,7 @@ use Rattle.std.specs.Prelude.{IsSomeAnd}
 use Rattle.gx_values.specs.Values.{AreFit}
 use Rattle.gx_actual.specs.Bodies.{body_of}
 use Rattle.gx_scan.specs.Files.{rec_of}
-use Rattle.gx_scan.specs.Stored.{stored_rec, stored_values}
+use Rattle.gx_codec.specs.Stored.{stored_rec, stored_values}
 use Rattle.gx_scan.proofs.coded.coded_values.Goals as goal
 
 pub returns-in-Some-clause-read : goal.returns-in-Some-clause-read

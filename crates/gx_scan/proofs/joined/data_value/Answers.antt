@@ -1,45 +1,44 @@
-use Rattle.std.proofs.Common.{◌+◌, ◌∙◌, drop, get_or, false, refl, sym, ap}
-use Rattle.std.specs.Prelude.{pos}
-use Rattle.gx_values.specs.declared.values.Value.TheVariants as value
+use Rattle.std.proofs.Common.{◌+◌, ◌<◌, ◌∙◌, Some, None, length, map, get_or, cond, false, sym, ap, subst, arith}
+use Rattle.std.specs.Prelude.{not}
+use Rattle.std.proofs.lemmas.List.{length-map}
+use Rattle.gx_laws.proofs.ListLemmas.{turned_at}
+use Rattle.gx_values.specs.Values.{no_value}
 use Rattle.gx_actual.specs.Bodies.{body_of}
-use Rattle.gx_actual.proofs.BodyLemmas.{item_short}
-use Rattle.gx_split.specs.Groups.{chosen}
-use Rattle.gx_scan.proofs.JoinLemmas.{joined_at, left_out, kept}
+use Rattle.gx_mapping.proofs.FieldLemmas.{fit_length}
+use Rattle.gx_codec.specs.Layouts.{IsFront}
+use Rattle.gx_codec.proofs.LayoutLemmas.{marked_laid, marked_have}
+use Rattle.gx_scan.proofs.ScanLemmas.{none_past}
 use Rattle.gx_scan.proofs.joined.data_value.Goals as goal
 
-pub loop-at-preserved-then-not-mask-at : goal.loop-at-preserved-then-not-mask-at
-loop-at-preserved-then-not-mask-at c = λ vs fit same.
-    let i = c.loop-at.at in
-    let mask = c.args.mask.now in
-    let at = joined_at c.args.fields.now mask vs i c.index-fields-at.result (get_or mask i false)
-    fit c.loop-at-test.true c.requires.long c.index-fields-at.is refl in
-    c.loop-at.invariant vs fit same ∙ at.first
-    ∙ left_out (get_or mask i false) _ _ c.if-not-mask-at.true
+pub returns-then-index-fields : goal.returns-then-index-fields
+returns-then-index-fields c = λ vs fit first others.
+    none_past c.args.fields.now vs c.args.index fit
+    (omega (arith, c.if-index-fields.true))
 
-pub split_value-requires : goal.split_value-requires
-split_value-requires c =
-    item_short c.args.fields.now c.index-fields-at.result c.loop-at.at c.requires.short
-    c.loop-at-test.true c.index-fields-at.is
-
-pub returns-then-at-index : goal.returns-then-at-index
-returns-then-at-index c = λ vs fit same.
-    let i = c.loop-at.at in
+pub returns-then-mask-index : goal.returns-then-mask-index
+returns-then-mask-index c = λ vs fit first others.
     let mask = c.args.mask.now in
-    let at = joined_at c.args.fields.now mask vs i c.index-fields-at.result (get_or mask i false)
-    fit c.loop-at-test.true c.requires.long c.index-fields-at.is refl in
-    let found = c.in_ok-value.ensures.found at.value
-    (body_of (chosen (drop (i + 1) mask) (drop (i + 1)
-    vs)))
-    at.fits (c.loop-at.invariant vs fit same ∙ at.first
-    ∙ kept (get_or mask i false) _ _ c.if-not-mask-at.false) in
-    found.0 ∙ sym at.is ∙ ap (λ i. get_or vs i (value.Int (pos 0))) c.if-at-index.true
+    let i = c.args.index in
+    subst (λ b. IsFront (cond b (Some None) None) (get_or vs i no_value) c.front_at.result)
+    c.if-mask-index.true
+    (c.front_at.ensures vs fit (marked_have mask 0 vs)
+    (first ∙ ap body_of (sym (marked_laid mask 0 vs (omega (
+      arith,
+      c.requires.long,
+      fit_length c.args.fields.now vs fit,
+    ))))))
 
-pub loop-at-preserved : goal.loop-at-preserved
-loop-at-preserved c = λ vs fit same.
-    let i = c.loop-at.at in
+pub returns-else-mask-index : goal.returns-else-mask-index
+returns-else-mask-index c = λ vs fit first others.
     let mask = c.args.mask.now in
-    let at = joined_at c.args.fields.now mask vs i c.index-fields-at.result (get_or mask i false)
-    fit c.loop-at-test.true c.requires.long c.index-fields-at.is refl in
-    (c.in_ok-value.ensures.found at.value (body_of (chosen (drop (i + 1) mask) (drop (i + 1) vs)))
-    at.fits (c.loop-at.invariant vs fit same ∙ at.first
-    ∙ kept (get_or mask i false) _ _ c.if-not-mask-at.false)).1
+    let i = c.args.index in
+    let lt : i < length mask = omega (arith, c.if-index-fields.false, c.requires.long) in
+    subst (λ b. IsFront (cond b (Some None) None) (get_or vs i no_value) c.front_at-else-mask-index.result)
+    (sym (turned_at mask i false lt (sym c.if-mask-index.false)))
+    (c.front_at-else-mask-index.ensures vs fit (marked_have (map not mask) 0 vs)
+    (others ∙ ap body_of (sym (marked_laid (map not mask) 0 vs (omega (
+      arith,
+      c.requires.long,
+      fit_length c.args.fields.now vs fit,
+      length-map mask not,
+    ))))))

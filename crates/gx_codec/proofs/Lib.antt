@@ -1,0 +1,4 @@
+pub mod StoredLemmas
+pub mod LayoutLemmas
+pub mod LengthLemmas
+pub mod SlotLemmas

@@ -1,0 +1,4 @@
+pub mod Restored
+pub mod AtKey
+pub mod Forms
+pub mod Whole
