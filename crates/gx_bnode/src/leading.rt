@@ -55,6 +55,7 @@ pub fn fork_for(page: &[u8], key: &[u8]) -> Option<Fork>
 
 // The way to a key among the `count` branches that the bytes begin with, behind a first child, and
 // the number of their bytes. None where they begin with no such branches whose separators ascend.
+#[inline(never)]
 fn lead(bytes: &[u8], count: u16, first: u32, key: &[u8]) -> Option<(Way, usize)>
     requires { 0 < count }
     ensures { MatchOption result (¬ HoldsAscending count bytes.now)
@@ -83,6 +84,7 @@ fn lead(bytes: &[u8], count: u16, first: u32, key: &[u8]) -> Option<(Way, usize)
 }
 
 // The way to a key where one more branch stands behind the `place` ones that were looked at.
+#[inline(always)]
 fn pass(way: Way, place: u16, separator: &[u8], right: u32, key: &[u8]) -> Way
     requires { place < 65535 }
     ensures { (first : ℕ) (branches : List Branch) (branch : Branch) → length branches ≡ place

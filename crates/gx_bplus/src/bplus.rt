@@ -32,8 +32,8 @@ pub fn make<P: Pages>(pages: &mut P, place: &Place) -> Result<(), Failed>
 
 /// Sets one pair, of a key of at most `MAX_KEY_LEN` bytes, with its body at most `MAX_ENTRY_LEN`.
 /// Each page on the way to the key is walked once, and one is written; where that has no room for
-/// the pair, or an inner page on the way none for a separator, the tree grows. After a refusal the pages of this owner may hold anything. After `Fault`
-/// the pages are to be opened again.
+/// the pair, or an inner page on the way none for a separator, the tree grows. After a refusal the
+/// pages of this owner may hold anything. After `Fault` the pages are to be opened again.
 pub fn put<P: Pages>(pages: &mut P, place: &Place, key: &[u8], body: &[u8]) -> Result<(), Stop>
     requires kind { place.now.spec.kind ≡ kinds.Bplus }
     requires place { IsPlace (P.ground pages.old) place.now }

@@ -38,18 +38,18 @@ pub fn select<P: Pages>(
     let mut page = [0; PAGE_LEN];
     let mut key = KeyBuf::from_slice(span.lo.as_slice());
     for _ in 0..pages.pages() {
-        let way = find(pages, place, key.as_slice(), &mut page)?;
+        let mut bound = None;
+        let at = find(pages, place, key.as_slice(), &mut page, &mut bound)?;
         if !give(alloc, &page, key.as_slice(), span, out)? {
-            return Err(Stop::Damaged(pages.block(way.page)));
+            return Err(Stop::Damaged(pages.block(at)));
         }
-        let bound = way.bound;
-        let Some(next) = bound else {
+        let Some(next) = &bound else {
             return Ok(());
         };
         if is_past(span, next.as_slice()) {
             return Ok(());
         }
-        key = next;
+        key = KeyBuf::from_slice(next.as_slice());
     }
     Err(Stop::Damaged(pages.block(place.root)))
 }

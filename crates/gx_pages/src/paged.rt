@@ -9,10 +9,10 @@ use gx_ports::{PageView, Pages, Stop};
 
 /// Pages with owners, over a journal.
 ///
-/// The first pages, as many as `table_pages` gives, are the table of the owners: the number of page p stands in two
-/// bytes, big endian, at byte 2 (p % 2048) of page p / 2048. A call that reads or changes an owner
-/// reads one page of the table. `claim` looks for a free page where the last one was claimed or
-/// freed, and reads each page of the table once at most.
+/// The first pages, as many as `table_pages` gives, are the table of the owners: the number of page
+/// p stands in two bytes, big endian, at byte 2 (p % 2048) of page p / 2048. A call that reads or
+/// changes an owner reads one page of the table. `claim` looks for a free page where the last one
+/// was claimed or freed, and reads each page of the table once at most.
 #[derive(Drop)]
 pub struct Paged<D: Device> {
     journal: Journal<D>,

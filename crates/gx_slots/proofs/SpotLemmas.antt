@@ -1,11 +1,10 @@
 -- The spot of a key, as entries are looked at one after the other.
-use Rattle.std.proofs.Common.{◌≡◌, ◌≢◌, inl, inr, ℕ, zero, suc, ◌+◌, ◌-◌, ◌<◌, ◌≤◌, true, false, List, [], ◌∷◌, ◌++◌, length, take, drop, get_or, Option, None, Some, MatchOption, refl, sym, ap, ◌∙◌, subst, arith, length-append}
-use Rattle.std.specs.FinMap as fin
+use Rattle.std.proofs.Common.{◌≡◌, ◌≢◌, ◌↔◌, inl, inr, ℕ, zero, suc, ◌+◌, ◌-◌, ◌<◌, ◌≤◌, true, false, List, [], ◌∷◌, ◌++◌, length, take, drop, get_or, Bool, Option, None, Some, MatchOption, refl, sym, ap, ◌∙◌, subst, arith, length-append}
 use Rattle.std.specs.List.{All, HoldsAt, flat_map, remove, sum_by}
 use Rattle.std.specs.Ordering.{is_le, ordering_reverse}
-use Rattle.std.specs.declared.cmp.Ordering.TheVariants.{Less, Equal, Greater}
+use Rattle.std.specs.declared.cmp.Ordering.TheVariants.{Less, Equal}
 use Rattle.std.proofs.lemmas.Bool.{false≢true, cases_Bool}
-use Rattle.std.proofs.lemmas.Cmp.{nat_list_cmp_total, tied_itself, tied_back}
+use Rattle.std.proofs.lemmas.Cmp.{nat_list_cmp_total, tied_itself}
 use Rattle.std.proofs.lemmas.List.{take_all, drop_all, take-append-le, drop-append-le, get_or_at, get_or-drop, get_or_append_left, drop-drop, length-drop, length_push}
 use Rattle.std.proofs.lemmas.List.Edits.{length-remove}
 use Rattle.std.proofs.lemmas.List.Elements.{All-drop, All-nil, All-push}
@@ -31,11 +30,6 @@ differ_before a key less same =
     let clash : Less ≡ Equal =
     sym less ∙ ap (cmp a) (sym same) ∙ tied_itself nat_list_cmp_total a in cc
 
-pub differ_behind : (a key : List ℕ) → cmp a key ≡ Greater → a ≢ key
-differ_behind a key greater same =
-    let clash : Greater ≡ Equal =
-    sym greater ∙ ap (cmp a) (sym same) ∙ tied_itself nat_list_cmp_total a in cc
-
 differ_over : (key a b : List ℕ) → is_le (cmp key a) ≡ true → cmp a b ≡ Less → b ≢ key
 differ_over key a b le less same =
     let turned : is_le (cmp key a) ≡ false =
@@ -43,24 +37,18 @@ differ_over key a b le less same =
     ∙ ap ordering_reverse (subst (λ (x : List ℕ). cmp a x ≡ Less) same less)) in
     false≢true (sym turned ∙ le)
 
-pub le_of_greater : (a key : List ℕ) → cmp a key ≡ Greater → is_le (cmp key a) ≡ true
-le_of_greater a key greater =
-    ap is_le (nat_list_cmp_total.antisymm key a ∙ ap ordering_reverse greater)
-
-pub le_of_equal : (a key : List ℕ) → cmp a key ≡ Equal → is_le (cmp key a) ≡ true
-le_of_equal a key equal = ap is_le (tied_back nat_list_cmp_total a key equal)
-
-pub same_of : (a key : List ℕ) → cmp a key ≡ Equal → a ≡ key
-same_of a key equal = fin.slice_cmp-IsAntisymmetric fin.nat_cmp-IsAntisymmetric a key equal
-
 -- a key isn't there where its spot is the end
+pub none_there : (key : List ℕ) (entries : List Entry) (sought : Sought)
+    → IsSought key entries sought → length entries ≤ sought.spot.place → sought.is_there ≡ false
+none_there key entries sought is end = elim (cases_Bool sought.is_there) [
+  | inl there ↦ absurd (let found = is.found there in omega (arith, found.0, end))
+  | inr absent ↦ absent
+]
+
 none_at_end : (key : List ℕ) (entries : List Entry) (sought : Sought)
     → IsSought key entries sought → length entries ≤ sought.spot.place
     → All (λ entry. entry.key ≢ key) entries
-none_at_end key entries sought is end = elim (cases_Bool sought.is_there) [
-  | inl there ↦ absurd (let found = is.found there in omega (arith, found.0, end))
-  | inr absent ↦ is.missing absent
-]
+none_at_end key entries sought is end = is.missing (none_there key entries sought is end)
 
 -- one entry more, whose key doesn't stand before the one that is sought
 stays : (key : List ℕ) (entries : List Entry) (entry : Entry) (sought new : Sought)
@@ -98,6 +86,33 @@ stays key entries entry sought new is place at end le found missing =
       missing = missing;
     }
 
+-- what a search came to among these entries, by its parts
+abbrev pub sought_at : ℕ → ℕ → Bool → List Entry → Sought
+sought_at place at is_there entries = record {
+  spot = record { place = place; at = at; end = used_by entries };
+  is_there = is_there;
+}
+
+pub parts_sought : (key : List ℕ) (entries : List Entry) (sought : Sought)
+    → IsSought key entries sought
+    → IsSought key entries (sought_at sought.spot.place sought.spot.at sought.is_there entries)
+parts_sought key entries sought is = record {
+  spot = record { place = is.spot.place; at = is.spot.at; end = refl };
+  rank = is.rank;
+  found = is.found;
+  missing = is.missing;
+}
+
+pub sought_parts : (key : List ℕ) (entries : List Entry) (sought : Sought)
+    → IsSought key entries (sought_at sought.spot.place sought.spot.at sought.is_there entries)
+    → sought.spot.end ≡ used_by entries → IsSought key entries sought
+sought_parts key entries sought is end = record {
+  spot = record { place = is.spot.place; at = is.spot.at; end = end };
+  rank = is.rank;
+  found = is.found;
+  missing = is.missing;
+}
+
 -- the spot was passed before
 pub passed_on : (key : List ℕ) (entries : List Entry) (entry : Entry) (sought new : Sought)
     → AreAscending (entries ++ entry ∷ []) → IsSought key entries sought
@@ -131,33 +146,22 @@ passed_on key entries entry sought new ascending is inside place at end there_is
     (λ absent. All-push (λ e. e.key ≢ key) entries entry (is.missing (sym there_is ∙ absent))
     (differ_over key (get_or entries i entry).key entry.key le less))
 
--- the entry has the key
-pub passed_equal : (key : List ℕ) (entries : List Entry) (entry : Entry) (sought new : Sought)
+-- its key doesn't stand before
+pub passed_stop : (key : List ℕ) (entries : List Entry) (entry : Entry) (sought new : Sought)
     → IsSought key entries sought → length entries ≤ sought.spot.place
     → new.spot.place ≡ sought.spot.place → new.spot.at ≡ sought.spot.at
-    → new.spot.end ≡ used_by (entries ++ entry ∷ []) → new.is_there ≡ true
-    → cmp entry.key key ≡ Equal → IsSought key (entries ++ entry ∷ []) new
-passed_equal key entries entry sought new is over place at end there_is equal =
+    → new.spot.end ≡ used_by (entries ++ entry ∷ []) → is_le (cmp key entry.key) ≡ true
+    → (new.is_there ≡ true ↔ entry.key ≡ key) → IsSought key (entries ++ entry ∷ []) new
+passed_stop key entries entry sought new is over place at end le same =
     let i : sought.spot.place ≡ length entries = omega (arith, over, is.rank.within) in
-    stays key entries entry sought new is place at end (le_of_equal entry.key key equal)
-    (λ _. (
+    stays key entries entry sought new is place at end le
+    (λ there. (
       omega (arith, is.rank.within, length_push entries entry),
       λ d. ap (λ (e : Entry). e.key) (get_or_at entries entry [] d sought.spot.place (sym i))
-          ∙ same_of entry.key key equal,
+          ∙ same.0 there,
     ))
-    (λ absent. absurd (false≢true (sym absent ∙ there_is)))
-
--- its key stands behind
-pub passed_greater : (key : List ℕ) (entries : List Entry) (entry : Entry) (sought new : Sought)
-    → IsSought key entries sought → length entries ≤ sought.spot.place
-    → new.spot.place ≡ sought.spot.place → new.spot.at ≡ sought.spot.at
-    → new.spot.end ≡ used_by (entries ++ entry ∷ []) → new.is_there ≡ false
-    → cmp entry.key key ≡ Greater → IsSought key (entries ++ entry ∷ []) new
-passed_greater key entries entry sought new is over place at end absent greater =
-    stays key entries entry sought new is place at end (le_of_greater entry.key key greater)
-    (λ there. absurd (false≢true (sym absent ∙ there)))
-    (λ _. All-push (λ e. e.key ≢ key) entries entry (none_at_end key entries sought is over)
-    (differ_behind entry.key key greater))
+    (λ absent. All-push (λ e. e.key ≢ key) entries entry (none_at_end key entries sought is over)
+    (λ is_key. false≢true (sym absent ∙ same.1 is_key)))
 
 -- its key stands before
 pub passed_less : (key : List ℕ) (entries : List Entry) (entry : Entry) (sought new : Sought)

@@ -9,8 +9,7 @@ ghost use Rattle.gx_slots.specs.Spots.{IsSought};
 use crate::format::split_entry;
 use crate::page::KIND;
 use gx_bytes::{HEADER_LEN, has_kind, page_body, record_count};
-use gx_order::{compare_bytes, is_below};
-use std::cmp::Ordering;
+use gx_order::is_below;
 
 /// A place among the entries of a page, with what an edit there needs to know.
 #[derive(Clone, Copy, Debug)]
@@ -67,6 +66,7 @@ fn nothing() -> Sought
 
 // The spot of a key among the `count` entries that the bytes begin with. None where they begin with
 // no such entries whose keys ascend.
+#[inline(never)]
 fn seek_among(bytes: &[u8], count: u16, key: &[u8]) -> Option<Sought>
     requires { 0 < count }
     ensures { MatchOption result (¬ HoldsAscending count bytes.now)
@@ -74,13 +74,11 @@ fn seek_among(bytes: &[u8], count: u16, key: &[u8]) -> Option<Sought>
         × IsSought key.now (entries_in count bytes.now) sought) }
 {
     let ((first, _), behind) = split_entry(bytes)?;
-    let mut sought = pass(
-        nothing(),
-        0,
-        first,
-        HEADER_LEN + (bytes.len() - behind.len()),
-        key,
-    );
+    let start = begin(first, HEADER_LEN + (bytes.len() - behind.len()), key);
+    // The parts of a `Sought` one by one, so that they stay in registers.
+    let mut spot = start.spot.place;
+    let mut at = start.spot.at;
+    let mut is_there = start.is_there;
     let mut last = first;
     let mut rest = behind;
     for place in 1..count {
@@ -88,48 +86,49 @@ fn seek_among(bytes: &[u8], count: u16, key: &[u8]) -> Option<Sought>
         if !is_below(last, found) {
             return None;
         }
-        sought = pass(
-            sought,
-            place,
-            found,
-            HEADER_LEN + (bytes.len() - behind.len()),
-            key,
-        );
+        if spot == place {
+            if is_below(found, key) {
+                spot = place + 1;
+                at = HEADER_LEN + (bytes.len() - behind.len());
+            } else {
+                is_there = found == key;
+            }
+        }
         last = found;
         rest = behind;
     }
-    Some(sought)
+    let end = HEADER_LEN + (bytes.len() - rest.len());
+    let spot = Spot {
+        place: spot,
+        at,
+        end,
+    };
+    Some(Sought { spot, is_there })
 }
 
-// What a search came to, with one more entry behind the `place` ones that it looked at, which has
-// the key `found` and ends at `end`.
-fn pass(sought: Sought, place: u16, found: &[u8], end: usize, key: &[u8]) -> Sought
-    requires { place < 65535 }
-    ensures { (entries : List Entry) (entry : Entry) → length entries ≡ place
-        → entry.key ≡ found.now → end ≡ used_by (entries ++ entry ∷ [])
-        → AreAscending (entries ++ entry ∷ []) → IsSought key.now entries sought
-        → IsSought key.now (entries ++ entry ∷ []) result }
+// What a search came to behind the first entry, which has the key `found` and ends at `end`.
+fn begin(found: &[u8], end: usize, key: &[u8]) -> Sought
+    ensures { (entry : Entry) → entry.key ≡ found.now → end ≡ used_by (entry ∷ [])
+        → IsSought key.now (entry ∷ []) result }
 {
-    let spot = Spot { end, ..sought.spot };
-    if spot.place < place {
-        return Sought { spot, ..sought };
+    if is_below(found, key) {
+        let spot = Spot {
+            place: 1,
+            at: end,
+            end,
+        };
+        return Sought {
+            spot,
+            is_there: false,
+        };
     }
-    match compare_bytes(found, key) {
-        Ordering::Less => Sought {
-            spot: Spot {
-                place: place + 1,
-                at: end,
-                end,
-            },
-            is_there: false,
-        },
-        Ordering::Equal => Sought {
-            spot,
-            is_there: true,
-        },
-        Ordering::Greater => Sought {
-            spot,
-            is_there: false,
-        },
+    let spot = Spot {
+        place: 0,
+        at: HEADER_LEN,
+        end,
+    };
+    Sought {
+        spot,
+        is_there: found == key,
     }
 }

@@ -1,8 +1,8 @@
-use Rattle.std.proofs.Common.{◌∙◌, refl, subst, arith}
+use Rattle.std.proofs.Common.{◌∙◌, refl, sym, subst, arith}
 use Rattle.gx_btree.specs.Bplus.{Seems}
 use Rattle.gx_btree.proofs.CallLemmas.{ends_handed}
 use Rattle.gx_btree.proofs.FileLemmas.{place_past}
-use Rattle.gx_btree.proofs.FindLemmas.{finding_starts, finding_ends, finding_goes, finding_shape, finding_found, finding_torn, finding_lost}
+use Rattle.gx_btree.proofs.FindLemmas.{IsFinding, finding_starts, finding_ends, finding_goes, finding_shape, finding_found, finding_torn, finding_lost}
 use Rattle.gx_btree.specs.declared.reading.Shape.TheVariants as shapes
 use Rattle.gx_ports.specs.Sheets.{IsHome}
 use Rattle.gx_btree.proofs.searching.find.Goals as goal
@@ -10,9 +10,13 @@ use Rattle.gx_btree.proofs.searching.find.Goals as goal
 pub loop-init : goal.loop-init
 loop-init g c = (
   c.requires.bytes,
-  finding_starts g.P.PageView c.args.place.now c.args.key.now c.args.pages.now
+  subst
+      (λ b. IsFinding g.P.PageView c.args.place.now c.args.key.now c.args.pages.now
+      c.args.pages.now c.args.place.now.root c.args.place.now.root b 0)
+      (sym c.requires.unbounded)
+      (finding_starts g.P.PageView c.args.place.now c.args.key.now c.args.pages.now
       (place_past (g.P.PageView.ground c.args.pages.now) c.args.place.now c.requires.place
-      c.requires.kind).below,
+      c.requires.kind).below),
 )
 
 pub returns-in_err-read_kind-clause-ends : goal.returns-in_err-read_kind-clause-ends
@@ -58,7 +62,7 @@ loop-preserved g c =
       finding_goes g.P.PageView c.args.place.now c.args.key.now c.args.pages.now c.loop.pages
           c.loop.from c.loop.at
           c.loop.bound c.loop.invariant.1 c.read_kind.new.pages c.read_kind.new.into
-          c.in-Some.way.page c.in-Some.way.bound e.reads
+          c.in-Some.child c.child_on.new.bound e.reads
           (e.ends.cause.counted refl) e.past
           (subst (λ s. Seems s c.read_kind.new.into) c.in-Inner.is e.shape) e.read
           c.in-Some.ensures,

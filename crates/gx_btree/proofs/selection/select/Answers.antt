@@ -1,11 +1,11 @@
-use Rattle.std.proofs.Common.{◌≡◌, ◌++◌, ◌∙◌, refl, subst, sym, arith, rules}
+use Rattle.std.proofs.Common.{◌≡◌, ◌+◌, ◌++◌, ◌∙◌, refl, subst, sym, arith, rules}
 use Rattle.std.proofs.lemmas.Bool.{false≢true}
 use Rattle.gx_slots.specs.Page.{entries_of}
 use Rattle.gx_btree.specs.Search.{IsFound}
 use Rattle.gx_btree.specs.Selection.{given_from}
 use Rattle.gx_btree.proofs.CallLemmas.{ends_handed}
 use Rattle.gx_btree.proofs.EntryLemmas.{entries_up}
-use Rattle.gx_btree.proofs.SelectingLemmas.{holds_now, selecting_starts, selecting_ends, selecting_goes, selecting_all, selecting_past, selecting_front, selecting_torn, selecting_lost}
+use Rattle.gx_btree.proofs.SelectingLemmas.{IsSelecting, holds_now, selecting_starts, selecting_ends, selecting_goes, selecting_all, selecting_past, selecting_front, selecting_torn, selecting_lost}
 use Rattle.gx_ports.specs.Sheets.{IsHome}
 use Rattle.gx_btree.proofs.selection.select.Goals as goal
 
@@ -15,8 +15,8 @@ loop-init g c =
     c.args.pages.now
     c.args.out.now c.from_slice-key.result (c.from_slice-key.ensures ∙ c.as_slice.ensures.value)
 
-pub returns-in_err-way : goal.returns-in_err-way
-returns-in_err-way g c =
+pub returns-in_err-at : goal.returns-in_err-at
+returns-in_err-at g c =
     record {
       ok = search rules;
       extends = search rules;
@@ -26,7 +26,7 @@ returns-in_err-way g c =
           (selecting_ends g.P.PageView c.args.place.now c.args.span.now.lo c.args.span.now.hi
           c.args.pages.now
           c.args.out.now c.loop.pages c.loop.out c.loop.key c.loop.invariant c.find.new.pages _
-          c.in_err-way.ensures.ends)
+          c.in_err-at.ensures.ends)
           c.from_residual.ensures.1;
       not_full = search rules;
     }
@@ -34,7 +34,7 @@ returns-in_err-way g c =
 pub returns-then-not-branch : goal.returns-then-not-branch
 returns-then-not-branch g c =
     let i = c.loop.invariant in
-    let e = c.in_ok-way.ensures in
+    let e = c.in_ok-at.ensures in
     record {
       ok = search rules;
       extends =
@@ -70,12 +70,12 @@ returns-in_default g c =
       ok = λ m holds.
           let here = holds_now g.P.PageView c.args.place.now lo hi c.args.pages.now c.args.out.now
           c.loop.pages c.loop.out key i m holds in
-          let shown = c.in_ok-way.ensures.shown m here in
+          let shown = c.in_ok-at.ensures.shown m here in
           let found =
           subst (λ b. IsFound holds.file.tree key b es) c.in_default.is
-          (subst (λ k. IsFound holds.file.tree k c.in_ok-way.way.bound es)
+          (subst (λ k. IsFound holds.file.tree k c.find.new.bound es)
           c.as_slice-in-loop.ensures.value
-          (c.in_ok-way.ensures.found m here)) in
+          (c.in_ok-at.ensures.found m here)) in
           selecting_all g.P.PageView c.args.place.now lo hi c.args.pages.now c.args.out.now
           c.loop.pages
           c.loop.out key i
@@ -103,12 +103,12 @@ returns-then-is_past g c =
       ok = λ m holds.
           let here = holds_now g.P.PageView c.args.place.now lo hi c.args.pages.now c.args.out.now
           c.loop.pages c.loop.out key i m holds in
-          let shown = c.in_ok-way.ensures.shown m here in
+          let shown = c.in_ok-at.ensures.shown m here in
           let found =
           subst (λ b. IsFound holds.file.tree key b es) c.in-Some.is
-          (subst (λ k. IsFound holds.file.tree k c.in_ok-way.way.bound es)
+          (subst (λ k. IsFound holds.file.tree k c.find.new.bound es)
           c.as_slice-in-loop.ensures.value
-          (c.in_ok-way.ensures.found m here)) in
+          (c.in_ok-at.ensures.found m here)) in
           selecting_past g.P.PageView c.args.place.now lo hi c.args.pages.now c.args.out.now
           c.loop.pages
           c.loop.out key i
@@ -133,9 +133,13 @@ loop-preserved g c =
     let page = c.find.new.page in
     let es = entries_of page in
     let next = c.in-Some.next in
-    let e = c.in_ok-way.ensures in
-    selecting_goes g.P.PageView c.args.place.now lo hi c.args.pages.now c.args.out.now c.loop.pages
-    c.loop.out key i
+    let e = c.in_ok-at.ensures in
+    subst
+    (λ k. IsSelecting g.P.PageView c.args.place.now lo hi c.args.pages.now c.find.new.pages
+    c.args.out.now c.give.new.out k (c.loop.counter + 1))
+    (sym (c.from_slice-key-in-loop.ensures ∙ c.as_slice-in-loop-4.ensures.value))
+    (selecting_goes g.P.PageView c.args.place.now lo hi c.args.pages.now c.args.out.now
+    c.loop.pages c.loop.out key i
     c.find.new.pages es next c.give.new.out e.reads (e.ends.cause.counted refl)
     c.give.ensures.extends
     (λ m holds.
@@ -147,9 +151,9 @@ loop-preserved g c =
           c.as_slice-in-loop-2.ensures.value
           (c.in_ok-give.ensures.ok shown.0),
       subst (λ b. IsFound holds.file.tree key b es) c.in-Some.is
-          (subst (λ k. IsFound holds.file.tree k c.in_ok-way.way.bound es)
+          (subst (λ k. IsFound holds.file.tree k c.find.new.bound es)
           c.as_slice-in-loop.ensures.value (e.found m here)),
-    ))
+    )))
 
 pub returns : goal.returns
 returns g c =
