@@ -1,5 +1,5 @@
 -- Causes of refusals, and faults that are counted over several calls.
-use Rattle.std.proofs.Common.{◌≡◌, ◌∙◌, ℕ, ◌↔◌, IsTrue, Bool, true, List, [], Some, None, length, get_or, refl, subst, arith}
+use Rattle.std.proofs.Common.{◌≡◌, ◌∙◌, ℕ, ◌≤◌, ◌↔◌, IsTrue, Bool, true, false, List, [], Some, None, length, get_or, refl, subst, arith}
 use Rattle.std.specs.Prelude.{slice_index_or}
 use Rattle.gx_device.specs.Content.{Content, device_at}
 use Rattle.gx_device.specs.Faults.{Counted, Rose}
@@ -29,6 +29,13 @@ counted_still a b same = record {
   later = omega (arith, same);
   rose = λ e. cc;
   same = λ e. same;
+}
+
+pub counted_fault : (a b : ℕ) → a ≤ b → Rose a b → Counted false a b
+counted_fault a b later rose = record {
+  later = later;
+  rose = λ e. rose;
+  same = λ e. absurd (let f : false ≡ true = e in cc);
 }
 
 module _ (schema equation : List ℕ) (specs : List LeafSpec) (blocks : List (List ℕ)) where

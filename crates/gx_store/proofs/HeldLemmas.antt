@@ -27,6 +27,12 @@ pub if_ok_both : {T E : Type 0} (r : Result T E) (P Q R : T → Type 0) → ((x 
 if_ok_both (Ok x) P Q R f p q = f x p q
 if_ok_both (Err e) P Q R f p q = tt
 
+-- what each has where something holds beside it
+pub if_ok_later : {T E : Type 0} (r : Result T E) (X : Type 0) (P : T → Type 0)
+    → (X → IfOk r P) → IfOk r (λ x. X → P x)
+if_ok_later (Ok x) X P f = λ is. f is
+if_ok_later (Err e) X P f = tt
+
 module _ (base : Ground) (specs : List LeafSpec) (maps : List LeafMap) (sheets : Sheets)
     (are : AreMaps base specs maps sheets) where
   pub laid_at : (b : Ground) (ps : List Place) (x : Sheets) → b ≡ base → ps ≡ places_of base specs

@@ -11,10 +11,10 @@ use Rattle.gx_layout.specs.Layout.{bitmap_blocks, table_pages, pages_of, head_of
 use Rattle.gx_layout.specs.Head.{HasMagic}
 use Rattle.gx_journal.specs.State.{head_told}
 use Rattle.gx_journal.specs.declared.journal.Journal.{Journal}
-use Rattle.gx_journal.specs.Journal.{IsSteady, content_of, size_of, working_of, kept_of, kept_head}
+use Rattle.gx_journal.specs.Journal.{IsSteady, content_of, size_of, kept_of, kept_head}
 use Rattle.gx_pages.specs.Owners.{sheets_of}
 use Rattle.gx_pages.specs.Paged.{ground_of, kept_sheets}
-use Rattle.gx_leaves.specs.Places.{IsRoomFor, specs_of, places_of}
+use Rattle.gx_leaves.specs.Places.{specs_of, places_of}
 use Rattle.gx_leaves.specs.Wholeness.{AreLaid, maps_of}
 use Rattle.gx_store.specs.Device.{AreMaps, AreTexts, IsSettled}
 use Rattle.gx_store.specs.Making.{Publishes}
@@ -44,7 +44,7 @@ module _ {M : Type 0} {g : device.Ghosts M} where
       → kept_of new ≡ kept_of old
       → drop 1 (kept_head new) ≡ drop 1 (kept_head old)
       → HasMagic (g.size new.device) (block_of (content_of new).now 0)
-      → Publishes old (kept_of old) (content_of new).now.blocks
+      → Publishes old (content_of new).now.blocks
   sealed_settled old new told sized steady size many kept texts magic =
       λ schema equation specs maps same room are.
       let c = content_of new in
@@ -59,29 +59,6 @@ module _ {M : Type 0} {g : device.Ghosts M} where
       (subst (λ (ps : List (List ℕ)). AreMaps (ground_of new) specs maps (sheets_of ps)) (sym kept)
       (maps_moved (ground_of old) (ground_of new) (sym size) (sym (ap table_pages many)) specs maps
       (sheets_of (kept_of old)) are))
-
-  -- the same after a commit
-  pub published : (old new : Journal M g) (blocks : List (List ℕ))
-      → kept_head new ≡ kept_head old → size_of new ≡ size_of old
-      → g.size new.device ≡ g.size old.device
-      → kept_of new ≡ working_of old
-      → Publishes new (kept_of new) blocks → Publishes old (working_of old) blocks
-  published old new blocks head size many kept is = λ schema equation specs maps same room are.
-      let fits = room.room in
-      is schema equation specs maps (ap (λ (h : List (List ℕ)). drop 1 h) head ∙ same)
-      (record { few = room.few; room = omega (arith, fits, size, ap bitmap_blocks many); built = room.built })
-      (subst (λ (ps : List (List ℕ)). AreMaps (ground_of new) specs maps (sheets_of ps)) (sym kept)
-      (maps_moved (ground_of old) (ground_of new) (sym size) (sym (ap table_pages many)) specs maps
-      (sheets_of (working_of old)) are))
-
-  -- the same over the same ground
-  pub grounded : (old new : Journal M g) (pages blocks : List (List ℕ))
-      → ground_of new ≡ ground_of old → Publishes new pages blocks
-      → Publishes old pages blocks
-  grounded old new pages blocks same is = λ schema equation specs maps texts room are.
-      is schema equation specs maps (ap (λ (b : Ground). drop 1 b.head) same ∙ texts)
-      (subst (λ (b : Ground). IsRoomFor b specs) (sym same) room)
-      (subst (λ (b : Ground). AreMaps b specs maps (sheets_of pages)) (sym same) are)
 
 -- leaves that are whole at their places
 pub maps_placed : (base : Ground) (places : List Place) (sheets : Sheets)

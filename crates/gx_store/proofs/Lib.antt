@@ -13,3 +13,5 @@ pub mod StoredLemmas
 pub mod CrashLemmas
 pub mod NamedLemmas
 pub mod MadeLemmas
+pub mod PreparedLemmas
+pub mod SealedLemmas

@@ -1,5 +1,5 @@
 -- The device of a name, and the others, while one is attached.
-use Rattle.std.proofs.Common.{◌≡◌, ◌≢◌, ◌∙◌, ℕ, Bool, false, List, Some, None, cond, refl, ap}
+use Rattle.std.proofs.Common.{◌≡◌, ◌≢◌, ◌∙◌, ℕ, Bool, false, List, Some, None, cond, refl, sym, ap}
 use Rattle.std.specs.FinMap as fin
 use Rattle.std.specs.Ordering.{eq_by_cmp}
 use Rattle.std.specs.Cmp.Lexicographic.{nat_list_cmp_total}
@@ -31,6 +31,29 @@ named_at m name named =
     ap (λ n. fin.get (with_named n m.blocks m.shelf.devices) name) named
     ∙ fin.get-insert nat_list_cmp_total m.shelf.devices name m.blocks name
     ∙ ap (λ (b : Bool). cond b (Some m.blocks) (fin.get m.shelf.devices name)) (tied name)
+
+-- and the others are as they stand among the rest
+pub other_at : (m : Moment) (name : List ℕ) → m.shelf.name ≡ Some name → (other : List ℕ)
+    → other ≢ name → device_at m other ≡ fin.get m.shelf.devices other
+other_at m name named other differ =
+    let off : eq_by_cmp key_cmp other name ≡ false =
+    false_from_ne_true (eq_by_cmp key_cmp other name) (λ e. differ (same_key other name e)) in
+    ap (λ n. fin.get (with_named n m.blocks m.shelf.devices) other) named
+    ∙ fin.get-insert nat_list_cmp_total m.shelf.devices name m.blocks other
+    ∙ ap (λ (b : Bool). cond b (Some m.blocks) (fin.get m.shelf.devices other)) off
+
+-- a call in which no device is attached, after one of that name was
+pub attaches_later : (name : List ℕ) (a b c : Content) → Attaches name a b
+    → b.now.shelf.name ≡ Some name → Silent b c → Attaches name a c
+attaches_later name a b c first named silent = record {
+  said = silent.said ∙ first.said;
+  script = silent.script ∙ first.script;
+  aside = silent.aside ∙ first.aside;
+  others = λ other differ.
+      other_at c.now name (ap (λ (s : Shelf). s.name) silent.shelf ∙ named) other differ
+      ∙ ap (λ (s : Shelf). fin.get s.devices other) silent.shelf
+      ∙ sym (other_at b.now name named other differ) ∙ first.others other differ;
+}
 
 module _ (name : List ℕ) (blocks : List (List ℕ)) (a b c : Content)
     (at : IsAttached name blocks a b)

@@ -95,10 +95,10 @@ pub record HasNoMagic (start : Moment) (image : Image) : Type 0 where
   pub said : image.said ≡ start.said
   pub shelf : image.shelf ≡ start.shelf
 
--- A device of so many blocks was made, which is a size, and from then on a crash leaves no database,
--- or an empty one.
-pub record Makes (name : List ℕ) (size : ℕ) (schema equation : List ℕ) (specs : List LeafSpec)
-    (old new : Content) : Type 0 where
+-- A device of so many blocks was made, which is a size, and from then on a crash leaves of it what
+-- this says of the moment at which it was attached.
+pub record Begins (left : Moment → Image → Type 0) (name : List ℕ) (size : ℕ)
+    (specs : List LeafSpec) (old new : Content) : Type 0 where
   pub middle : Content
   pub attached : Attached name old middle
   pub fits : IsSize specs size
@@ -106,8 +106,22 @@ pub record Makes (name : List ℕ) (size : ℕ) (schema equation : List ℕ) (sp
   pub count : length middle.now.blocks ≡ size
   pub none_pending : NonePending middle
   pub named : new.now.shelf.name ≡ Some name
-  pub images : LeavesOnly
-      (IsNewImage schema equation specs (replicate (length specs) empty) middle.now) middle new
+  pub images : LeavesOnly (left middle.now) middle new
+
+-- a crash leaves no database
+abbrev pub Prepares : List ℕ → ℕ → List LeafSpec → Content → Content → Type 0
+Prepares name size specs = Begins HasNoMagic name size specs
+
+-- a crash leaves no database, or one with these maps
+abbrev pub Fills : List ℕ → ℕ → List ℕ → List ℕ → List LeafSpec → List LeafMap → Content
+    → Content → Type 0
+Fills name size schema equation specs maps =
+    Begins (IsNewImage schema equation specs maps) name size specs
+
+-- a crash leaves no database, or an empty one
+abbrev pub Makes : List ℕ → ℕ → List ℕ → List ℕ → List LeafSpec → Content → Content → Type 0
+Makes name size schema equation specs =
+    Fills name size schema equation specs (replicate (length specs) empty)
 
 -- what a refusal to make a device adds to that
 abbrev pub UnmakesBy : Content → Content → Unopened → Type 0

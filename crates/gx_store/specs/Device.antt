@@ -8,7 +8,7 @@ use Rattle.gx_ports.specs.Roots.{root_pages}
 use Rattle.gx_ports.specs.Sheets.{Sheets, Ground}
 use Rattle.gx_layout.specs.Layout.{head_blocks, table_pages, pages_of, head_of, home, is_open}
 use Rattle.gx_layout.specs.Recovered.{replayed_pages}
-use Rattle.gx_layout.specs.Head.{HasMagic, text_at, text_area}
+use Rattle.gx_layout.specs.Head.{HasMagic, text_at, text_area, text_blocks}
 use Rattle.gx_layout.specs.declared.places.TheConstants.{TEXT_AREA_LEN, MAX_BLOCKS}
 use Rattle.gx_pages.specs.Owners.{sheets_of}
 use Rattle.gx_leaves.specs.Places.{places_of}
@@ -48,6 +48,14 @@ HasTexts schema equation blocks = AreTexts schema equation (head_of blocks)
 pub record IsHeadOf (schema equation : List ℕ) (specs : List LeafSpec) (head : Head) : Type 0 where
   pub magic : HasMagic head.base.blocks (get_or head.base.head 0 [])
   pub texts : AreTexts schema equation head.base.head
+  pub leaves : head.leaves ≡ specs
+
+-- a head of a device that is laid out under these texts and has no database yet, with leaves of
+-- these kinds
+pub record IsHeadBefore (schema equation : List ℕ) (specs : List LeafSpec)
+    (head : Head) : Type 0 where
+  pub no_magic : ¬ HasMagic head.base.blocks (get_or head.base.head 0 [])
+  pub texts : drop 1 head.base.head ≡ text_blocks schema equation
   pub leaves : head.leaves ≡ specs
 
 -- the table of owners is whole, and so is each leaf of these kinds; these are their maps

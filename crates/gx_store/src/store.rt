@@ -27,8 +27,9 @@ pub fn smallest_device(specs: &[LeafSpec]) -> u32
     head_blocks(0) + 2 * (table_pages(0) + root_pages(specs))
 }
 
-/// Whether a device of so many blocks has room for such leaves, and isn't too large.
-pub(crate) fn is_size(specs: &[LeafSpec], blocks: u32) -> bool
+/// Whether a device of so many blocks has room for at most `MAX_LEAVES` such leaves, and isn't too
+/// large.
+pub fn is_size(specs: &[LeafSpec], blocks: u32) -> bool
     requires { length specs.now ≤ MAX_LEAVES }
     ensures { IsTrue result ↔ IsSize specs.now blocks }
 {

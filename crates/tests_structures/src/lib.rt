@@ -7,3 +7,5 @@ mod readings;
 mod row;
 #[cfg(test)]
 mod structures;
+#[cfg(test)]
+mod walks;

@@ -29,7 +29,7 @@ fn schema_of(alloc: Global, text: &[u8]) -> Result<Schema, Fail>
     ensures valid { IfOk result (λ schema. IsSchema schema) }
     ensures well_formed { IfOk result IsWellFormed }
 {
-    if text.len() >= 100 {
+    if text.len() >= 200 {
         return Err("a long schema".into());
     }
     Ok(read_schema(alloc, text)?)
@@ -38,7 +38,7 @@ fn schema_of(alloc: Global, text: &[u8]) -> Result<Schema, Fail>
 fn equation_of(alloc: Global, text: &[u8]) -> Result<Equation, Fail>
     ensures { IfOk result (λ equation. AreWritten (definitions_of equation.definitions)) }
 {
-    if text.len() >= 100 {
+    if text.len() >= 200 {
         return Err("a long equation".into());
     }
     Ok(read_equation(alloc, text)?)

@@ -1,0 +1,7 @@
+mod StockLemmas
+mod FrontLemmas
+mod GiftLemmas
+mod DueLemmas
+mod CarryLemmas
+mod EndLemmas
+pub mod FitLemmas
