@@ -3,7 +3,6 @@ use Rattle.std.proofs.Common.{◌≡◌, ℕ, ◌+◌, List, [], ◌∷◌, ◌+
 use Rattle.std.specs.Prelude.{min}
 use Rattle.std.proofs.lemmas.List.{append-nil, take-append-le}
 use Rattle.gx_device.specs.Content.{Content}
-use Rattle.gx_ports.specs.declared.stop.Stop.{Stop}
 use Rattle.gx_ports.specs.declared.stop.Stop.TheVariants as stop
 use Rattle.gx_schema.specs.declared.schema.Schema.{Schema}
 use Rattle.gx_schema.specs.Lookups.{file_at}
@@ -15,7 +14,7 @@ use Rattle.gx_types.specs.declared.any.AnyMapping.{AnyMapping}
 use Rattle.gx_types.specs.Build.{AreTreesOfFiles}
 use Rattle.gx_explain.proofs.IndexedLaws.{file_indexed_as}
 use Rattle.gx_model.specs.Play.{End, good, stopped}
-use Rattle.gx_model.specs.Runs.{AreFirstLines}
+use Rattle.gx_model.specs.Languages.{AreFirstLines}
 use Rattle.gx_play.specs.declared.ending.Ending.TheVariants as ending
 use Rattle.gx_play.specs.declared.play.PlayEnd.{PlayEnd}
 use Rattle.gx_play.specs.declared.play.PlayEnd.TheVariants as play_end

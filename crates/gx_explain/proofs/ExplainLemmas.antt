@@ -7,19 +7,19 @@ use Rattle.gx_ports.specs.declared.stop.Stop.{Stop}
 use Rattle.gx_ports.specs.declared.stop.Stop.TheVariants as stop
 use Rattle.gx_schema.specs.declared.schema.Schema.{Schema}
 use Rattle.gx_commands.specs.declared.command.LineWhy.{LineWhy}
-use Rattle.gx_commands.specs.Commands.{inside_after}
 use Rattle.gx_commands.specs.Lines.{Lines, with_line, no_lines, script_lines, stopped as stopped_lines}
 use Rattle.gx_reader.specs.declared.reader.LineReader.{LineReader}
 use Rattle.gx_reader.specs.Reader.{meant, number_of}
 use Rattle.gx_model.specs.Play.{End, good, stopped}
-use Rattle.gx_model.specs.Runs.{IsBadLine, AreFirstLines}
+use Rattle.gx_model.specs.Languages.{AreFirstLines}
+use Rattle.gx_play.specs.Asked.{IsBadLine, inside_behind}
 use Rattle.gx_explain.specs.declared.explanation.ExplainedLine.{ExplainedLine}
 use Rattle.gx_play.specs.declared.play.PlayEnd.{PlayEnd}
 use Rattle.gx_play.specs.declared.play.PlayEnd.TheVariants as play_end
 use Rattle.gx_play.specs.Plays.{IsBadAt, IsLineEnd}
 use Rattle.gx_play.specs.Played.{SaysText, SaysFront}
 use Rattle.gx_play.proofs.PlayLemmas.{parts_more}
-use Rattle.gx_explain.specs.Explained.{command_text, AreExplained, IsExplainEnd, IsExplainedTo, AreFirstExplained}
+use Rattle.gx_explain.specs.Explained.{asked_text, AreExplained, IsExplainEnd, IsExplainedTo, AreFirstExplained}
 use Rattle.gx_explain.specs.Explaining.{IsLineExplained, SaysPlans, IsSoFar, HasEndCause}
 
 module _ (schema : Schema) (indexed : ℕ → List Bool) where
@@ -36,17 +36,16 @@ module _ (schema : Schema) (indexed : ℕ → List Bool) where
       (subst (λ n. AreExplained schema indexed n mid later more final)
       (let e : number + length {A = List ℕ} [] ≡ number = omega arith in e) behind))
   explained_on (line ∷ first) later number inside mid final text more
-      (command, rest, means, placed, front, is) behind = (
-        command,
+      (a, rest, means, front, is) behind = (
+        a,
         rest ++ more,
         means,
-        placed,
-        explained_on first later (number + 1) (inside_after inside command) mid final rest more
+        explained_on first later (number + 1) (inside_behind inside a) mid final rest more
             front
             (subst (λ n. AreExplained schema indexed n mid later more final)
             (let e : number + length (line ∷ first) ≡ number + 1 + length first = omega arith in
             e) behind),
-        ap (λ t. t ++ more) is ∙ append_assoc (command_text schema indexed number command) rest
+        ap (λ t. t ++ more) is ∙ append_assoc (asked_text schema indexed number a) rest
             more,
       )
 
@@ -71,7 +70,7 @@ module _ (schema : Schema) (indexed : ℕ → List Bool) where
       → AreExplained schema indexed 1 false (ran ++ line ∷ []) (text ++ x.text) x.inside
   one_more ran number inside text line x many explained is =
       let one : AreExplained schema indexed (number + 1) inside (line ∷ []) x.text x.inside
-      = (is.command, [], is.means, is.placed, (refl, is.inside_is), is.text_is ∙ sym (append-nil _))
+      = (is.asked, [], is.means, (refl, is.inside_is), is.text_is ∙ sym (append-nil _))
       in
       explained_on ran (line ∷ []) 1 false inside x.inside text x.text explained
       (subst (λ n. AreExplained schema indexed n inside (line ∷ []) x.text x.inside)
@@ -153,7 +152,7 @@ module _ (schema : Schema) (indexed : ℕ → List Bool) where
       (at_stop all left number n inside reason old new so is.0 is.1)
   at_line_end all left number inside (play_end.Stop stop) result old new so result_is is = absurd is
 
-  -- at a line that means no command, or one that may not stand there
+  -- at a line that means neither a path nor a command that may stand there
   at_bad_line : (all before left : Lines) (number : ℕ) (inside : Bool) (line : List ℕ)
       (reason : LineWhy)
       (old new : Content) → before ≡ with_line line left

@@ -1,28 +1,15 @@
 -- The lines of a script are explained by one text, and end in one way.
-use Rattle.std.proofs.Common.{◌≡◌, ℕ, ◌+◌, Bool, false, List, [], ◌∷◌, ◌++◌, length, Option, Some, None, Result, Ok, Err, sym, ap, subst, ◌∙◌, arith, inl, inr}
+use Rattle.std.proofs.Common.{◌≡◌, ℕ, ◌+◌, Bool, false, List, [], ◌∷◌, ◌++◌, length, Option, Some, None, Result, Ok, Err, sym, ap, subst, ◌∙◌, arith}
 use Rattle.gx_schema.specs.declared.schema.Schema.{Schema}
-use Rattle.gx_commands.specs.declared.command.Command.{Command}
 use Rattle.gx_commands.specs.declared.command.LineWhy.{LineWhy}
-use Rattle.gx_commands.specs.Commands.{place_reason, inside_after}
-use Rattle.gx_script.specs.Grammar.{IsLineOf}
 use Rattle.gx_commands.specs.Lines.{Lines, script_lines}
-use Rattle.gx_script.proofs.ReadingLaws.{one_reading, reading_of_line}
 use Rattle.gx_model.specs.Play.{End, stopped, end_text}
-use Rattle.gx_model.specs.Runs.{IsBadLine, AreFirstLines}
-use Rattle.gx_model.proofs.RunLemmas.{some_or, head_or, tail_of, bad_once, command_once, good_not_bad, none_not_some, no_line, later_of}
-use Rattle.gx_explain.specs.Explained.{command_text, AreExplained, IsExplainEnd, IsExplainedTo, IsExplainText}
-
--- ---- a line is good or bad, in one way
-
--- a good line that may stand where it does is not bad there
-placed_not_bad : (schema : Schema) (inside : Bool) (line : List ℕ) (c : Command) (why : LineWhy)
-    → IsLineOf schema line c → place_reason inside c ≡ None → IsBadLine schema inside line why → ⊥
-placed_not_bad schema inside line c why means placed (inl read) =
-    good_not_bad c why (one_reading schema line (Ok c) (Err why)
-    (reading_of_line schema line c means) read)
-placed_not_bad schema inside line c why means placed (inr bad) =
-    none_not_some why (sym placed
-    ∙ ap (place_reason inside) (command_once schema line c bad.0 means bad.1) ∙ bad.2)
+use Rattle.gx_model.specs.Languages.{AreFirstLines}
+use Rattle.gx_model.proofs.LanguageLemmas.{some_or, head_or, tail_of, none_not_some, no_line, later_of}
+use Rattle.gx_play.specs.declared.lines.Asked.{Asked}
+use Rattle.gx_play.specs.Asked.{IsAsked, IsBadLine, inside_behind}
+use Rattle.gx_play.proofs.AskedLemmas.{asked_once, asked_not_bad, bad_once}
+use Rattle.gx_explain.specs.Explained.{asked_text, AreExplained, IsExplainEnd, IsExplainedTo, IsExplainText}
 
 -- ---- the first of the lines that were explained
 
@@ -66,17 +53,17 @@ module _ (schema : Schema) (indexed : ℕ → List Bool) where
       x ∙ ap (stopped (last + 1)) (ap (some_or why) (sym f.1 ∙ g.1)) ∙ sym y
 
   -- a line that was explained isn't one at which it ends
-  not_here : (last : ℕ) (inside : Bool) (all : Lines) (line : List ℕ) (c : Command)
+  not_here : (last : ℕ) (inside : Bool) (all : Lines) (line : List ℕ) (a : Asked)
       (rest : List (List ℕ))
       (next : Result (Option (List ℕ)) LineWhy) (end : End)
-      → IsLineOf schema line c → place_reason inside c ≡ None → all.lines ≡ line ∷ rest
-      → AreFirstLines all [] next → IsExplainEnd schema inside last next end → ⊥
-  not_here last inside all line c rest (Ok None) end means placed parts f x =
+      → IsAsked schema inside line a → all.lines ≡ line ∷ rest → AreFirstLines all [] next
+      → IsExplainEnd schema inside last next end → ⊥
+  not_here last inside all line a rest (Ok None) end means parts f x =
       no_line line rest (sym parts ∙ f.0)
-  not_here last inside all line c rest (Err why) end means placed parts f x =
+  not_here last inside all line a rest (Err why) end means parts f x =
       no_line line rest (sym parts ∙ f.0)
-  not_here last inside all line c rest (Ok (Some other)) end means placed parts f x =
-      placed_not_bad schema inside line c x.0 means placed
+  not_here last inside all line a rest (Ok (Some other)) end means parts f x =
+      asked_not_bad schema inside line x.0 a means
       (subst (λ l. IsBadLine schema inside l x.0) (ap (head_or other) (sym f.1 ∙ parts)) x.1)
 
   more : (last : ℕ) (line : List ℕ) (ran : List (List ℕ)) (next : Result (Option (List ℕ)) LineWhy)
@@ -100,12 +87,12 @@ module _ (schema : Schema) (indexed : ℕ → List Bool) where
   once [] (line ∷ others) last inside all next then a b final other end close x y =
       let e = y.explained in
       let l = later_of line all others then y.first in
-      absurd (not_here (last + 0) inside all line e.0 l.rest next end e.2 e.3 l.parts x.first
+      absurd (not_here (last + 0) inside all line e.0 l.rest next end e.2 l.parts x.first
       (subst (λ i. IsExplainEnd schema i (last + 0) next end) x.explained.1 x.ends))
   once (line ∷ ran) [] last inside all next then a b final other end close x y =
       let e = x.explained in
       let l = later_of line all ran next x.first in
-      absurd (not_here (last + 0) inside all line e.0 l.rest then close e.2 e.3 l.parts y.first
+      absurd (not_here (last + 0) inside all line e.0 l.rest then close e.2 l.parts y.first
       (subst (λ i. IsExplainEnd schema i (last + 0) then close) y.explained.1 y.ends))
   once (line ∷ ran) (another ∷ others) last inside all next then a b final other end close x y =
       let l = later_of line all ran next x.first in
@@ -113,23 +100,23 @@ module _ (schema : Schema) (indexed : ℕ → List Bool) where
       let parts : line ∷ l.rest ≡ another ∷ m.rest = sym l.parts ∙ m.parts in
       let p = x.explained in
       let q = y.explained in
-      let same : p.0 ≡ q.0 = command_once schema another p.0 q.0
-      (subst (λ t. IsLineOf schema t p.0) (ap (head_or line) parts) p.2) q.2 in
-      let rest = once ran others (last + 1) (inside_after inside q.0)
+      let same : p.0 ≡ q.0 = asked_once schema inside another p.0 q.0
+      (subst (λ t. IsAsked schema inside t p.0) (ap (head_or line) parts) p.2) q.2 in
+      let rest = once ran others (last + 1) (inside_behind inside q.0)
       (record { lines = m.rest; stop = all.stop }) next then p.1 q.1 final other end close
       (record {
         first = subst (λ ls. AreFirstLines (record { lines = ls; stop = all.stop }) ran next)
             (ap tail_of parts) l.first;
-        explained = subst (λ c. AreExplained schema indexed (last + 1 + 1) (inside_after inside c)
-            ran p.1 final) same p.4;
+        explained = subst (λ a. AreExplained schema indexed (last + 1 + 1) (inside_behind inside a)
+            ran p.1 final) same p.3;
         ends = more last line ran next final end x.ends;
       })
       (record {
         first = m.first;
-        explained = q.4;
+        explained = q.3;
         ends = more last another others then other close y.ends;
       }) in
-      (p.5 ∙ (λ i. command_text schema indexed (last + 1) (same i) ++ rest.0 i) ∙ sym q.5, rest.1)
+      (p.4 ∙ (λ i. asked_text schema indexed (last + 1) (same i) ++ rest.0 i) ∙ sym q.4, rest.1)
 
   from_0 : (all : Lines) (end : End) (text : List ℕ)
       → (x : IsExplainedTo schema indexed all end text)

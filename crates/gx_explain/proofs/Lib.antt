@@ -3,3 +3,4 @@ mod IndexedLaws
 mod ExplainLemmas
 pub mod ExplainOnceLemmas
 pub mod ExplainEndLemmas
+pub mod DirectionLemmas

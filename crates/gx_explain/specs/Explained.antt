@@ -1,21 +1,28 @@
--- What `explain` says: the plan of each `find` of a script, by the fields that are indexed in the
--- terms of its files.
-use Rattle.std.specs.Prelude.{◌≡◌, ◌⊎◌, ℕ, ◌+◌, List, [], ◌∷◌, ◌++◌, length, map, Bool, false, Option, Some, None, Result, Ok, Err}
+-- What `explain` says: the plan of each `find` of a script and the direction of each path, by the
+-- fields that are indexed in the terms of its files.
+use Rattle.std.specs.Prelude.{◌≡◌, ◌⊎◌, ℕ, ◌+◌, List, [], ◌∷◌, ◌++◌, length, map, Bool, false, Option, Some, None, Result, Ok, Err, nat_lt, if◌then◌else◌, codes}
+use Rattle.std.specs.Fmt.{decimal}
 use Rattle.gx_device.specs.Content.{Content}
 use Rattle.gx_schema.specs.declared.schema.Schema.{Schema}
 use Rattle.gx_schema.specs.Lookups.{file_at}
 use Rattle.gx_commands.specs.declared.command.Command.{Command}
 use Rattle.gx_commands.specs.declared.command.Command.TheVariants as command
 use Rattle.gx_commands.specs.declared.command.LineWhy.{LineWhy}
-use Rattle.gx_commands.specs.Commands.{place_reason, inside_after}
-use Rattle.gx_script.specs.Grammar.{IsLineOf}
+use Rattle.gx_commands.specs.declared.path.PathQuery.{PathQuery}
 use Rattle.gx_commands.specs.Lines.{Lines, script_lines}
 use Rattle.gx_equation.specs.Trees.{DefinitionTree}
 use Rattle.gx_explain.specs.Indexed.{file_indexed}
 use Rattle.gx_planner.specs.Plans.{least_plan}
 use Rattle.gx_planner.specs.Texts.{plan_text}
 use Rattle.gx_model.specs.Play.{End, good, stopped, end_text}
-use Rattle.gx_model.specs.Runs.{IsBadLine, AreFirstLines}
+use Rattle.gx_model.specs.Languages.{AreFirstLines}
+use Rattle.gx_model.specs.Paths.{last_find}
+use Rattle.gx_walks.specs.declared.directions.Direction.{Direction}
+use Rattle.gx_walks.specs.declared.directions.Direction.TheVariants.{Forward, Backward}
+use Rattle.gx_walks.specs.Directions.{find_rank}
+use Rattle.gx_play.specs.declared.lines.Asked.{Asked}
+use Rattle.gx_play.specs.declared.lines.Asked.TheVariants as asked
+use Rattle.gx_play.specs.Asked.{IsAsked, IsBadLine, inside_behind}
 use Rattle.gx_play.specs.declared.status.Status.{Status}
 use Rattle.gx_play.specs.declared.status.Status.TheVariants as status
 use Rattle.gx_play.specs.Endings.{memory_line}
@@ -34,16 +41,42 @@ command_text schema indexed number (command.Find q) =
     plan_text schema number q (least_plan q (indexed q.file))
 command_text schema indexed number other = []
 
+-- from which end a path is walked, where these fields of its first and of its last file are
+-- indexed: from the last one where the plan of a `find` there has a lesser rank
+abbrev pub direction_of : PathQuery → List Bool → List Bool → Direction
+direction_of q first last =
+    if nat_lt (find_rank (last_find q.first q.legs) last) (find_rank q.first first) then Backward
+    else Forward
+
+abbrev pub direction_word : Direction → List ℕ
+direction_word Forward = codes "forward"
+direction_word Backward = codes "backward"
+
+-- what is said of a path in the line of this number, which is walked so
+abbrev pub direction_line : ℕ → Direction → List ℕ
+direction_line number direction =
+    codes "line " ++ decimal number ++ codes ": path " ++ direction_word direction ++ codes "\n"
+
+-- what is said of the path of the line of this number
+abbrev pub path_line : (ℕ → List Bool) → ℕ → PathQuery → List ℕ
+path_line indexed number q =
+    direction_line number
+    (direction_of q (indexed q.first.file) (indexed (last_find q.first q.legs).file))
+
+-- what is said of what the line of this number asks for
+abbrev pub asked_text : Schema → (ℕ → List Bool) → ℕ → Asked → List ℕ
+asked_text schema indexed number (asked.Command c) = command_text schema indexed number c
+asked_text schema indexed number (asked.Path q) = path_line indexed number q
+
 -- Good lines that may stand where they do, the first of which has this number: what is said of all
 -- of them, and whether a transaction is open behind them. None of them is carried out.
 abbrev pub AreExplained : Schema → (ℕ → List Bool) → ℕ → Bool → List (List ℕ) → List ℕ → Bool
     → Type 0
 AreExplained schema indexed number inside [] text final = (text ≡ []) × (final ≡ inside)
 AreExplained schema indexed number inside (line ∷ lines) text final =
-    (c : Command) × (more : List ℕ)
-    × IsLineOf schema line c × (place_reason inside c ≡ None)
-    × AreExplained schema indexed (number + 1) (inside_after inside c) lines more final
-    × (text ≡ command_text schema indexed number c ++ more)
+    (a : Asked) × (more : List ℕ) × IsAsked schema inside line a
+    × AreExplained schema indexed (number + 1) (inside_behind inside a) lines more final
+    × (text ≡ asked_text schema indexed number a ++ more)
 
 -- where it ends behind the line of this number: at the next one, which is bad or can't be had; or
 -- with the script, also where a transaction is open

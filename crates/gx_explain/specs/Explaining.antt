@@ -1,12 +1,9 @@
 -- The steps by which a script is explained.
-use Rattle.std.specs.Prelude.{◌≡◌, ℕ, ◌+◌, List, [], ◌++◌, length, map, Bool, false, None, Result, Ok, Err}
+use Rattle.std.specs.Prelude.{◌≡◌, ℕ, ◌+◌, List, [], ◌++◌, length, map, Bool, false, Result, Ok, Err}
 use Rattle.gx_device.specs.Content.{Content}
 use Rattle.gx_ports.specs.declared.stop.Stop.TheVariants as stop
 use Rattle.gx_schema.specs.declared.schema.Schema.{Schema}
 use Rattle.gx_schema.specs.Lookups.{file_at}
-use Rattle.gx_commands.specs.declared.command.Command.{Command}
-use Rattle.gx_commands.specs.Commands.{place_reason, inside_after}
-use Rattle.gx_script.specs.Grammar.{IsLineOf}
 use Rattle.gx_commands.specs.Lines.{Lines, with_line}
 use Rattle.gx_reader.specs.declared.reader.LineReader.{LineReader}
 use Rattle.gx_reader.specs.Reader.{meant, number_of}
@@ -19,7 +16,9 @@ use Rattle.gx_model.specs.Play.{good, stopped}
 use Rattle.gx_explain.specs.declared.explanation.ExplainedLine.{ExplainedLine}
 use Rattle.gx_play.specs.declared.play.PlayEnd.{PlayEnd}
 use Rattle.gx_play.specs.declared.play.PlayEnd.TheVariants as play_end
-use Rattle.gx_explain.specs.Explained.{command_text, AreExplained, IsExplainedTo, AreFirstExplained}
+use Rattle.gx_play.specs.declared.lines.Asked.{Asked}
+use Rattle.gx_play.specs.Asked.{IsAsked, inside_behind}
+use Rattle.gx_explain.specs.Explained.{asked_text, AreExplained, IsExplainedTo, AreFirstExplained}
 use Rattle.gx_play.specs.Played.{SaysText, SaysFront}
 use Rattle.gx_play.specs.Plays.{HasCause}
 
@@ -31,11 +30,10 @@ fields_in schema nodes file =
 -- a good line that may stand there: what is said of it, and whether a transaction is open behind it
 pub record IsLineExplained (schema : Schema) (indexed : ℕ → List Bool) (inside : Bool) (number : ℕ)
     (line : List ℕ) (x : ExplainedLine) : Type 0 where
-  pub command : Command
-  pub means : IsLineOf schema line command
-  pub placed : place_reason inside command ≡ None
-  pub text_is : x.text ≡ command_text schema indexed number command
-  pub inside_is : x.inside ≡ inside_after inside command
+  pub asked : Asked
+  pub means : IsAsked schema inside line asked
+  pub text_is : x.text ≡ asked_text schema indexed number asked
+  pub inside_is : x.inside ≡ inside_behind inside asked
 
 -- why it ends: with a stop, because a call of the machine failed or there was no memory
 abbrev pub HasEndCause : ℕ → ℕ → PlayEnd → Type 0

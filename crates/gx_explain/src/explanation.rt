@@ -1,4 +1,5 @@
-// What is said of a script that is explained: how each `find` looks for its records.
+// What is said of a script that is explained: how each `find` looks for its records, and from which
+// end each path is walked.
 ghost use Rattle.std.specs.Prelude.{◌≡◌, ◌≤◌, ◌<◌, ◌^◌, ℕ, Err, length, false, IsTrue, IfOk, IfErr, OnOk};
 ghost use Rattle.gx_schema.specs.WellFormed.{IsWellFormed};
 ghost use Rattle.gx_commands.specs.Commands.{IsOfSchema, IsFindOf, conds_of, inside_after};
@@ -7,18 +8,20 @@ ghost use Rattle.gx_types.specs.Nodes.{AreNodes};
 ghost use Rattle.gx_planner.specs.Plans.{least_plan};
 ghost use Rattle.gx_planner.specs.Texts.{plan_text};
 ghost use Rattle.gx_commands.specs.declared.command.LineWhy.{LineWhy};
+ghost use Rattle.gx_play.specs.Asked.{IsAskedOf, inside_behind};
 ghost use Rattle.gx_play.specs.Plays.{IsBadAt, is_play_fault};
 ghost use Rattle.gx_play.specs.Say.{OnlySays, SameDevices};
-ghost use Rattle.gx_explain.specs.Explained.{command_text};
+ghost use Rattle.gx_explain.specs.Explained.{asked_text, command_text};
 ghost use Rattle.gx_reader.specs.Reader.{IsOpen};
 ghost use Rattle.gx_reader.specs.Pieces.{IsTaken};
 ghost use Rattle.gx_explain.specs.Explaining.{fields_in, IsLineExplained, HasEndCause, ExplainsPiece, ExplainsLast, ExplainsLine};
 
+use crate::directions::path_line;
 use gx_commands::{Command, Find};
 use gx_device::Device;
 use gx_finds::indexed_fields;
 use gx_planner::{plan, plan_line};
-use gx_play::{PlayEnd, next_line, placed_command, say_all};
+use gx_play::{Asked, PlayEnd, asked_at, next_line, say_all};
 use gx_ports::Stop;
 use gx_reader::LineReader;
 use gx_schema::Schema;
@@ -34,12 +37,12 @@ struct ExplainedLine {
     inside: bool,
 }
 
-/// Says the plan of each `find` of the lines that end in a piece of a script of the schema, whose
-/// files are stored in these nodes, up to the piece's end or the line that ends it, and answers
-/// whether a transaction is open behind them, as is told of before them. No line is carried out,
-/// and each plan is said whole before the next line is read. On a device that tells its content:
-/// after `Ok` and `Line` exactly the plans up to there were said; after `Stop` those of the first
-/// lines, and after `Stop(Fault)` a front of them. Of a stop, `Fault` comes only where the count of
+/// Says the plan of each `find` and the direction of each path of the lines that end in a piece of
+/// a script of the schema, whose files are stored in these nodes, up to the piece's end or the line
+/// that ends it, and answers whether a transaction is open behind them, as is told of before them.
+/// No line is carried out, and what a line says is said whole before the next one is read. On a
+/// device that tells its content: after `Ok` and `Line` exactly the plans and directions up to
+/// there were said; after `Stop` those of the first lines, and after `Stop(Fault)` a front of them. Of a stop, `Fault` comes only where the count of
 /// faults rose, and the other one is `NoMemory`. No block is written.
 pub fn explain_piece<D: Device>(
     alloc: Global,
@@ -158,13 +161,32 @@ fn explained_line(
         IsBadAt schema.now inside number line.now n why }
     ensures unread { (stop : Stop) → result ≡ Err (PlayEnd.Stop stop) → stop ≡ Stop.NoMemory }
 {
-    let command = placed_command(alloc, schema, inside, number, line)?;
-    match command_text(alloc, schema, built, number, &command) {
+    let asked = asked_at(alloc, schema, inside, number, line)?;
+    match asked_text(alloc, schema, built, number, &asked) {
         Ok(text) => Ok(ExplainedLine {
             text,
-            inside: inside_after(inside, &command),
+            inside: inside_behind(inside, &asked),
         }),
         Err(NoMemory) => Err(PlayEnd::Stop(Stop::NoMemory)),
+    }
+}
+
+// What is said of what the line of this number asks for.
+fn asked_text(
+    alloc: Global,
+    schema: &Schema,
+    built: &Built,
+    number: u32,
+    asked: &Asked,
+) -> Result<Octets, NoMemory>
+    requires of_schema { IsAskedOf schema.now asked.now }
+    requires nodes { AreNodes schema.now built.now.files (length built.now.specs) }
+    ensures { IfOk result (λ text.
+        text ≡ asked_text schema.now (fields_in schema.now built.now.files) number asked.now) }
+{
+    match asked {
+        Asked::Command(command) => command_text(alloc, schema, built, number, command),
+        Asked::Path(query) => path_line(alloc, schema, built, number, query),
     }
 }
 
@@ -205,6 +227,16 @@ fn find_line(
     let file = file_def(schema, find.file);
     let indexed = indexed_fields(alloc, file, file_node(built, find.file))?;
     plan_line(alloc, schema, number, find, plan(find, &indexed))
+}
+
+// Whether a transaction is open behind what is asked for.
+fn inside_behind(inside: bool, asked: &Asked) -> bool
+    ensures { result ≡ inside_behind inside asked.now }
+{
+    match asked {
+        Asked::Command(command) => inside_after(inside, command),
+        Asked::Path(_) => inside,
+    }
 }
 
 // Whether a transaction is open behind the command.

@@ -19,8 +19,8 @@ use gx_types::Built;
 use std::alloc::Global;
 
 /// Hears the script of a schema in pieces, whose files are stored in these nodes, and says the plan
-/// of each `find`, and why it ends early. The plan of a line is said before more is heard. No line
-/// is carried out, no block is written, and no device is attached.
+/// of each `find` and the direction of each path, and why it ends early. What a line says is said
+/// before more is heard. No line is carried out, no block is written, and no device is attached.
 pub fn explain_script<M: Machine>(
     alloc: Global,
     schema: &Schema,

@@ -1,2 +1,3 @@
 pub mod LegLemmas
 pub mod LineLemmas
+pub mod FewLemmas

@@ -1,11 +1,12 @@
 // Path lines and the paths that they mean.
-ghost use Rattle.std.specs.Prelude.{◌≡◌, ◌↔◌, Ok, Result, IfOk};
+ghost use Rattle.std.specs.Prelude.{◌≡◌, ◌↔◌, Ok, Result, IfOk, length};
 ghost use Rattle.gx_schema.specs.WellFormed.{IsWellFormed};
 ghost use Rattle.gx_commands.specs.declared.command.LineWhy.{LineWhy};
 ghost use Rattle.gx_commands.specs.declared.path.PathQuery.{PathQuery};
 ghost use Rattle.gx_commands.specs.Cutting.{words_in};
 ghost use Rattle.gx_commands.specs.Paths.{IsPathOf};
 ghost use Rattle.gx_script.specs.Reading.{Gives, AnswersUnlessNoMemory};
+ghost use Rattle.gx_paths.specs.Few.{HasAtMost};
 ghost use Rattle.gx_script.specs.Paths.{is_path, path_at, path_reading, IsPathLine, IsPathReading};
 
 use crate::legs::{by_key, read_legs};
@@ -67,6 +68,8 @@ pub fn read_path(alloc: Global, schema: &Schema, line: &[u8]) -> Result<PathQuer
         IsPathReading schema.now line.now given → IsPathReading schema.now line.now other →
         given ≡ other }
     ensures of_schema { IfOk result (λ q. IsPathOf schema.now q) }
+    // No `find` has more conditions than the line has bytes.
+    ensures few { IfOk result (λ q. HasAtMost (length line.now) q) }
 {
     if !are_characters(line) {
         return Err(NoCommand::Bad(LineWhy::Character));

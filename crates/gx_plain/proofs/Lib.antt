@@ -1,3 +1,4 @@
 pub mod ChangeLemmas
 pub mod CommandLemmas
 pub mod LineLemmas
+pub mod PathLemmas

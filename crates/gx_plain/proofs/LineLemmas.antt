@@ -7,9 +7,11 @@ use Rattle.gx_commands.specs.declared.command.LineWhy.{LineWhy}
 use Rattle.gx_commands.specs.Lines.{Lines, with_line, no_lines, script_lines, stopped as stopped_lines}
 use Rattle.gx_model.specs.States.{empty_state}
 use Rattle.gx_model.specs.Play.{end_at, end_text, start_at}
-use Rattle.gx_model.specs.Runs.{Runs, IsBadLine, IsEnd, AreFirstLines, IsPlayTextFrom}
-use Rattle.gx_model.proofs.RunLemmas.{run_on, one_text}
-use Rattle.gx_plain.specs.Plain.{IsMoment, IsLineDone, IsPlayedOut, IsSoFar, end_of}
+use Rattle.gx_model.specs.Languages.{RunsIn, IsEndIn, AreFirstLines, IsPlayTextIn}
+use Rattle.gx_model.specs.Paths.{with_paths}
+use Rattle.gx_model.proofs.LanguageLemmas.{go_on, one_text_in}
+use Rattle.gx_model.proofs.PathLemmas.{definite_with_paths}
+use Rattle.gx_plain.specs.Plain.{IsMoment, IsBadLine, IsLineDone, IsPlayedOut, IsSoFar, end_of}
 use Rattle.gx_plain.specs.declared.plain.Moment.{Moment}
 use Rattle.gx_plain.specs.declared.plain.PlayEnd.{PlayEnd}
 use Rattle.gx_plain.specs.declared.plain.PlayEnd.TheVariants as play_end
@@ -42,10 +44,11 @@ after_line schema script said now_said answer line m new before left number befo
           ∙ sym (append_assoc so.ran (line ∷ []) left.lines);
       stop_is = so.stop_is ∙ ap (λ (ls : Lines). ls.stop) before_is;
       now = played.next;
-      runs = subst (λ t. Runs schema (start_at (empty_state schema)) (so.ran ++ line ∷ []) t
-          played.next) (ap (λ t. said ++ t) (append-nil answer) ∙ sym said_is)
-          (run_on schema (start_at (empty_state schema)) so.now played.next so.ran (line ∷ []) said
-          (answer ++ []) so.runs (answer, [], played.next, played.step, (refl, refl), refl));
+      runs = subst (λ t. RunsIn (with_paths schema) (start_at (empty_state schema))
+          (so.ran ++ line ∷ []) t played.next) (ap (λ t. said ++ t) (append-nil answer) ∙ sym said_is)
+          (go_on (with_paths schema) (start_at (empty_state schema)) so.now played.next so.ran
+          (line ∷ []) said (answer ++ []) so.runs
+          (answer, [], played.next, played.step, (refl, refl), refl));
       at = played.at;
     }
 
@@ -54,7 +57,7 @@ ended : (schema : Schema) (script said : List ℕ) (m : Moment) (left : Lines) (
     (next : Result (Option (List ℕ)) LineWhy) (last : PlayEnd)
     → (so : IsSoFar schema script said m left number)
     → AreFirstLines (script_lines script) so.ran next
-    → IsEnd schema so.now number next (end_of last)
+    → IsEndIn (with_paths schema) so.now number next (end_of last)
     → IsPlayedOut schema script (said, last)
 ended schema script said m left number next last so first ends = (
   so.now,
@@ -63,7 +66,7 @@ ended schema script said m left number next last so first ends = (
     next = next;
     first = first;
     runs = so.runs;
-    ends = subst (λ n. IsEnd schema so.now n next (end_of last)) (sym so.many) ends;
+    ends = subst (λ n. IsEndIn (with_paths schema) so.now n next (end_of last)) (sym so.many) ends;
   },
 )
 
@@ -115,15 +118,16 @@ at_bad_line schema script said line m before left number reason before_is so bad
 pub play_text : {E : Type 0} (r : Result (List ℕ) E) (schema : Schema) (script said : List ℕ)
     (last : PlayEnd) → IsPlayedOut schema script (said, last)
     → IfOk r (λ text. text ≡ said ++ end_text (end_of last))
-    → IfOk r (IsPlayTextFrom schema (start_at (empty_state schema)) script)
+    → IfOk r (IsPlayTextIn (with_paths schema) (start_at (empty_state schema)) script)
 play_text (Err e) schema script said last out is = tt
 play_text (Ok text) schema script said last out is =
     record { answers = said; final = out.0; end = end_of last; played = out.1; is = is }
 
 pub only_text : {E : Type 0} (r : Result (List ℕ) E) (schema : Schema) (script text : List ℕ)
-    → IfOk r (IsPlayTextFrom schema (start_at (empty_state schema)) script)
-    → IsPlayTextFrom schema (start_at (empty_state schema)) script text
+    → IfOk r (IsPlayTextIn (with_paths schema) (start_at (empty_state schema)) script)
+    → IsPlayTextIn (with_paths schema) (start_at (empty_state schema)) script text
     → IfOk r (λ given. given ≡ text)
 only_text (Err e) schema script text h p = tt
 only_text (Ok given) schema script text h p =
-    one_text schema (start_at (empty_state schema)) script given text h p
+    one_text_in (with_paths schema) (definite_with_paths schema) (start_at (empty_state schema))
+    script given text h p

@@ -1,14 +1,20 @@
 -- What contracts say of the plain program.
-use Rattle.std.specs.Prelude.{◌≡◌, ℕ, ◌<◌, List, ◌++◌, length, Option, None, Some}
+use Rattle.std.specs.Prelude.{◌≡◌, ℕ, ◌<◌, List, ◌++◌, length, Bool, Option, None, Some, Err}
 use Rattle.std.specs.Option.{option_map}
 use Rattle.gx_schema.specs.declared.schema.Schema.{Schema}
 use Rattle.gx_commands.specs.declared.command.Command.{Command}
+use Rattle.gx_commands.specs.declared.command.LineWhy.{LineWhy}
 use Rattle.gx_commands.specs.declared.command.Of.{Of}
+use Rattle.gx_commands.specs.declared.path.Leg.{Leg}
+use Rattle.gx_commands.specs.Paths.{link_of}
 use Rattle.gx_commands.specs.Lines.{Lines, script_lines}
+use Rattle.gx_script.specs.Paths.{is_path, IsPathReading}
 use Rattle.gx_model.specs.States.{State, empty_state}
 use Rattle.gx_model.specs.Commands.{refusal_of, refusal_text}
 use Rattle.gx_model.specs.Play.{Playing, End, good, stopped, start_at}
-use Rattle.gx_model.specs.Runs.{Step, Runs, IsPlayFrom}
+use Rattle.gx_model.specs.Languages.{RunsIn, IsPlayIn}
+use Rattle.gx_model.specs.Paths.{PathOr, with_paths}
+use Rattle.gx_model.specs.Runs.{IsBadLine as IsBadCommandLine}
 use Rattle.gx_plain.specs.declared.plain.Moment.{Moment}
 use Rattle.gx_plain.specs.declared.plain.PlayEnd.{PlayEnd}
 use Rattle.gx_plain.specs.declared.plain.PlayEnd.TheVariants as play_end
@@ -29,6 +35,13 @@ abbrev pub IsOfLink : State → Option Of → Type 0
 IsOfLink s None = Unit {0}
 IsOfLink s (Some of) = of.link < length s.links
 
+-- ---- paths
+
+-- the link and the file of the leg are there
+pub record IsLegIn (s : State) (leg : Leg) : Type 0 where
+  pub link : link_of leg.way < length s.links
+  pub file : leg.find.file < length s.files
+
 -- ---- lines
 
 -- the moment is one of the play
@@ -46,11 +59,17 @@ pub record IsOf (schema : Schema) (m : Moment) : Type 0 where
   pub kept : HasParts schema m.kept
   pub working : IfParts schema m.working
 
+-- the line means neither a path nor a command that may stand there
+abbrev pub IsBadLine : Schema → Bool → List ℕ → LineWhy → Type 0
+IsBadLine schema inside line why =
+    PathOr (is_path line) (IsPathReading schema line (Err why))
+    (IsBadCommandLine schema inside line why)
+
 -- the line is a step of the play, the text is its answer, and the moment is that after it
 pub record IsLineDone (schema : Schema) (p : Playing) (line text : List ℕ)
     (m : Moment) : Type 0 where
   pub next : Playing
-  pub step : Step schema p line text next
+  pub step : (with_paths schema).Goes p line text next
   pub at : IsMoment m next
 
 -- ---- scripts
@@ -63,7 +82,8 @@ end_of (play_end.Stopped number why) = stopped number why
 abbrev pub IsPlayedOut : Schema → List ℕ → List ℕ × PlayEnd → Type 0
 IsPlayedOut schema script x =
     (final : Playing)
-    × IsPlayFrom schema (start_at (empty_state schema)) (script_lines script) x.0 final (end_of x.1)
+    × IsPlayIn (with_paths schema) (start_at (empty_state schema)) (script_lines script) x.0 final
+    (end_of x.1)
 
 -- so many first lines of the script ran, and these are left
 pub record IsSoFar (schema : Schema) (script said : List ℕ) (m : Moment) (left : Lines)
@@ -73,5 +93,5 @@ pub record IsSoFar (schema : Schema) (script said : List ℕ) (m : Moment) (left
   pub lines_are : (script_lines script).lines ≡ ran ++ left.lines
   pub stop_is : (script_lines script).stop ≡ left.stop
   pub now : Playing
-  pub runs : Runs schema (start_at (empty_state schema)) ran said now
+  pub runs : RunsIn (with_paths schema) (start_at (empty_state schema)) ran said now
   pub at : IsMoment m now

@@ -4,6 +4,7 @@
 
 mod changes;
 mod listing;
+mod paths;
 mod plain;
 mod refusals;
 mod replies;

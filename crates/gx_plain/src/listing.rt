@@ -61,7 +61,8 @@ fn is_chosen(state: &PlainState, conds: &[Cond], of: &Option<Of>, row: &Row) -> 
     meets_all(conds, row) && is_member(state, of, &row.key)
 }
 
-fn meets_all(conds: &[Cond], row: &Row) -> bool
+/// Whether the record meets all of the conditions.
+pub(crate) fn meets_all(conds: &[Cond], row: &Row) -> bool
     ensures { result ≡ meets_conds conds.now row.now }
 {
     conds.iter().all(|cond| meets_one(cond, row))
@@ -85,7 +86,8 @@ fn is_member(state: &PlainState, of: &Option<Of>, key: &Value) -> bool
     }
 }
 
-fn has_this_owner(owner: &Value, found: Option<&Value>) -> bool
+/// Whether this is the owner that was found, if one was.
+pub(crate) fn has_this_owner(owner: &Value, found: Option<&Value>) -> bool
     ensures { result ≡ is_owner owner.now (option_map (λ v. v.now) found.entry) }
 {
     match found {

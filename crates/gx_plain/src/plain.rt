@@ -1,19 +1,24 @@
 // The play of a script.
-ghost use Rattle.std.specs.Prelude.{◌≡◌, ◌<◌, List, ℕ, ◌++◌, is_some, IfOk, OnOk, Ok, Err, None};
+ghost use Rattle.std.specs.Prelude.{◌≡◌, ◌<◌, List, ℕ, ◌++◌, is_some, unwrap_or, IfOk, OnOk, Ok, Err, None, true, false};
 ghost use Rattle.gx_schema.specs.WellFormed.{IsWellFormed};
 ghost use Rattle.gx_commands.specs.declared.command.LineWhy.{LineWhy};
 ghost use Rattle.gx_commands.specs.declared.command.NoCommand.TheVariants.{Bad};
 ghost use Rattle.gx_commands.specs.Commands.{IsOfSchema, place_reason};
 ghost use Rattle.gx_script.specs.Grammar.{IsLineOf};
+ghost use Rattle.gx_script.specs.Paths.{is_path};
 ghost use Rattle.gx_model.specs.Commands.{IsAnswer, next_state};
 ghost use Rattle.gx_model.specs.Play.{Playing, IsAnswered, end_at, end_text, after_command, seen_state, start_at, with_working};
-ghost use Rattle.gx_model.specs.Runs.{IsBadLine, IsPlayTextFrom};
+ghost use Rattle.gx_model.specs.Languages.{IsPlayTextIn};
+ghost use Rattle.gx_model.specs.Paths.{with_paths};
+ghost use Rattle.gx_model.specs.Runs.{IsBadLine as IsBadCommandLine};
 ghost use Rattle.gx_model.specs.States.{empty_state};
-ghost use Rattle.gx_plain.specs.Plain.{IsMoment, IsOf, IsLineDone, IsPlayedOut, end_of};
+ghost use Rattle.gx_plain.specs.Plain.{IsMoment, IsOf, IsBadLine, IsLineDone, IsPlayedOut, end_of};
 
 use crate::changes::carry_out;
+use crate::paths::path_text;
 use crate::replies::answer;
 use gx_commands::{Command, LineWhy, NoCommand, ScriptLines, allowed};
+use gx_paths::{is_path, read_path};
 use gx_plain_state::PlainState;
 use gx_rows::{commit_line, stop_line};
 use gx_schema::Schema;
@@ -30,10 +35,10 @@ use std::alloc::Global;
 pub fn play(alloc: Global, schema: &Schema, script: &[u8]) -> Result<Octets, NoMemory>
     requires { IsWellFormed schema.now }
     ensures played { IfOk result
-        (IsPlayTextFrom schema.now (start_at (empty_state schema.now)) script.now) }
+        (IsPlayTextIn (with_paths schema.now) (start_at (empty_state schema.now)) script.now) }
     // There is one such text.
     ensures only { (text : List ℕ) →
-        IsPlayTextFrom schema.now (start_at (empty_state schema.now)) script.now text →
+        IsPlayTextIn (with_paths schema.now) (start_at (empty_state schema.now)) script.now text →
         IfOk result (λ given. given ≡ text) }
 {
     let (said, end) = play_lines(alloc, schema, script)?;
@@ -130,6 +135,61 @@ fn play_line(
         IsBadLine schema.now (is_some moment.old.working) line.now why }
     ensures of_schema { OnOk result (IsOf schema.now moment.new) }
 {
+    if is_path(line) {
+        play_path(alloc, schema, moment, line)
+    } else {
+        play_command(alloc, schema, moment, line)
+    }
+}
+
+// The answer of a line whose first word is `path`.
+fn play_path(
+    alloc: Global,
+    schema: &Schema,
+    moment: &Moment,
+    line: &[u8],
+) -> Result<Octets, NoCommand>
+    requires well_formed { IsWellFormed schema.now }
+    requires of_schema { IsOf schema.now moment.now }
+    requires path { is_path line.now ≡ true }
+    ensures done { (p : Playing) → IsMoment moment.now p →
+        IfOk result (λ text. IsLineDone schema.now p line.now text moment.now) }
+    ensures bad { (why : LineWhy) → result ≡ Err (Bad why) →
+        IsBadLine schema.now (is_some moment.now.working) line.now why }
+{
+    let query = read_path(alloc, schema, line)?;
+    match path_text(alloc, schema, seen(moment), &query) {
+        Ok(text) => Ok(text),
+        Err(NoMemory) => Err(NoCommand::NoMemory),
+    }
+}
+
+// The state of the open transaction, or the last kept one.
+fn seen(moment: &Moment) -> &PlainState
+    ensures { result.now ≡ unwrap_or moment.now.working moment.now.kept }
+{
+    match &moment.working {
+        None => &moment.kept,
+        Some(state) => state,
+    }
+}
+
+// Carries a line out whose first word isn't `path`, and gives its answer.
+fn play_command(
+    alloc: Global,
+    schema: &Schema,
+    moment: &mut Moment,
+    line: &[u8],
+) -> Result<Octets, NoCommand>
+    requires well_formed { IsWellFormed schema.now }
+    requires of_schema { IsOf schema.now moment.old }
+    requires no_path { is_path line.now ≡ false }
+    ensures done { (p : Playing) → IsMoment moment.old p →
+        IfOk result (λ text. IsLineDone schema.now p line.now text moment.new) }
+    ensures bad { (why : LineWhy) → result ≡ Err (Bad why) →
+        IsBadLine schema.now (is_some moment.old.working) line.now why }
+    ensures of_schema { OnOk result (IsOf schema.now moment.new) }
+{
     let command = placed_command(alloc, schema, moment.working.is_some(), line)?;
     match step(alloc, schema, moment, &command) {
         Ok(text) => Ok(text),
@@ -149,7 +209,7 @@ fn placed_command(
     ensures placed { IfOk result (λ command. place_reason inside command ≡ None) }
     ensures of_schema { IfOk result (IsOfSchema schema.now) }
     ensures bad { (why : LineWhy) → result ≡ Err (Bad why) →
-        IsBadLine schema.now inside line.now why }
+        IsBadCommandLine schema.now inside line.now why }
 {
     let command = read_command(alloc, schema, line)?;
     match allowed(inside, &command) {

@@ -136,7 +136,8 @@ fn owner_line(
     }
 }
 
-fn file_def(schema: &Schema, file: u16) -> &FileDef
+/// What the schema says of a file.
+pub(crate) fn file_def(schema: &Schema, file: u16) -> &FileDef
     requires { file < length schema.now.files }
     ensures { result.now ≡ file_at schema.now file }
 {

@@ -11,3 +11,4 @@ pub mod LocalLoops
 pub mod LocalClauses
 pub mod FewConds
 pub mod PathLaws
+pub mod TakenLaws

@@ -1,10 +1,12 @@
 // The parts of commands: a record, an owner, a member, changes, conditions, and the order.
-ghost use Rattle.std.specs.Prelude.{◌≡◌, ◌<◌, ◌≤◌, [], length, drop, IfOk};
+ghost use Rattle.std.specs.Prelude.{◌≡◌, ◌<◌, ◌≤◌, ◌-◌, false, true, None, [], length, drop, slice_index, codes, IfOk};
+ghost use Rattle.std.specs.List.{AllByRecursion};
 ghost use Rattle.gx_tokens.specs.Reading.{map_ok};
 ghost use Rattle.gx_schema.specs.Lookups.{file_at};
 ghost use Rattle.gx_schema.specs.WellFormed.{HasFields, IsWellFormed};
+ghost use Rattle.gx_commands.specs.Words.{is_line_blank};
 ghost use Rattle.gx_commands.specs.Cutting.{words_in, IsRestOf};
-ghost use Rattle.gx_script.specs.Reading.{Gives, record_at, link_and_owner, member_at, change_at, changes_at, cond_at, conds_at, where_at, owner_of_at, of_at, desc_at, order_at};
+ghost use Rattle.gx_script.specs.Reading.{Gives, behind, record_at, link_and_owner, member_at, change_at, changes_at, cond_at, conds_at, where_at, owner_of_at, of_at, desc_at, order_at};
 
 use crate::keywords::{after_keyword, read_op};
 use crate::names::{
@@ -168,9 +170,33 @@ pub fn read_where<'a>(
     }
 }
 
+// How many of the bytes are left without the blanks at their end.
+fn without_blanks(bytes: &[u8]) -> usize
+    ensures within { result ≤ length bytes.now }
+    ensures blanks { AllByRecursion (λ b. is_line_blank b ≡ true) (drop result bytes.now) }
+    ensures ends { 0 < result → is_line_blank (slice_index bytes.now (result - 1)) ≡ false }
+{
+    match bytes {
+        [front @ .., b' ' | b'\t'] => without_blanks(front),
+        _ => bytes.len(),
+    }
+}
+
+// How many bytes stand before the rest, without the blanks right before it.
+fn taken_before(bytes: &[u8], rest: &[u8]) -> usize
+    requires { IsRestOf bytes.now rest.now }
+    ensures words { words_in (drop result bytes.now) ≡ words_in rest.now }
+    ensures within { result ≤ length bytes.now }
+    ensures ends { 0 < result → is_line_blank (slice_index bytes.now (result - 1)) ≡ false }
+{
+    without_blanks(&bytes[..bytes.len() - rest.len()])
+}
+
 /// The conditions at the front of the bytes, for records of the file, and how many bytes they take
-/// with their `where`: none and 0 where the first word isn't `where`. `Bad`: exactly the first
-/// reason why no conditions stand behind that word. `NoMemory`: only where there was none for them.
+/// with their `where`, up to the end of their last word: none and 0 where the first word isn't
+/// `where`. `Bad`: exactly the first reason why no conditions stand behind that word. `NoMemory`:
+/// only where there was none for them.
+#[tactic(auto, unfolding(crate::specs::Reading::where_at))]
 pub fn where_part(
     alloc: Global,
     schema: &Schema,
@@ -181,10 +207,21 @@ pub fn where_part(
     requires file { file < length schema.now.files }
     ensures exact { Gives (λ x. (x.0, words_in (drop x.1 bytes.now))) result
         (where_at (file_at schema.now file) (words_in bytes.now)) }
+    // Without `where` nothing is taken, blanks neither.
+    ensures none { behind (codes "where") (words_in bytes.now) ≡ None →
+        IfOk result (λ x. x ≡ ([], 0)) }
+    // The last byte taken is no blank: it ends the last word of the conditions.
+    ensures ends { IfOk result (λ x. 0 < x.1 →
+        is_line_blank (slice_index bytes.now (x.1 - 1)) ≡ false) }
     ensures within { IfOk result (λ x. x.1 ≤ length bytes.now) }
 {
-    let (conds, rest) = read_where(alloc, file_def(schema, file), bytes)?;
-    Ok((conds, bytes.len() - rest.len()))
+    match after_keyword(bytes, b"where") {
+        None => Ok((Conds(Vec::new(alloc)), 0)),
+        Some(rest) => {
+            let (conds, rest) = read_conds(alloc, file_def(schema, file), rest)?;
+            Ok((conds, taken_before(bytes, rest)))
+        }
+    }
 }
 
 // LINK OWNER, with a link whose members are of the file, and what follows them.

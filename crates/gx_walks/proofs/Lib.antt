@@ -3,3 +3,5 @@ mod WayBack
 mod SetLemmas
 mod LegLemmas
 mod StepLemmas
+mod EngineLemmas
+pub mod DueLemmas

@@ -1,3 +1,5 @@
 pub mod Walks
 pub mod Directions
 pub mod Readers
+pub mod Engines
+pub mod EngineLaws

@@ -28,9 +28,9 @@ pub record Costs : Type 0 where
   pub finds : ℕ → Bool
 
 -- what the way asks for is found by look-ups
-abbrev pub IsFound : Costs → Way → Type 0
-IsFound costs (Down link) = Unit {0}
-IsFound costs (Up link) = IsTrue (costs.finds link)
+abbrev pub IsFound : (ℕ → Bool) → Way → Type 0
+IsFound finds (Down link) = Unit {0}
+IsFound finds (Up link) = IsTrue (finds link)
 
-abbrev pub AreFound : Costs → List Leg → Type 0
-AreFound costs legs = AllByRecursion (λ leg. IsFound costs leg.way) legs
+abbrev pub AreFound : (ℕ → Bool) → List Leg → Type 0
+AreFound finds legs = AllByRecursion (λ leg. IsFound finds leg.way) legs

@@ -37,7 +37,7 @@ pub fn answer<R: LinkReader>(
     ensures steps { (s : State) (c : Costs) (d : TheDirection) →
         IsDirectionOf query.now (R.indexed reader.old query.now.first.file)
         (R.indexed reader.old (last_find query.now.first query.now.legs).file) d →
-        R.holds reader.old s → R.costs reader.old s c → AreFound c (legs_of d query.now) →
+        R.holds reader.old s → R.costs reader.old s c → AreFound c.finds (legs_of d query.now) →
         OnOk result (R.work reader.new ≤ R.work reader.old
         + 2 * (c.candidates (start_of d query.now) + visits d s query.now + 1) * c.look_up) }
     ensures unsaid { OnErr result (out.new ≡ out.old) }

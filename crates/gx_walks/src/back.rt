@@ -30,7 +30,7 @@ pub(crate) fn keep_led<R: LinkReader>(
     ensures set { (s : State) → R.holds reader.old s → IfOk result
         (λ kept. kept.items ≡ filter (comes_back s first.now legs.now) rows.items) }
     ensures steps { (s : State) (c : Costs) → R.holds reader.old s → R.costs reader.old s c →
-        AreFound c (back_legs first.now legs.now) → OnOk result
+        AreFound c.finds (back_legs first.now legs.now) → OnOk result
         (R.work reader.new ≤ R.work reader.old
         + 2 * all_met s (back_legs first.now legs.now) rows.items * c.look_up) }
     ensures calls { R.calls reader.old reader.new (ended result) }
@@ -59,7 +59,7 @@ fn leads_back<R: LinkReader>(
     ensures led { (s : State) → R.holds reader.old s → IfOk result
         (λ led. led ≡ comes_back s first.now legs.now row.now) }
     ensures steps { (s : State) (c : Costs) → R.holds reader.old s → R.costs reader.old s c →
-        AreFound c (back_legs first.now legs.now) → OnOk result
+        AreFound c.finds (back_legs first.now legs.now) → OnOk result
         (R.work reader.new ≤ R.work reader.old
         + 2 * met s (back_legs first.now legs.now) (row.now ∷ []) * c.look_up) }
     ensures calls { R.calls reader.old reader.new (ended result) }
@@ -83,7 +83,7 @@ fn walk_back<R: LinkReader>(
     ensures set { (s : State) → R.holds reader.old s → IfOk result
         (λ set. set.items ≡ after_legs s (back_legs first.now legs.now) rows.now) }
     ensures steps { (s : State) (c : Costs) → R.holds reader.old s → R.costs reader.old s c →
-        AreFound c (back_legs first.now legs.now) → OnOk result
+        AreFound c.finds (back_legs first.now legs.now) → OnOk result
         (R.work reader.new ≤ R.work reader.old
         + 2 * met s (back_legs first.now legs.now) rows.now * c.look_up) }
     ensures calls { R.calls reader.old reader.new (ended result) }

@@ -37,7 +37,7 @@ pub fn path_rows<R: LinkReader>(
     ensures set { (s : State) → R.holds reader.old s →
         IfOk result (λ rows. rows.items ≡ path_rows s query.now) }
     ensures steps { (s : State) (c : Costs) → R.holds reader.old s → R.costs reader.old s c →
-        AreFound c (legs_of direction query.now) → OnOk result
+        AreFound c.finds (legs_of direction query.now) → OnOk result
         (R.work reader.new ≤ R.work reader.old
         + 2 * (c.candidates (start_of direction query.now) + visits direction s query.now + 1)
         * c.look_up) }
@@ -64,7 +64,7 @@ fn forward<R: LinkReader>(
     ensures set { (s : State) → R.holds reader.old s → IfOk result
         (λ rows. rows.items ≡ after_legs s legs.now (chosen s first.now)) }
     ensures steps { (s : State) (c : Costs) → R.holds reader.old s → R.costs reader.old s c →
-        AreFound c legs.now → OnOk result
+        AreFound c.finds legs.now → OnOk result
         (R.work reader.new ≤ R.work reader.old
         + 2 * (c.candidates first.now + met s legs.now (chosen s first.now) + 1) * c.look_up) }
     ensures calls { R.calls reader.old reader.new (ended result) }
@@ -88,7 +88,7 @@ fn backward<R: LinkReader>(
     ensures set { (s : State) → R.holds reader.old s → IfOk result
         (λ rows. rows.items ≡ after_legs s legs.now (chosen s first.now)) }
     ensures steps { (s : State) (c : Costs) → R.holds reader.old s → R.costs reader.old s c →
-        AreFound c (back_legs first.now legs.now) → OnOk result
+        AreFound c.finds (back_legs first.now legs.now) → OnOk result
         (R.work reader.new ≤ R.work reader.old
         + 2 * (c.candidates (last_find first.now legs.now)
         + all_met s (back_legs first.now legs.now) (chosen s (last_find first.now legs.now)) + 1)

@@ -78,7 +78,7 @@ pub trait LinkReader {
             (out.new.items
             ≡ out.old.items ++ linked s (file_behind (schema self.old) way) way key.now) }
         ensures steps { (s : State) (c : Costs) → holds self.old s → costs self.old s c →
-            IsFound c way → OnOk result
+            IsFound c.finds way → OnOk result
             (work self.new ≤ work self.old
             + 2 * (length (linked s (file_behind (schema self.old) way) way key.now) + 1)
             * c.look_up) }

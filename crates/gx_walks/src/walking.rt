@@ -27,7 +27,7 @@ pub(crate) fn walk<R: LinkReader>(
     ensures set { (s : State) → R.holds reader.old s →
         IfOk result (λ set. set.items ≡ after_legs s legs.now rows.now) }
     ensures steps { (s : State) (c : Costs) → R.holds reader.old s → R.costs reader.old s c →
-        AreFound c legs.now → OnOk result
+        AreFound c.finds legs.now → OnOk result
         (R.work reader.new ≤ R.work reader.old + 2 * met s legs.now rows.now * c.look_up) }
     ensures calls { R.calls reader.old reader.new (ended result) }
 {
@@ -55,7 +55,7 @@ pub(crate) fn follow<R: LinkReader>(
     ensures set { (s : State) → R.holds reader.old s → IfOk result
         (λ set. set.items ≡ after_leg s (record { way = way; find = find.now }) rows.now) }
     ensures steps { (s : State) (c : Costs) → R.holds reader.old s → R.costs reader.old s c →
-        IsFound c way → OnOk result
+        IsFound c.finds way → OnOk result
         (R.work reader.new ≤ R.work reader.old
         + 2 * (length rows.now + length (all_linked s find.now.file way rows.now)) * c.look_up) }
     ensures calls { R.calls reader.old reader.new (ended result) }
@@ -81,7 +81,7 @@ fn add_all<R: LinkReader>(
         (out.new.items ≡ out.old.items
         ++ all_linked s (file_behind (R.schema reader.old) way) way rows.now) }
     ensures steps { (s : State) (c : Costs) → R.holds reader.old s → R.costs reader.old s c →
-        IsFound c way → OnOk result
+        IsFound c.finds way → OnOk result
         (R.work reader.new ≤ R.work reader.old
         + 2 * (length rows.now
         + length (all_linked s (file_behind (R.schema reader.old) way) way rows.now))

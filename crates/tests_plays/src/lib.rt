@@ -5,6 +5,8 @@
 #[cfg(test)]
 mod linked;
 #[cfg(test)]
+mod paths;
+#[cfg(test)]
 mod plays;
 #[cfg(test)]
 mod row;

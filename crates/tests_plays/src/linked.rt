@@ -42,10 +42,10 @@ boss = inverted(isam, partition(member 4, actual(hash(2)), actual(heap)))
 
 // Numbers of a linear congruential generator.
 #[derive(Drop)]
-struct Numbers(u64);
+pub(crate) struct Numbers(pub(crate) u64);
 
 impl Numbers {
-    fn below(&mut self, count: u64) -> u64
+    pub(crate) fn below(&mut self, count: u64) -> u64
         requires { 0 < count }
         ensures { result < count }
     {
@@ -73,7 +73,7 @@ impl Numbers {
 
 // Lines that change a few departments and people, and the links between them. D stands for a
 // department, and E and O for people.
-const EDITS: [&str; 12] = [
+pub(crate) const EDITS: [&str; 12] = [
     "insert dept D \"d\"\n",
     "insert emp E \"n\" O \"r\"\n",
     "insert emp E \"n\" O \"r\"\n",
@@ -102,7 +102,11 @@ const QUESTIONS: [&str; 9] = [
 ];
 
 // Appends one of the lines, with one of four departments and two of eight people.
-fn push_line(text: &mut Vec<u8>, numbers: &mut Numbers, lines: &[&str]) -> Result<(), Fail>
+pub(crate) fn push_line(
+    text: &mut Vec<u8>,
+    numbers: &mut Numbers,
+    lines: &[&str],
+) -> Result<(), Fail>
     requires { 0 < length lines.now }
 {
     let (dept, emp, other) = (numbers.digit(4), numbers.digit(8), numbers.digit(8));

@@ -65,29 +65,45 @@ fn machine(
     Ok(machine)
 }
 
-// The words of a request to try the script.
-fn words(alloc: Global) -> Result<Vec<String>, Fail> {
+// The words of a request on the two texts.
+fn words(alloc: Global, request: &str) -> Result<Vec<String>, Fail> {
     let mut words = Vec::new(alloc);
-    for word in "try S E".split(' ') {
+    for word in [request, "S", "E"] {
         words.push(String::from_str(alloc, word)?)?;
     }
     Ok(words)
 }
 
-// A machine on which `try` played a script.
-fn tried(alloc: Global, texts: (&str, &str), script: &[u8]) -> Result<MemoryMachine, Fail> {
+// A machine that a request on a script left.
+fn asked(
+    alloc: Global,
+    request: &str,
+    texts: (&str, &str),
+    script: &[u8],
+) -> Result<MemoryMachine, Fail> {
     let machine = machine(alloc, texts, script)?;
-    Ok(top(alloc, &words(alloc)?, machine).1)
+    Ok(top(alloc, &words(alloc, request)?, machine).1)
 }
 
-// Whether the program says this of a script.
+// Whether the program says this of a script that it plays.
 pub(crate) fn says(
     alloc: Global,
     texts: (&str, &str),
     script: &[u8],
     said: &[u8],
 ) -> Result<bool, Fail> {
-    let machine = tried(alloc, texts, script)?;
+    let machine = asked(alloc, "try", texts, script)?;
+    Ok(machine.said() == said)
+}
+
+// Whether the program says this of the plans of a script.
+pub(crate) fn explains(
+    alloc: Global,
+    texts: (&str, &str),
+    script: &[u8],
+    said: &[u8],
+) -> Result<bool, Fail> {
+    let machine = asked(alloc, "explain", texts, script)?;
     Ok(machine.said() == said)
 }
 

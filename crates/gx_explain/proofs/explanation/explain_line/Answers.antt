@@ -1,4 +1,4 @@
-use Rattle.std.proofs.Common.{◌+◌, ◌++◌, ◌∙◌, Err, refl, sym, ap, subst}
+use Rattle.std.proofs.Common.{◌++◌, ◌∙◌, Err, refl, sym, ap, subst}
 use Rattle.gx_play.specs.Plays.{IsBadAt}
 use Rattle.gx_play.proofs.PlayLemmas.{is_err}
 use Rattle.gx_explain.specs.Explaining.{fields_in, IsExplainedOn, IsLineExplained, IsSoFar}

@@ -3,6 +3,7 @@ use Rattle.std.specs.Prelude.{IfOk}
 use Rattle.gx_script.specs.Reading.{AnswersUnlessNoMemory}
 use Rattle.gx_script.specs.Paths.{IsPathLine, IsPathReading}
 use Rattle.gx_script.proofs.PathLaws.{path_line_found, path_line_again, one_path_reading}
+use Rattle.gx_paths.proofs.FewLemmas.{has_at_most}
 use Rattle.gx_paths.proofs.LineLemmas.{words_read, is_found, is_of_schema}
 use Rattle.gx_paths.proofs.reading.read_path.Goals as goal
 
@@ -27,6 +28,10 @@ returns-clause-exact c = read c
 pub returns-clause-of_schema : goal.returns-clause-of_schema
 returns-clause-of_schema c =
     is_of_schema c.args.schema.now c.args.line.now c.read_words.result (found c)
+
+pub returns-clause-few : goal.returns-clause-few
+returns-clause-few c =
+    has_at_most c.args.schema.now c.args.line.now c.read_words.result (found c)
 
 pub returns-clause-means : goal.returns-clause-means
 returns-clause-means c q = (

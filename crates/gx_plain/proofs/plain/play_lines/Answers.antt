@@ -3,7 +3,7 @@ use Rattle.std.specs.Prelude.{is_some}
 use Rattle.gx_commands.specs.Lines.{with_line}
 use Rattle.gx_commands.proofs.LineCounts.{few_lines}
 use Rattle.gx_model.specs.Play.{end_at}
-use Rattle.gx_model.specs.Runs.{IsBadLine}
+use Rattle.gx_plain.specs.Plain.{IsBadLine}
 use Rattle.gx_plain.proofs.LineLemmas.{at_start, after_line, at_end, at_stop, at_bad_line}
 use Rattle.gx_plain.proofs.plain.play_lines.Goals as goal
 

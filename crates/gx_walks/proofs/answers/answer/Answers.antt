@@ -23,5 +23,5 @@ returns-clause-steps g c = λ s costs d is holds price found.
     subst (λ (x : _). r.work x ≤ most d) (sym (still ∙ c.in_ok-text.ensures.still))
     (subst (λ (e : Direction). r.work c.path_rows.new.reader ≤ most e) (sym same)
     (c.in_ok-rows.ensures.steps s costs holds price
-    (subst (λ (e : Direction). AreFound costs (legs_of e q)) same found))))
+    (subst (λ (e : Direction). AreFound costs.finds (legs_of e q)) same found))))
     c.or_stop-2.ensures.still

@@ -91,8 +91,8 @@ returns-in_ok-set-in-len1-up-clause-steps g t c = λ s costs holds price finds.
     ap (back_legs first) split ∙ back_last first before leg in
     let way : c.way_back-in-len1-up.result ≡ way_back leg.way = c.way_back-in-len1-up.ensures in
     let find : c.last_find-find.result.now ≡ last_find first before = c.last_find-find.ensures in
-    let found : AreFound costs (back ∷ back_legs first before) =
-    subst (AreFound costs) all finds in
+    let found : AreFound costs.finds (back ∷ back_legs first before) =
+    subst (AreFound costs.finds) all finds in
     let set : c.deref.result.now ≡ after_leg s back rows =
     c.deref.ensures.value ∙ own.set s holds
     ∙ (λ k. after_leg s (record { way = way k; find = find k }) rows) in
@@ -107,7 +107,7 @@ returns-in_ok-set-in-len1-up-clause-steps g t c = λ s costs holds price finds.
     (met s (back_legs first before) (after_leg s back rows)) costs.look_up
     (subst (λ (n : ℕ). r.work mid ≤ r.work c.args.reader.now
     + 2 * (length rows + n) * costs.look_up) pairs
-    (own.steps s costs holds price (subst (IsFound costs) (sym way) found.0)))
+    (own.steps s costs holds price (subst (IsFound costs.finds) (sym way) found.0)))
     (subst (λ (l : List Row). r.work c.walk_back.new.reader ≤ r.work mid
     + 2 * met s (back_legs first before) l * costs.look_up) set le)))
     (c.walk_back.ensures.steps s costs (laws.keeps_state _ _ s own.calls holds)

@@ -16,7 +16,7 @@ invariant-loop-row g l =
           → l.kept.items ++ filter (comes_back s l.first l.legs) rest
           ≡ filter (comes_back s l.first l.legs) l.fn.rows.items;
       steps : (s : State) (c : Costs) → r.holds l.fn.reader s → r.costs l.fn.reader s c
-          → AreFound c back → r.work l.reader + 2 * all_met s back rest * c.look_up
+          → AreFound c.finds back → r.work l.reader + 2 * all_met s back rest * c.look_up
           ≤ r.work l.fn.reader + 2 * all_met s back l.fn.rows.items * c.look_up;
       calls : r.calls l.fn.reader l.reader (Ok tt);
     }

@@ -22,7 +22,7 @@ returns-in_ok-set-in-len1-up-clause-steps g t c = λ s costs holds price finds.
     let legs : c.args.legs.now ≡ leg ∷ rest =
     split_first c.args.legs.now leg c.leg-item-2.is
     (omega (arith, c.in-len1-up.len_at_least)) in
-    let all : AreFound costs (leg ∷ rest) = subst (AreFound costs) legs finds in
+    let all : AreFound costs.finds (leg ∷ rest) = subst (AreFound costs.finds) legs finds in
     let set : c.deref.result.now ≡ after_leg s leg rows = search rules in
     on_ok_map c.walk.result (λ le.
     subst (λ (l : List Leg). r.work c.walk.new.reader ≤ r.work c.args.reader.now

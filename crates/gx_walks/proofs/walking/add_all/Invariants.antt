@@ -13,7 +13,7 @@ invariant-loop-row g l =
       found : (s : State) → r.holds l.fn.reader s
           → l.out.items ≡ l.fn.out.items ++ all_linked s file l.way front;
       steps : (s : State) (c : Costs) → r.holds l.fn.reader s → r.costs l.fn.reader s c
-          → IsFound c l.way → r.work l.reader ≤ r.work l.fn.reader
+          → IsFound c.finds l.way → r.work l.reader ≤ r.work l.fn.reader
           + 2 * (length front + length (all_linked s file l.way front)) * c.look_up;
       calls : r.calls l.fn.reader l.reader (Ok tt);
     }
