@@ -2,6 +2,7 @@
 #![tactic(auto)]
 
 mod engine;
+mod pairs;
 mod parts;
 mod records;
 mod reorganize;

@@ -1,5 +1,5 @@
 // The parts of a step that only read records.
-ghost use Rattle.std.specs.Prelude.{◌≡◌, ◌^◌, ◌<◌, ◌+◌, ◌*◌, Err, None, true, length, OnErr};
+ghost use Rattle.std.specs.Prelude.{◌≡◌, ◌^◌, ◌<◌, ◌+◌, ◌*◌, ◌++◌, Err, None, true, length, OnOk, OnErr};
 ghost use Rattle.std.specs.FinMap as fin;
 ghost use Rattle.gx_values.specs.Values.{Fits};
 ghost use Rattle.gx_schema.specs.Lookups.{field_at, file_at, link_at, key_kind};
@@ -11,7 +11,7 @@ ghost use Rattle.gx_types.specs.Links.{linkset_at};
 ghost use Rattle.gx_types.specs.Nodes.{tree_at};
 ghost use Rattle.gx_model.specs.States.{file_in, link_in};
 ghost use Rattle.gx_model.specs.Found.{IsListed, meets_conds};
-ghost use Rattle.gx_model.specs.Play.{Playing, after_command};
+ghost use Rattle.gx_model.specs.Play.{Playing, seen_state, after_command};
 ghost use Rattle.gx_linksets.specs.Stored.{finds_owner};
 ghost use Rattle.gx_pairs.specs.Members.{member_rows};
 ghost use Rattle.gx_pairs.specs.Owners.{owner_look_ups};
@@ -19,9 +19,11 @@ ghost use Rattle.gx_answers.specs.Work.{candidates};
 ghost use Rattle.gx_engine.specs.Records.{AreOwner};
 
 use crate::engine::{Engine, StepStop};
+use crate::pairs::append_pairs;
 use crate::records::{append_found, append_members, append_owner};
 use gx_commands::Find;
 use gx_gather::Recs;
+use gx_links::Pairs;
 use gx_ports::{Leaves, Stop};
 use gx_states::{file_def, file_node};
 use gx_values::Value;
@@ -51,8 +53,12 @@ impl<B: Leaves + Drop> Engine<B> {
     /// the one condition of the plan, w the greatest number of leaf entries of a record of any file
     /// or of an owner of any link, and l the number of leaves.
     ///
-    /// An Ok changes no map. `Now` and `Stopped` are as those of `step`, but it is never `Full`:
-    /// `out` is then as before.
+    /// An Ok changes no map, and a transaction that was open is open then. `Now` gives this call up
+    /// and is kept: `out` is as before, whether a transaction is open isn't told, and each later
+    /// call answers `Stopped` with it and does nothing. It is `Now(Fault)`: the count of faults
+    /// rose; `Now(Damaged)`: the leaves stood for no state, which is said of block 0 where the
+    /// stored form of each is whole; or `Now(NoMemory)`: there was no memory. What was last
+    /// committed stays.
     pub fn records(&mut self, alloc: Global, find: &Find, out: &mut Recs) -> Result<(), StepStop>
         requires ready { IsReady B.View self.old }
         requires of_schema { IsOfSchema (schema_of self.old) (command.Find find.now) }
@@ -146,6 +152,26 @@ impl<B: Leaves + Drop> Engine<B> {
         }
         let (schema, built) = (&self.schema, &self.built);
         let read = append_owner(alloc, schema, built, link, member, &mut self.leaves, out);
+        self.keep_stop(read)
+    }
+
+    /// Appends the pairs of a link of the schema, each a member with its owner, in the order of the
+    /// members.
+    ///
+    /// It ends as `records` does.
+    pub fn pairs(&mut self, alloc: Global, link: u16, out: &mut Pairs) -> Result<(), StepStop>
+        requires ready { IsReady B.View self.old }
+        requires link { link < length (schema_of self.old).links }
+        ensures found { (p : Playing) → IsAt B.View p self.old →
+            OnOk result (out.new ≡ out.old ++ fin.entries (link_in (seen_state p) link)) }
+        ensures unsaid { OnErr result (out.new ≡ out.old) }
+        ensures ends { EndsReading B.View self.old self.new result }
+    {
+        if let Some(stop) = self.stopped {
+            return Err(StepStop::Stopped(stop));
+        }
+        let (schema, built) = (&self.schema, &self.built);
+        let read = append_pairs(alloc, schema, built, link, &mut self.leaves, out);
         self.keep_stop(read)
     }
 

@@ -14,7 +14,8 @@ use Rattle.gx_ports.specs.LeafMaps.{Limits}
 use Rattle.gx_equation.specs.Trees.{DefinitionTree}
 use Rattle.gx_model.specs.States.{State}
 use Rattle.gx_model.specs.Play.{Playing, start_at}
-use Rattle.gx_model.specs.Runs.{Runs, AreFirstLines}
+use Rattle.gx_model.specs.Languages.{AreFirstLines}
+use Rattle.gx_play.specs.Asked.{Runs}
 use Rattle.gx_play.specs.declared.play.Answers.TheVariants as answers
 use Rattle.gx_play.specs.Plays.{AreSaidUpTo}
 use Rattle.gx_play.specs.Images.{IsPlayImage}

@@ -1,10 +1,8 @@
 -- Lines whose answers are said, or kept.
 use Rattle.std.proofs.Common.{◌≡◌, ℕ, List, Bool, false, true, None, Result, Ok, Err, refl, sym, ap, subst, ◌∙◌, inl, inr, arith}
 use Rattle.std.specs.Prelude.{◌⊎◌, Option, Some, IsSome}
-use Rattle.gx_commands.specs.declared.command.Command.{Command}
-use Rattle.gx_commands.specs.Commands.{place_reason}
+use Rattle.gx_commands.specs.declared.command.LineWhy.{LineWhy}
 use Rattle.gx_commands.specs.Lines.{Lines}
-use Rattle.gx_script.specs.Grammar.{IsLineOf}
 use Rattle.gx_ports.specs.declared.stop.Stop.{Stop}
 use Rattle.gx_ports.specs.declared.stop.Stop.TheVariants as stop
 use Rattle.gx_ports.specs.declared.view.View.{Ghosts}
@@ -12,7 +10,7 @@ use Rattle.gx_ports.specs.Stops.{HasStopCause}
 use Rattle.gx_ports.specs.LeafMaps.{Limits, IsCrowdedBy}
 use Rattle.gx_model.specs.Play.{Playing, End, good, stopped, is_inside}
 use Rattle.gx_engine.specs.declared.engine.Engine.{Engine}
-use Rattle.gx_engine.specs.Steps.{IsAt, IsDue, IsReady, IsSound, IsShortFor, schema_of, leaves_of}
+use Rattle.gx_engine.specs.Steps.{IsAt, IsReady, IsSound, schema_of, leaves_of, is_open}
 use Rattle.gx_play.specs.declared.ending.Ending.{Ending}
 use Rattle.gx_play.specs.Endings.{ending_of, is_outside, is_fault}
 use Rattle.gx_play.specs.declared.carry.LineEnd.{LineEnd}
@@ -22,7 +20,10 @@ use Rattle.gx_play.specs.declared.play.PlayEnd.TheVariants as play_end
 use Rattle.gx_play.specs.declared.play.Answers.{Answers}
 use Rattle.gx_play.specs.declared.play.Answers.TheVariants as answers
 use Rattle.gx_play.specs.Answering.{beside, with_answers}
-use Rattle.gx_play.specs.Plays.{IsCommandPlayed, IsLinePlayed, IsCommandGivenUp, IsGivenUp, IsPlayedUp, IsPlayedTo, KeepsPlayed, CountsFailed, HasPlayCause, is_play_fault}
+use Rattle.gx_play.specs.declared.lines.Asked.{Asked}
+use Rattle.gx_play.specs.declared.lines.Asked.TheVariants as asked
+use Rattle.gx_play.specs.Asked.{IsAsked}
+use Rattle.gx_play.specs.Plays.{IsAskedPlayed, IsLinePlayed, IsAskedGivenUp, IsAskedShort, IsShortLine, IsGivenUp, IsPlayedUp, IsPlayedTo, KeepsPlayed, CountsFailed, HasPlayCause, is_play_fault}
 use Rattle.gx_device.proofs.PrefixLemmas.{prefix_same, prefix_twice}
 
 -- the engine stands so with answers beside it
@@ -79,36 +80,43 @@ keeps_then g to a b c p q = record {
       };
 }
 
--- ---- the line of the command
+-- ---- the line that asks for it
 
 pub line_played : {S : Type 0} (g : Ghosts S) (to : Answers) (p : Playing) (line : List ℕ)
-    (c : Command)
-    (old new : Engine S) (out now : List ℕ) → IsAt g p old → IsLineOf (schema_of old) line c
-    → IsDue old c
-    → IsCommandPlayed (beside g to) p c (with_answers old out) (with_answers new now)
+    (a : Asked)
+    (old new : Engine S) (out now : List ℕ) → IsAt g p old
+    → IsAsked (schema_of old) (is_open old) line a
+    → IsAskedPlayed (beside g to) p a (with_answers old out) (with_answers new now)
     → IsLinePlayed (beside g to) p line (with_answers old out) (with_answers new now)
-line_played g to p line c old new out now at means due played = record {
-  command = c;
-  means = means;
-  placed = subst (λ (b : Bool). place_reason b c ≡ None) at.stands.inside_same due.allowed;
+line_played g to p line a old new out now at means played = record {
+  asked = a;
+  means = subst (λ (b : Bool). IsAsked (schema_of old) b line a) at.stands.inside_same means;
   played = played;
 }
 
+-- a command for which the pages may be too few
+short_line : {S : Type 0} (g : Ghosts S) (to : Answers) (p : Playing) (line : List ℕ) (a : Asked)
+    (e : Engine S) (out : List ℕ) → IsAsked (schema_of e) (is_inside p) line a
+    → IsAskedShort (beside g to) (with_answers e out) p a
+    → IsShortLine (beside g to) (with_answers e out) p line
+short_line g to p line (asked.Command c) e out (no_path, means, placed) short =
+    (c, means, placed, short)
+short_line g to p line (asked.Path q) e out means short = absurd short
+
 pub line_given_up : {S : Type 0} (g : Ghosts S) (to : Answers) (p : Playing) (line : List ℕ)
-    (c : Command)
+    (a : Asked)
     (old new : Engine S) (out now : List ℕ) (why : Stop) → IsAt g p old
-    → IsLineOf (schema_of old) line c
-    → IsDue old c → IsCommandGivenUp (beside g to) p c (with_answers old out)
-    (with_answers new now) why
+    → IsAsked (schema_of old) (is_open old) line a
+    → IsAskedGivenUp (beside g to) p a (with_answers old out) (with_answers new now) why
     → IsGivenUp (beside g to) p line (with_answers old out) (with_answers new now) why
-line_given_up g to p line c old new out now why at means due up =
-    let placed : place_reason (is_inside p) c ≡ None =
-    subst (λ (b : Bool). place_reason b c ≡ None) at.stands.inside_same due.allowed in
+line_given_up g to p line a old new out now why at means up =
+    let here : IsAsked (schema_of old) (is_inside p) line a =
+    subst (λ (b : Bool). IsAsked (schema_of old) b line a) at.stands.inside_same means in
     record {
       unsaid = up.unsaid;
-      cut = inr (c, means, placed, up.cut);
+      cut = inr (a, here, up.cut);
       kept = up.kept;
-      short = λ full. (c, means, placed, up.short full);
+      short = λ full. short_line g to p line a old out here (up.short full);
     }
 
 no_memory_full : {A : Type 0} (why : Stop) → why ≡ stop.NoMemory → why ≡ stop.Full → A
@@ -140,22 +148,37 @@ play_stop_same a b e = ap stop_in e
     stop_in (play_end.Stop s) = s
     stop_in (play_end.Line number reason) = a
 
--- why a command is given up on leaves that stand for a moment of a play
-pub command_cause : {S : Type 0} (g : Ghosts S) (p : Playing) (c : Command) (old new : Engine S)
+pub play_line_same : (a n : ℕ) (v w : LineWhy) → play_end.Line a v ≡ play_end.Line n w
+    → (n ≡ a) × (v ≡ w)
+play_line_same a n v w e = (sym (ap number_in e), ap why_in e)
+  where
+    number_in : PlayEnd → ℕ
+    number_in (play_end.Line number reason) = number
+    number_in (play_end.Stop s) = a
+
+    why_in : PlayEnd → LineWhy
+    why_in (play_end.Line number reason) = reason
+    why_in (play_end.Stop s) = v
+
+-- why what is asked for is given up on leaves that stand for a moment of a play
+pub asked_cause : {S : Type 0} (g : Ghosts S) (p : Playing) (a : Asked) (old new : Engine S)
     (result : Result (Unit {0}) Stop) → IsAt g p old
     → HasStopCause (g.faults (leaves_of old)) (g.faults (leaves_of new)) (IsSound g old) result
-    → (result ≡ Err stop.Full → IsShortFor g old p c) → (why : Stop) → result ≡ Err why
+    → (result ≡ Err stop.Full → IsAskedShort g old p a) → (why : Stop) → result ≡ Err why
     → HasPlayCause (g.limit (leaves_of old)) (g.faults (leaves_of old)) (g.faults (leaves_of new))
     why
-command_cause g p c old new result at cause full stop.Fault is = cause.fault is
-command_cause g p c old new result at cause full stop.Full is =
-    limited (g.limit (leaves_of old)) _ (full is).1
+asked_cause g p a old new result at cause full stop.Fault is = cause.fault is
+asked_cause g p a old new result at cause full stop.Full is = limited a (full is)
   where
-    limited : (limit : Option Limits) (n : ℕ) → IsCrowdedBy limit n → IsSome limit
-    limited (Some l) n crowded = refl
-    limited None n crowded = absurd crowded
-command_cause g p c old new result at cause full stop.NoMemory is = tt
-command_cause g p c old new result at cause full (stop.Damaged block) is =
+    some_limit : (limit : Option Limits) (n : ℕ) → IsCrowdedBy limit n → IsSome limit
+    some_limit (Some l) n crowded = refl
+    some_limit None n crowded = absurd crowded
+
+    limited : (a : Asked) → IsAskedShort g old p a → IsSome (g.limit (leaves_of old))
+    limited (asked.Command c) short = some_limit (g.limit (leaves_of old)) _ short.1
+    limited (asked.Path q) short = absurd short
+asked_cause g p a old new result at cause full stop.NoMemory is = tt
+asked_cause g p a old new result at cause full (stop.Damaged block) is =
     absurd (cause.damaged block is (p, at))
 
 -- a line for which there was no memory

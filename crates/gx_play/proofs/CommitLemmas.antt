@@ -1,12 +1,14 @@
 -- How the play of lines goes on: in one way, in parts, and with commits that are told of.
-use Rattle.std.proofs.Common.{◌≡◌, ◌⊎◌, inl, inr, ℕ, ◌+◌, ◌≤◌, List, [], ◌∷◌, ◌++◌, length, refl, sym, ◌∙◌, ap, subst, arith, append_assoc, length-append}
+use Rattle.std.proofs.Common.{◌≡◌, ◌⊎◌, inl, inr, ℕ, Bool, true, false, ◌+◌, ◌≤◌, List, [], ◌∷◌, ◌++◌, length, refl, sym, ◌∙◌, ap, subst, arith, append_assoc, length-append}
 use Rattle.gx_schema.specs.declared.schema.Schema.{Schema}
 use Rattle.gx_commands.specs.declared.command.Command.{Command}
 use Rattle.gx_commands.specs.declared.command.Command.TheVariants as command
 use Rattle.gx_model.specs.Play.{Playing, after_command, IsAnswered}
-use Rattle.gx_model.specs.Runs.{Step, Runs}
-use Rattle.gx_model.proofs.AnswerLemmas.{answered_once}
-use Rattle.gx_model.proofs.RunLemmas.{command_once}
+use Rattle.gx_model.specs.Runs.{Step as CommandStep}
+use Rattle.gx_model.specs.Paths.{PathOr, PathStep}
+use Rattle.gx_model.proofs.PathLemmas.{definite_with_paths}
+use Rattle.gx_script.specs.Paths.{is_path}
+use Rattle.gx_play.specs.Asked.{Step, Runs}
 use Rattle.gx_play.specs.Acknowledged.{commit_count}
 use Rattle.gx_play.proofs.TextLemmas.{both_empty, Lacks, lacks_front, lacks_back}
 
@@ -43,24 +45,26 @@ module _ (schema : Schema) where
   step_once : (p : Playing) (line a b : List ℕ) (q r : Playing) → Step schema p line a q
       → Step schema p line b r → (a ≡ b) × (q ≡ r)
   step_once p line a b q r x y =
-      let same = command_once schema line x.command y.command x.means y.means in (
-        answered_once schema p y.command a b
-            (subst (λ c. IsAnswered schema p c a) same x.answered) y.answered,
-        x.next_is ∙ ap (after_command schema p) same ∙ sym y.next_is,
-      )
+      let once = definite_with_paths schema in once.goes_once p line a b q r x y
 
   step_counts : (p : Playing) (line answer : List ℕ) (q : Playing) → Step schema p line answer q
       → (commit_count q ≡ commit_count p)
       ⊎ ((commit_count q ≡ commit_count p + 1) × IsAnswered schema p command.Commit answer)
-  step_counts p line answer q step =
-      let next = ap commit_count step.next_is in
-      elim (counts schema p step.command) [
-        | inl same ↦ inl (next ∙ same)
-        | inr more ↦ inr (
-          next ∙ more.0,
-          subst (λ c. IsAnswered schema p c answer) more.1 step.answered,
-        )
-      ]
+  step_counts p line answer q step = of_kind (is_path line) step
+    where
+      of_kind : (path : Bool) → PathOr path (PathStep schema p line answer q)
+          (CommandStep schema p line answer q) → (commit_count q ≡ commit_count p)
+          ⊎ ((commit_count q ≡ commit_count p + 1) × IsAnswered schema p command.Commit answer)
+      of_kind true step = inl (ap commit_count step.next_is)
+      of_kind false step =
+          let next = ap commit_count step.next_is in
+          elim (counts schema p step.command) [
+            | inl same ↦ inl (next ∙ same)
+            | inr more ↦ inr (
+              next ∙ more.0,
+              subst (λ c. IsAnswered schema p c answer) more.1 step.answered,
+            )
+          ]
 
   -- ---- steps one after another
 

@@ -1,16 +1,13 @@
 -- What a crash leaves while lines are played: one line, a line behind others, and the end.
-use Rattle.std.proofs.Common.{◌≡◌, ◌⊎◌, inl, inr, ℕ, List, [], ◌∷◌, ◌++◌, length, take, Bool, false, None, Result, refl, sym, ◌∙◌, ap, subst, arith, append_assoc}
+use Rattle.std.proofs.Common.{◌≡◌, ◌⊎◌, inl, inr, ℕ, List, [], ◌∷◌, ◌++◌, length, take, Bool, false, Result, refl, sym, ◌∙◌, ap, subst, arith, append_assoc}
 use Rattle.std.proofs.lemmas.List.{append-nil}
 use Rattle.gx_device.specs.Content.{Moment, Content, Silent, Listens}
 use Rattle.gx_device.specs.Crash.{Image, EachImage, LeavesOnly}
 use Rattle.gx_device.specs.Quiet.{IsPrefix, IsQuiet, QuietSince, IsOldOrNew}
 use Rattle.gx_device.proofs.RunLemmas.{started, joined, weakened}
 use Rattle.gx_schema.specs.declared.schema.Schema.{Schema}
-use Rattle.gx_commands.specs.declared.command.Command.{Command}
 use Rattle.gx_commands.specs.declared.command.Command.TheVariants as command
-use Rattle.gx_commands.specs.Commands.{place_reason}
 use Rattle.gx_commands.specs.Lines.{Lines, with_line}
-use Rattle.gx_script.specs.Grammar.{IsLineOf}
 use Rattle.gx_ports.specs.declared.view.View.{Ghosts}
 use Rattle.gx_ports.specs.Heads.{Head}
 use Rattle.gx_ports.specs.Calm.{StaysKept}
@@ -18,24 +15,26 @@ use Rattle.gx_ports.specs.QuietLaws.{quiet_weaker}
 use Rattle.gx_ports.proofs.ImageLemmas.{quiet_images, prefix_both}
 use Rattle.gx_types.specs.declared.built.Built.{Built}
 use Rattle.gx_model.specs.States.{State}
-use Rattle.gx_model.specs.Play.{Playing, is_inside, after_command, IsAnswered}
-use Rattle.gx_model.specs.Runs.{Runs}
-use Rattle.gx_model.proofs.RunLemmas.{run_on}
+use Rattle.gx_model.specs.Play.{Playing, is_inside}
 use Rattle.gx_engine.specs.declared.engine.Engine.{Engine}
-use Rattle.gx_engine.specs.Moments.{Stands}
-use Rattle.gx_engine.specs.Steps.{IsAt, IsSame, CarriesOut, KeepsEngine, schema_of, built_of, leaves_of, is_open, commits_of}
-use Rattle.gx_engine.specs.Crashes.{HoldsState, HoldsFor, LeavesStates}
+use Rattle.gx_engine.specs.Steps.{IsAt, IsSame, schema_of, built_of, leaves_of}
+use Rattle.gx_engine.specs.Crashes.{HoldsState, HoldsFor}
 use Rattle.gx_engine.proofs.CrashLemmas.{kept_state, talks_states}
 use Rattle.gx_store.proofs.CrashLemmas.{reads_image}
 use Rattle.gx_play.specs.declared.play.Answers.{Answers}
 use Rattle.gx_play.specs.declared.play.Answers.TheVariants as answers
+use Rattle.gx_play.specs.declared.lines.Asked.{Asked}
+use Rattle.gx_play.specs.declared.lines.Asked.TheVariants as asked
+use Rattle.gx_play.specs.Asked.{IsAsked, IsAnsweredTo, after_asked, Runs}
+use Rattle.gx_play.specs.Carrying.{CarriesOutAsked, KeepsAsked, LeavesAskedStates}
 use Rattle.gx_play.specs.Answering.{beside, with_answers}
+use Rattle.gx_play.proofs.AskedLemmas.{step_of, run_on}
 use Rattle.gx_play.specs.Pieces.{IsGoing}
-use Rattle.gx_play.specs.Images.{IsSaidOf, IsCommandImage, LeavesCommand, IsLineImage, LeavesLine, AreSaidOf, IsPlayImage, LeavesPlay}
+use Rattle.gx_play.specs.Images.{IsSaidOf, IsAskedImage, LeavesAsked, IsLineImage, LeavesLine, AreSaidOf, IsPlayImage, LeavesPlay}
 use Rattle.gx_play.proofs.AnsweringLemmas.{at_alone}
 use Rattle.gx_play.proofs.TextLemmas.{cancel, front_of}
 
--- ---- a command
+-- ---- what is asked for
 
 -- nothing of an answer is a front of it
 none_said : (to : Answers) (answer before now : List ℕ) → now ≡ before
@@ -43,23 +42,23 @@ none_said : (to : Answers) (answer before now : List ℕ) → now ≡ before
 none_said answers.Said answer before now same = (0, same ∙ sym (append-nil before))
 none_said answers.Kept answer before now same = same
 
--- a command that changes the kept state has an answer
-changes_or_stays : (schema : Schema) (p : Playing) (c : Command)
-    → ((answer : List ℕ) × IsAnswered schema p c answer)
-    ⊎ ((after_command schema p c).kept ≡ p.kept)
-changes_or_stays schema p command.Commit = inl (_, refl)
+-- where it changes the kept state, it has an answer
+changes_or_stays : (schema : Schema) (p : Playing) (c : Asked)
+    → ((answer : List ℕ) × IsAnsweredTo schema p c answer)
+    ⊎ ((after_asked schema p c).kept ≡ p.kept)
+changes_or_stays schema p (asked.Command command.Commit) = inl (_, refl)
 changes_or_stays schema p _ = inr refl
 
 module _ (schema : Schema) (Holds : State → List (List ℕ) → Type 0) (to : Answers)
-    (p : Playing) (c : Command) where
+    (p : Playing) (c : Asked) where
   -- it is carried out: before its commit point the state before it, and behind it that after it, of
   -- which nothing was said
   step_images : (begin : Moment) (a b : Content)
-      → LeavesOnly (IsOldOrNew (Holds p.kept) (Holds (after_command schema p c).kept) begin) a b
-      → LeavesOnly (IsCommandImage schema Holds to p c begin) a b
+      → LeavesOnly (IsOldOrNew (Holds p.kept) (Holds (after_asked schema p c).kept) begin) a b
+      → LeavesOnly (IsAskedImage schema Holds to p c begin) a b
   step_images begin a b run =
-      weakened (EachImage (IsOldOrNew (Holds p.kept) (Holds (after_command schema p c).kept) begin))
-      (EachImage (IsCommandImage schema Holds to p c begin))
+      weakened (EachImage (IsOldOrNew (Holds p.kept) (Holds (after_asked schema p c).kept) begin))
+      (EachImage (IsAskedImage schema Holds to p c begin))
       (λ m leaves image at. record {
         is = elim (leaves image at).is [
           | inl h ↦ inl (h, (leaves image at).said)
@@ -80,21 +79,21 @@ module _ (schema : Schema) (Holds : State → List (List ℕ) → Type 0) (to : 
       }) a b run
 
 -- and then its answer is said, whole or in part
-say_images : (schema : Schema) (Holds : State → List (List ℕ) → Type 0) (p : Playing) (c : Command)
-    (answer : List ℕ) → IsAnswered schema p c answer → (begin : Moment) (a b : Content) (count : ℕ)
+say_images : (schema : Schema) (Holds : State → List (List ℕ) → Type 0) (p : Playing) (c : Asked)
+    (answer : List ℕ) → IsAnsweredTo schema p c answer → (begin : Moment) (a b : Content) (count : ℕ)
     → a.now.said ≡ begin.said → a.now.shelf ≡ begin.shelf
     → b.now.said ≡ a.now.said ++ take count answer
-    → QuietSince (Holds (after_command schema p c).kept) a b
-    → LeavesOnly (IsCommandImage schema Holds answers.Said p c begin) a b
+    → QuietSince (Holds (after_asked schema p c).kept) a b
+    → LeavesOnly (IsAskedImage schema Holds answers.Said p c begin) a b
 say_images schema Holds p c answer answered begin a b count silent shelf said quiet =
-    weakened (EachImage (IsQuiet (Holds (after_command schema p c).kept) a.now b.now.said))
-    (EachImage (IsCommandImage schema Holds answers.Said p c begin))
+    weakened (EachImage (IsQuiet (Holds (after_asked schema p c).kept) a.now b.now.said))
+    (EachImage (IsAskedImage schema Holds answers.Said p c begin))
     (λ m leaves image at. turn image (leaves image at)) a b
-    (quiet_images (Holds (after_command schema p c).kept) a b quiet)
+    (quiet_images (Holds (after_asked schema p c).kept) a b quiet)
   where
     turn : (image : Image)
-        → IsQuiet (Holds (after_command schema p c).kept) a.now b.now.said image
-        → IsCommandImage schema Holds answers.Said p c begin image
+        → IsQuiet (Holds (after_asked schema p c).kept) a.now b.now.said image
+        → IsAskedImage schema Holds answers.Said p c begin image
     turn image i =
         let m = i.begins.0 in
         let rest = i.goes_on.0 in
@@ -122,26 +121,10 @@ module _ {S : Type 0} (g : Ghosts S) where
       (subst (λ (x : Built). HoldsState g (schema_of e) x head s blocks) built_is
       (subst (λ (x : Head). HoldsState g (schema_of e) (built_of e) x s blocks) head_is h))
 
-  -- the engine stands for what comes after the command
-  pub stands_after : (p : Playing) (c : Command) (old mid : Engine S) (out now : List ℕ)
-      → schema_of mid ≡ schema_of old → built_of mid ≡ built_of old
-      → CarriesOut g p c old mid out now → g.whole (leaves_of mid) → g.kept_whole (leaves_of mid)
-      → IsAt g (after_command (schema_of old) p c) mid
-  stands_after p c old mid out now schema_is built_is carried whole kept_whole = record {
-    stands = subst (λ (x : Schema). Stands x (built_of mid) (is_open mid) (commits_of mid)
-        (g.working (leaves_of mid)) (g.kept (leaves_of mid)) (after_command (schema_of old) p c))
-        (sym schema_is)
-        (subst (λ (x : Built). Stands (schema_of old) x (is_open mid) (commits_of mid)
-        (g.working (leaves_of mid)) (g.kept (leaves_of mid)) (after_command (schema_of old) p c))
-        (sym built_is) carried.stands);
-    whole_is = whole;
-    kept_whole_is = kept_whole;
-  }
-
-  -- a command of which nothing is said
-  pub states_leave : (to : Answers) (p : Playing) (c : Command) (old new : Engine S)
-      (failed : Bool) → LeavesStates g p c old new failed
-      → LeavesCommand g (schema_of old) (built_of old) to p c failed (leaves_of old) (leaves_of new)
+  -- nothing is said of it
+  pub states_leave : (to : Answers) (p : Playing) (c : Asked) (old new : Engine S)
+      (failed : Bool) → LeavesAskedStates g p c old new failed
+      → LeavesAsked g (schema_of old) (built_of old) to p c failed (leaves_of old) (leaves_of new)
   states_leave to p c old new failed leaves = record {
     images = step_images (schema_of old) (HoldsFor g old) to p c (g.content (leaves_of old)).now
         (g.content (leaves_of old)) (g.content (leaves_of new)) leaves.images;
@@ -172,22 +155,22 @@ module _ {S : Type 0} (g : Ghosts S) where
           calm = λ none. goes_on (leaves_of e) start calm;
         }
 
-    -- a command whose answer is said, whole or in part
-    pub answer_leaves : (p : Playing) (c : Command) (old mid new : Engine S) (answer : List ℕ)
-        (count : ℕ) (failed : Bool) → LeavesStates g p c old mid false
+    -- its answer is said, whole or in part
+    pub answer_leaves : (p : Playing) (c : Asked) (old mid new : Engine S) (answer : List ℕ)
+        (count : ℕ) (failed : Bool) → LeavesAskedStates g p c old mid false
         → schema_of mid ≡ schema_of old → built_of mid ≡ built_of old
         → g.head (leaves_of mid) ≡ g.head (leaves_of old)
         → Silent (g.content (leaves_of old)) (g.content (leaves_of mid))
-        → IsAnswered (schema_of old) p c answer → IsAt g (after_command (schema_of old) p c) mid
+        → IsAnsweredTo (schema_of old) p c answer → IsAt g (after_asked (schema_of old) p c) mid
         → IsSame g mid new
         → (g.content (leaves_of new)).now.said
         ≡ (g.content (leaves_of mid)).now.said ++ take count answer
-        → LeavesCommand g (schema_of old) (built_of old) answers.Said p c failed (leaves_of old)
+        → LeavesAsked g (schema_of old) (built_of old) answers.Said p c failed (leaves_of old)
         (leaves_of new)
     answer_leaves p c old mid new answer count failed leaves schema_is built_is head_is silent
         answered at same said = record {
           images = joined
-              (EachImage (IsCommandImage (schema_of old) (HoldsFor g old) answers.Said p c begin))
+              (EachImage (IsAskedImage (schema_of old) (HoldsFor g old) answers.Said p c begin))
               (g.content (leaves_of old)) (g.content (leaves_of mid)) (g.content (leaves_of new))
               (states_leave answers.Said p c old mid false leaves).images
               (say_images (schema_of old) (HoldsFor g old) p c answer answered begin
@@ -200,47 +183,45 @@ module _ {S : Type 0} (g : Ghosts S) where
         begin : Moment
         begin = (g.content (leaves_of old)).now
 
-        quiet : QuietSince (HoldsFor g old (after_command (schema_of old) p c).kept)
+        quiet : QuietSince (HoldsFor g old (after_asked (schema_of old) p c).kept)
             (g.content (leaves_of mid)) (g.content (leaves_of new))
-        quiet = quiet_weaker (HoldsFor g mid (after_command (schema_of old) p c).kept)
-            (HoldsFor g old (after_command (schema_of old) p c).kept)
+        quiet = quiet_weaker (HoldsFor g mid (after_asked (schema_of old) p c).kept)
+            (HoldsFor g old (after_asked (schema_of old) p c).kept)
             (held_for (schema_of old) (built_of old) (g.head (leaves_of old)) mid schema_is built_is
-            head_is (after_command (schema_of old) p c).kept)
+            head_is (after_asked (schema_of old) p c).kept)
             (g.content (leaves_of mid)) (g.content (leaves_of new))
-            (talks_states g means goes_on (after_command (schema_of old) p c) mid new at same.talks
+            (talks_states g means goes_on (after_asked (schema_of old) p c) mid new at same.talks
             (g.content (leaves_of mid)) (leaves.calm refl))
 
     -- the same as it is written to the room for it
-    pub said_leaves : {E : Type 0} (to : Answers) (p : Playing) (c : Command)
+    pub said_leaves : {E : Type 0} (to : Answers) (p : Playing) (c : Asked)
         (old mid new : Engine S) (result : Result (Unit {0}) E) (out piece now : List ℕ)
         (failed : Bool) → to ≡ answers.Said → out ≡ [] → piece ≡ now → IsAt g p old
-        → LeavesStates g p c old mid false → KeepsEngine g old mid c result
-        → g.whole (leaves_of mid) → g.kept_whole (leaves_of mid) → CarriesOut g p c old mid out now
+        → LeavesAskedStates g p c old mid false → KeepsAsked g old mid c result
+        → CarriesOutAsked g p c old mid out now
         → IsSame g mid new → ((count : ℕ) × ((g.content (leaves_of new)).now.said
         ≡ (g.content (leaves_of mid)).now.said ++ take count piece))
-        → LeavesCommand g (schema_of old) (built_of old) to p c failed (leaves_of old)
+        → LeavesAsked g (schema_of old) (built_of old) to p c failed (leaves_of old)
         (leaves_of new)
     said_leaves to p c old mid new result out piece now failed to_is out_is piece_is at leaves keeps
-        whole kept_whole carried same front =
-        subst (λ (a : Answers). LeavesCommand g (schema_of old) (built_of old) a p c failed
+        carried same front =
+        subst (λ (a : Answers). LeavesAsked g (schema_of old) (built_of old) a p c failed
         (leaves_of old) (leaves_of new)) (sym to_is)
         (answer_leaves p c old mid new carried.answer front.0 failed leaves keeps.schema keeps.built
-        keeps.head keeps.silent carried.answered
-        (stands_after p c old mid out now keeps.schema keeps.built carried whole kept_whole) same
+        keeps.head keeps.silent carried.answered carried.at same
         (front.1 ∙ ap (λ (t : List ℕ). (g.content (leaves_of mid)).now.said ++ take front.0 t)
         (piece_is ∙ carried.said ∙ ap (λ (t : List ℕ). t ++ carried.answer) out_is)))
 
   -- ---- a line
 
-  -- the line that means the command
+  -- the line that asks for it
   pub line_leaves : (schema : Schema) (built : Built) (to : Answers) (p : Playing) (line : List ℕ)
-      (c : Command) (failed : Bool) (old new : S) → IsLineOf schema line c
-      → place_reason (is_inside p) c ≡ None
-      → LeavesCommand g schema built to p c failed old new
+      (c : Asked) (failed : Bool) (old new : S) → IsAsked schema (is_inside p) line c
+      → LeavesAsked g schema built to p c failed old new
       → LeavesLine g schema built to p line failed old new
-  line_leaves schema built to p line c failed old new means placed leaves = record {
+  line_leaves schema built to p line c failed old new means leaves = record {
     images = weakened
-        (EachImage (IsCommandImage schema (HoldsState g schema built (g.head old)) to p c
+        (EachImage (IsAskedImage schema (HoldsState g schema built (g.head old)) to p c
         (g.content old).now))
         (EachImage (IsLineImage schema (HoldsState g schema built (g.head old)) to p line
         (g.content old).now))
@@ -251,14 +232,8 @@ module _ {S : Type 0} (g : Ghosts S) where
             | inl h ↦ inl h
             | inr h ↦ inr (
               h.0,
-              after_command schema p c,
-              record {
-                command = c;
-                means = means;
-                allowed = placed;
-                answered = h.1;
-                next_is = refl;
-              },
+              after_asked schema p c,
+              step_of schema p line h.0 c means h.1,
               h.2,
               h.3,
             )

@@ -1,5 +1,5 @@
 mod SayLemmas
-mod TextLemmas
+pub mod TextLemmas
 mod CommitLemmas
 mod EndLineLemmas
 pub mod AckedLemmas
@@ -9,6 +9,8 @@ mod ReadingLemmas
 pub mod CrashLemmas
 pub mod AnsweringLemmas
 pub mod PlayLemmas
-mod HoldingLemmas
+pub mod HoldingLemmas
 pub mod OverLemmas
 pub mod FullLemmas
+pub mod AskedLemmas
+pub mod CarryingLemmas

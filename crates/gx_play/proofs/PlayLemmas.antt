@@ -3,23 +3,24 @@ use Rattle.std.proofs.Common.{◌≡◌, ℕ, ◌+◌, List, [], ◌∷◌, ◌+
 use Rattle.std.specs.Prelude.{◌≢◌, ◌⊎◌, IsErrAnd}
 use Rattle.std.proofs.lemmas.List.{append-nil, append_assoc, length-append}
 use Rattle.gx_schema.specs.declared.schema.Schema.{Schema}
-use Rattle.gx_commands.specs.declared.command.Command.{Command}
 use Rattle.gx_commands.specs.declared.command.Command.TheVariants as command
 use Rattle.gx_commands.specs.declared.command.LineWhy.{LineWhy}
-use Rattle.gx_commands.specs.Commands.{place_reason}
 use Rattle.gx_commands.specs.Lines.{Lines, with_line, no_lines, stopped as stopped_lines}
 use Rattle.gx_script.specs.Grammar.{IsLineOf}
 use Rattle.gx_ports.specs.Calls.{Keeps}
 use Rattle.gx_ports.specs.declared.view.View.{Ghosts}
 use Rattle.gx_types.specs.declared.built.Built.{Built}
 use Rattle.gx_ports.specs.declared.stop.Stop.{Stop}
-use Rattle.gx_model.specs.Play.{Playing, End, stopped, end_at, is_inside, after_command, IsAnswered}
-use Rattle.gx_model.specs.Runs.{Step, Runs, IsBadLine, IsEnd, AreFirstLines}
-use Rattle.gx_model.proofs.RunLemmas.{run_on}
+use Rattle.gx_model.specs.Play.{Playing, End, stopped, end_at, is_inside}
+use Rattle.gx_model.specs.Languages.{AreFirstLines}
 use Rattle.gx_engine.specs.declared.engine.Engine.{Engine}
 use Rattle.gx_engine.specs.Moments.{AreInternal}
-use Rattle.gx_engine.specs.Steps.{schema_of, built_of, leaves_of, is_open, is_commit, IsReady, IsAt}
+use Rattle.gx_engine.specs.Steps.{schema_of, built_of, leaves_of, is_open, IsReady, IsAt}
 use Rattle.gx_ports.specs.declared.stop.Stop.TheVariants as stop
+use Rattle.gx_play.specs.declared.lines.Asked.{Asked}
+use Rattle.gx_play.specs.declared.lines.Asked.TheVariants as asked
+use Rattle.gx_play.specs.Asked.{IsAsked, IsAnsweredTo, after_asked, is_commit, Runs, IsBadLine, IsEnd}
+use Rattle.gx_play.proofs.AskedLemmas.{step_of, run_on}
 use Rattle.gx_play.specs.declared.play.PlayEnd.{PlayEnd}
 use Rattle.gx_play.specs.declared.play.PlayEnd.TheVariants as play_end
 use Rattle.gx_play.specs.Plays.{IsLinePlayed, IsLineCut, IsCommitLine, IsBadAt, IsPlayedUp, IsPlayedPart, IsPlayedTo, IsLineEnd, IsSoFar, IsShortLine, IsGivenUp, KeepsState}
@@ -42,23 +43,20 @@ at_start g start all e at = record {
 
 -- one line more runs
 one_more : (schema : Schema) (start p : Playing) (ran : List (List ℕ)) (answers line : List ℕ)
-    (command : Command) (answer : List ℕ) → Runs schema start ran answers p
-    → IsLineOf schema line command
-    → place_reason (is_inside p) command ≡ None → IsAnswered schema p command answer
-    → Runs schema start (ran ++ line ∷ []) (answers ++ answer) (after_command schema p command)
-one_more schema start p ran answers line command answer runs means placed answered =
-    let step : Step schema p line answer (after_command schema p command) = record {
-      command = command;
-      means = means;
-      allowed = placed;
-      answered = answered;
-      next_is = refl;
-    } in
-    subst (λ t. Runs schema start (ran ++ line ∷ []) t (after_command schema p command))
+    (a : Asked) (answer : List ℕ) → Runs schema start ran answers p
+    → IsAsked schema (is_inside p) line a → IsAnsweredTo schema p a answer
+    → Runs schema start (ran ++ line ∷ []) (answers ++ answer) (after_asked schema p a)
+one_more schema start p ran answers line a answer runs means answered =
+    subst (λ t. Runs schema start (ran ++ line ∷ []) t (after_asked schema p a))
     (ap (λ t. answers ++ t) (append-nil answer))
-    (run_on schema start p (after_command schema p command) ran (line ∷ []) answers
-    (answer ++ []) runs
-    (answer, [], after_command schema p command, step, (refl, refl), refl))
+    (run_on schema start p (after_asked schema p a) ran (line ∷ []) answers (answer ++ []) runs (
+      answer,
+      [],
+      after_asked schema p a,
+      step_of schema p line answer a means answered,
+      (refl, refl),
+      refl,
+    ))
 
 -- the lines of which one more ran
 pub parts_more : (all before left : Lines) (ran : List (List ℕ)) (line : List ℕ)
@@ -78,9 +76,9 @@ pub after_line : {S : Type 0} (g : Ghosts S) (start : Playing) (all before left 
     → IsSoFar g start all left (number + 1) old new
 after_line g start all before left number line old e new schema_is before_is told so played =
     record {
-      now = after_command (schema_of old) so.now played.command;
+      now = after_asked (schema_of old) so.now played.asked;
       answers = so.answers ++ played.played.answer;
-      at = subst (λ s. IsAt g (after_command s so.now played.command) new) schema_is
+      at = subst (λ s. IsAt g (after_asked s so.now played.asked) new) schema_is
           played.played.at;
       said = played.played.said told ∙ ap (λ t. t ++ played.played.answer) so.said
           ∙ append_assoc _ so.answers played.played.answer;
@@ -88,10 +86,10 @@ after_line g start all before left number line old e new schema_is before_is tol
       many = length-append so.ran (line ∷ []) ∙ ap (λ n. n + 1) so.many;
       lines_are = parts_more all before left so.ran line so.lines_are before_is;
       stop_is = so.stop_is ∙ ap (λ (ls : Lines). ls.stop) before_is;
-      runs = one_more (schema_of old) start so.now so.ran so.answers line played.command
+      runs = one_more (schema_of old) start so.now so.ran so.answers line played.asked
           played.played.answer so.runs
-          (subst (λ s. IsLineOf s line played.command) schema_is played.means) played.placed
-          (subst (λ s. IsAnswered s so.now played.command played.played.answer) schema_is
+          (subst (λ s. IsAsked s (is_inside so.now) line played.asked) schema_is played.means)
+          (subst (λ s. IsAnsweredTo s so.now played.asked played.played.answer) schema_is
           played.played.answered);
     }
 
@@ -146,7 +144,7 @@ at_stop g start all left number n reason old e so n_is left_is =
     (all_ran g start all left number (Some reason) old e left_is so)
     (ap (λ k. stopped k reason) n_is)
 
--- at a line that means no command, or one that may not stand there
+-- at a line that means neither a path nor a command that may stand there
 at_bad_line : {S : Type 0} (g : Ghosts S) (start : Playing) (all before left : Lines) (number : ℕ)
     (line : List ℕ) (reason : LineWhy) (old e : Engine S) → schema_of e ≡ schema_of old
     → before ≡ with_line line left → IsSoFar g start all before number old e
@@ -264,23 +262,22 @@ fault_not_full e = absurd (never e)
 
 -- the same, and a front of its own
 part_within : {S : Type 0} (g : Ghosts S) (start : Playing) (all before left : Lines) (number : ℕ)
-    (line : List ℕ) (command : Command) (answer : List ℕ) (n : ℕ) (old e new : Engine S)
+    (line : List ℕ) (a : Asked) (answer : List ℕ) (n : ℕ) (old e new : Engine S)
     → before ≡ with_line line left → (so : IsSoFar g start all before number old e)
-    → IsLineOf (schema_of old) line command → place_reason (is_inside so.now) command ≡ None
-    → IsAnswered (schema_of old) so.now command answer
-    → IsAt g (after_command (schema_of old) so.now command) new
+    → IsAsked (schema_of old) (is_inside so.now) line a
+    → IsAnsweredTo (schema_of old) so.now a answer
+    → IsAt g (after_asked (schema_of old) so.now a) new
     → (g.content (leaves_of new)).now.said ≡ (g.content (leaves_of e)).now.said ++ take n answer
     → IsPlayedPart g start all old new stop.Fault
-part_within g start all before left number line command answer n old e new before_is so means placed
-    answered at said = record {
+part_within g start all before left number line a answer n old e new before_is so means answered at
+    said = record {
       ran = so.ran ++ line ∷ [];
       later = left.lines;
       parts = parts_more all before left so.ran line so.lines_are before_is;
       text = so.answers ++ answer;
-      final = after_command (schema_of old) so.now command;
-      runs = one_more (schema_of old) start so.now so.ran so.answers line command answer so.runs
-          means
-          placed answered;
+      final = after_asked (schema_of old) so.now a;
+      runs = one_more (schema_of old) start so.now so.ran so.answers line a answer so.runs means
+          answered;
       up_to = record {
         first = so.ran;
         last = line ∷ [];
@@ -301,21 +298,21 @@ part_within g start all before left number line command answer n old e new befor
       short = fault_not_full;
     }
 
--- a command of which nothing was said kept what was last committed, or it is a commit
+-- where nothing of its answer was said, it kept what was last committed, or it is a commit
 unsaid_keeps : {S : Type 0} (g : Ghosts S) (p : Playing) (before left : Lines) (line : List ℕ)
-    (command : Command) (old e new : Engine S) → schema_of e ≡ schema_of old
+    (a : Asked) (old e new : Engine S) → schema_of e ≡ schema_of old
     → built_of e ≡ built_of old
-    → before ≡ with_line line left → IsAt g p e → IsLineOf (schema_of e) line command
-    → (is_commit command ≡ false → Keeps g (leaves_of e) (leaves_of new))
+    → before ≡ with_line line left → IsAt g p e → IsAsked (schema_of e) (is_inside p) line a
+    → (is_commit a ≡ false → Keeps g (leaves_of e) (leaves_of new))
     → KeepsState g (schema_of old) (built_of old) (leaves_of new) p.kept
     ⊎ IsCommitLine (schema_of old) before.lines
-unsaid_keeps g p before left line command.Commit old e new schema_is built_is before_is at means
-    keeps =
+unsaid_keeps g p before left line (asked.Command command.Commit) old e new schema_is built_is
+    before_is at means keeps =
     inr (
       line,
       left.lines,
       ap (λ (ls : Lines). ls.lines) before_is,
-      subst (λ s. IsLineOf s line command.Commit) schema_is means,
+      subst (λ s. IsLineOf s line command.Commit) schema_is means.1,
     )
 unsaid_keeps g p before left line _ old e new schema_is built_is before_is at means keeps =
     inl (kept_after g p old e new schema_is built_is at (keeps refl))
@@ -332,17 +329,17 @@ at_fault g start all before left number line old e new schema_is built_is before
     (leaves_of x) so.now.kept)
     (sym same) (kept_at g so.now old e schema_is built_is so.at))) fault_not_full
 at_fault g start all before left number line old e new schema_is built_is before_is so
-    (inr (command, means, placed, inl (unsaid, keeps))) =
+    (inr (a, means, inl (unsaid, keeps))) =
     part_before g start all before number old e new stop.Fault so unsaid
     (λ other. absurd (other refl))
-    (λ _. unsaid_keeps g so.now before left line command old e new schema_is built_is before_is
-    so.at means keeps) fault_not_full
+    (λ _. unsaid_keeps g so.now before left line a old e new schema_is built_is before_is so.at
+    means keeps) fault_not_full
 at_fault g start all before left number line old e new schema_is built_is before_is so
-    (inr (command, means, placed, inr (at, cut))) =
-    part_within g start all before left number line command cut.0 cut.2.0 old e new before_is so
-    (subst (λ s. IsLineOf s line command) schema_is means) placed
-    (subst (λ s. IsAnswered s so.now command cut.0) schema_is cut.1)
-    (subst (λ s. IsAt g (after_command s so.now command) new) schema_is at) cut.2.1
+    (inr (a, means, inr (at, cut))) =
+    part_within g start all before left number line a cut.0 cut.2.0 old e new before_is so
+    (subst (λ s. IsAsked s (is_inside so.now) line a) schema_is means)
+    (subst (λ s. IsAnsweredTo s so.now a cut.0) schema_is cut.1)
+    (subst (λ s. IsAt g (after_asked s so.now a) new) schema_is at) cut.2.1
 
 -- after another stop nothing of it was
 at_other : {S : Type 0} (g : Ghosts S) (start : Playing) (all before left : Lines) (number : ℕ)

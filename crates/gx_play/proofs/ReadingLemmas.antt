@@ -4,7 +4,6 @@ use Rattle.std.specs.Prelude.{OnOk}
 use Rattle.std.proofs.lemmas.List.{append-nil, length-append}
 use Rattle.gx_schema.specs.declared.schema.Schema.{Schema}
 use Rattle.gx_commands.specs.declared.command.LineWhy.{LineWhy}
-use Rattle.gx_commands.specs.Commands.{inside_after}
 use Rattle.gx_commands.specs.Lines.{Lines, with_line, no_lines, script_lines}
 use Rattle.gx_reader.specs.declared.reader.LineReader.{LineReader}
 use Rattle.gx_reader.specs.Reader.{meant, number_of}
@@ -13,6 +12,7 @@ use Rattle.gx_model.specs.Play.{good, stopped, end_at}
 use Rattle.gx_play.specs.declared.ending.Ending.{Ending}
 use Rattle.gx_play.specs.declared.play.PlayEnd.{PlayEnd}
 use Rattle.gx_play.specs.declared.play.PlayEnd.TheVariants as play_end
+use Rattle.gx_play.specs.Asked.{inside_behind}
 use Rattle.gx_play.specs.Plays.{IsBadAt, IsLineEnd, IsEndingOf}
 use Rattle.gx_play.specs.ScriptEnds.{AreGood, IsLinesEnd, IsScriptEnd}
 use Rattle.gx_play.specs.Readings.{IsReadLine, IsReadTo, IsReadOut, IsReadOn, EndsAs}
@@ -35,12 +35,11 @@ good_more : (schema : Schema) (begun inside behind : Bool) (ran : List (List ℕ
     → AreGood schema begun (ran ++ line ∷ []) behind
 good_more schema begun inside behind [] line before read =
     subst (λ (b : Bool). AreGood schema b (line ∷ []) behind) before
-    (read.command, read.means, read.placed, read.behind_is)
+    (read.asked, read.means, read.behind_is)
 good_more schema begun inside behind (first ∷ ran) line before read = (
   before.0,
   before.1,
-  before.2,
-  good_more schema (inside_after begun before.0) inside behind ran line before.3 read,
+  good_more schema (inside_behind begun before.0) inside behind ran line before.2 read,
 )
 
 pub read_new : (schema : Schema) (begun : Bool) (script : List ℕ) (reader : LineReader)

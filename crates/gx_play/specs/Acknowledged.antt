@@ -6,7 +6,7 @@ use Rattle.gx_device.specs.Quiet.{IsPrefix}
 use Rattle.gx_schema.specs.declared.schema.Schema.{Schema}
 use Rattle.gx_model.specs.States.{State}
 use Rattle.gx_model.specs.Play.{Playing}
-use Rattle.gx_model.specs.Runs.{Runs}
+use Rattle.gx_play.specs.Asked.{Runs}
 
 -- how many commits there were, without a greatest value
 abbrev pub commit_count : Playing → ℕ

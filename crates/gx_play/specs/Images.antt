@@ -3,20 +3,20 @@ use Rattle.std.specs.Prelude.{◌≡◌, ◌⊎◌, ℕ, List, [], ◌++◌, tak
 use Rattle.gx_device.specs.Content.{Moment}
 use Rattle.gx_device.specs.Crash.{Image, LeavesOnly}
 use Rattle.gx_schema.specs.declared.schema.Schema.{Schema}
-use Rattle.gx_commands.specs.declared.command.Command.{Command}
 use Rattle.gx_commands.specs.Lines.{Lines}
 use Rattle.gx_reader.specs.declared.reader.LineReader.{LineReader}
 use Rattle.gx_reader.specs.Reader.{meant, number_of}
 use Rattle.gx_ports.specs.declared.view.View.{Ghosts}
 use Rattle.gx_types.specs.declared.built.Built.{Built}
 use Rattle.gx_model.specs.States.{State}
-use Rattle.gx_model.specs.Play.{Playing, after_command, IsAnswered}
-use Rattle.gx_model.specs.Runs.{Step, Runs}
+use Rattle.gx_model.specs.Play.{Playing}
 use Rattle.gx_engine.specs.declared.engine.Engine.{Engine}
 use Rattle.gx_engine.specs.Steps.{schema_of, built_of, leaves_of}
 use Rattle.gx_engine.specs.Crashes.{HoldsState}
 use Rattle.gx_play.specs.declared.play.Answers.{Answers}
 use Rattle.gx_play.specs.declared.play.Answers.TheVariants as answers
+use Rattle.gx_play.specs.declared.lines.Asked.{Asked}
+use Rattle.gx_play.specs.Asked.{Step, Runs, IsAnsweredTo, after_asked}
 use Rattle.gx_play.specs.Answering.{beside, with_answers}
 use Rattle.gx_play.specs.Plays.{AreSaidUpTo}
 use Rattle.gx_play.specs.Pieces.{IsGoing}
@@ -28,14 +28,14 @@ abbrev pub IsSaidOf : Answers → List ℕ → List ℕ → List ℕ → Type 0
 IsSaidOf answers.Said answer before now = (count : ℕ) × (now ≡ before ++ take count answer)
 IsSaidOf answers.Kept answer before now = now ≡ before
 
--- While a command is carried out and its answer said: the blocks hold the state that was kept
--- before it, and nothing of its answer was said; or the one that is kept after it, and a front of
--- its answer was said.
-pub record IsCommandImage (schema : Schema) (Holds : State → List (List ℕ) → Type 0)
-    (to : Answers) (p : Playing) (command : Command) (start : Moment) (image : Image) : Type 0 where
+-- While what is asked for is carried out and its answer said: the blocks hold the state that was
+-- kept before it, and nothing of its answer was said; or the one that is kept after it, and a front
+-- of its answer was said.
+pub record IsAskedImage (schema : Schema) (Holds : State → List (List ℕ) → Type 0)
+    (to : Answers) (p : Playing) (asked : Asked) (start : Moment) (image : Image) : Type 0 where
   pub is : (Holds p.kept image.blocks × (image.said ≡ start.said))
-      ⊎ ((answer : List ℕ) × IsAnswered schema p command answer
-      × Holds (after_command schema p command).kept image.blocks
+      ⊎ ((answer : List ℕ) × IsAnsweredTo schema p asked answer
+      × Holds (after_asked schema p asked).kept image.blocks
       × IsSaidOf to answer start.said image.said)
   pub shelf : image.shelf ≡ start.shelf
 
@@ -49,12 +49,12 @@ pub record IsLineImage (schema : Schema) (Holds : State → List (List ℕ) → 
       × Holds next.kept image.blocks × IsSaidOf to answer start.said image.said)
   pub shelf : image.shelf ≡ start.shelf
 
--- What a crash leaves from before a command until after it. Unless a call below failed it is calm
--- afterwards.
-pub record LeavesCommand {S : Type 0} (g : Ghosts S) (schema : Schema) (built : Built)
-    (to : Answers) (p : Playing) (command : Command) (failed : Bool) (old new : S) : Type 0 where
-  pub images : LeavesOnly (IsCommandImage schema (HoldsState g schema built (g.head old)) to p
-      command (g.content old).now) (g.content old) (g.content new)
+-- What a crash leaves from before what is asked for until after it. Unless a call below failed it
+-- is calm afterwards.
+pub record LeavesAsked {S : Type 0} (g : Ghosts S) (schema : Schema) (built : Built)
+    (to : Answers) (p : Playing) (asked : Asked) (failed : Bool) (old new : S) : Type 0 where
+  pub images : LeavesOnly (IsAskedImage schema (HoldsState g schema built (g.head old)) to p
+      asked (g.content old).now) (g.content old) (g.content new)
   pub calm : failed ≡ false → g.calm new (g.content new)
 
 -- What a crash leaves from before a line until after it. Unless a call below failed it is calm

@@ -1,11 +1,14 @@
 pub mod Summaries
 pub mod Say
 pub mod Endings
+pub mod Asked
 pub mod Played
 pub mod Plays
+pub mod Carrying
 pub mod Answering
 pub mod Pieces
 pub mod Player
+pub mod Overs
 pub mod ScriptEnds
 pub mod Images
 pub mod Acknowledged

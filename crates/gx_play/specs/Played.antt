@@ -12,11 +12,11 @@ use Rattle.gx_equation.specs.Trees.{DefinitionTree}
 use Rattle.gx_types.specs.declared.built.Built.{Built}
 use Rattle.gx_model.specs.States.{State}
 use Rattle.gx_model.specs.Play.{Playing, End, stopped, start_at, end_text, seen_state, is_inside, after_command}
-use Rattle.gx_model.specs.Runs.{Runs, IsPlayFrom, AreFirstAnswersFrom}
 use Rattle.gx_states.specs.Terms.{state_size}
 use Rattle.gx_engine.specs.Steps.{state_entries}
 use Rattle.gx_engine.specs.Moments.{AreInternal}
 pub use Rattle.gx_engine.specs.Moments.{MayWantRoom}
+use Rattle.gx_play.specs.Asked.{Runs, IsPlayFrom, AreFirstAnswersFrom}
 use Rattle.gx_play.specs.Endings.{memory_line, full_line}
 
 -- such a text was said

@@ -7,12 +7,12 @@ use Rattle.gx_commands.specs.Lines.{script_lines}
 use Rattle.gx_equation.specs.Trees.{DefinitionTree}
 use Rattle.gx_model.specs.States.{State}
 use Rattle.gx_model.specs.Play.{Playing, End, good, stopped, start_at, end_text}
-use Rattle.gx_model.specs.Runs.{Runs}
 use Rattle.gx_play.specs.declared.status.Status.{Status}
 use Rattle.gx_play.specs.declared.status.Status.TheVariants as status
+use Rattle.gx_play.specs.Asked.{Runs}
 use Rattle.gx_play.specs.Endings.{memory_line, full_line}
 use Rattle.gx_play.specs.Played.{IsPlay, AreFirst, MayBeFull}
-use Rattle.gx_play.specs.Plays.{AreSaidUpTo}
+use Rattle.gx_play.specs.Plays.{AreSaidUpTo, IsCommitLine}
 
 -- M is where a play stands.
 pub record Play (M : Type 0) : Type 1 where
@@ -24,6 +24,8 @@ pub record Play (M : Type 0) : Type 1 where
   pub First : List ℕ → M → Type 0
   -- the same, where the pages may be too few for the command of the next step
   pub Full : List ℕ → M → Type 0
+  -- the same, where the next step is a commit
+  pub Commits : List ℕ → M → Type 0
   -- what is said of some first steps: all their answers, but perhaps an end of the last one's
   pub Front : List ℕ → M → Type 0
 
@@ -82,6 +84,13 @@ pub record IsSaidFront (schema : Schema) (start : State) (script told : List ℕ
   pub runs : Runs schema (start_at start) ran answers m
   pub up_to : AreSaidUpTo schema (start_at start) ran answers [] told
 
+-- the same, where the next line is a commit
+pub record IsBeforeCommit (schema : Schema) (start : State) (script answers : List ℕ)
+    (m : Playing) : Type 0 where
+  pub first : AreFirst schema start script answers
+  pub is : m ≡ first.final
+  pub commits : IsCommitLine schema first.later
+
 -- the play of a script's lines from a state on
 abbrev pub line_play : Schema → List DefinitionTree → Option Limits → State → List ℕ → Play Playing
 line_play schema ds limit start script = record {
@@ -89,5 +98,6 @@ line_play schema ds limit start script = record {
   Ends = λ end answers m. IsPlay schema start script answers m end;
   First = λ answers m. IsAfterFirst schema start script answers m;
   Full = λ answers m. MayBeFull schema ds limit start script answers m;
+  Commits = λ answers m. IsBeforeCommit schema start script answers m;
   Front = λ told m. IsSaidFront schema start script told m;
 }

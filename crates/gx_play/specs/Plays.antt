@@ -17,13 +17,15 @@ use Rattle.gx_ports.specs.Stops.{is_outside}
 use Rattle.gx_ports.specs.declared.stop.Stop.{Stop}
 use Rattle.gx_ports.specs.declared.stop.Stop.TheVariants as stop
 use Rattle.gx_model.specs.States.{State}
-use Rattle.gx_model.specs.Play.{Playing, End, good, stopped, is_inside, after_command, start_at, IsAnswered}
+use Rattle.gx_model.specs.Play.{Playing, End, good, stopped, is_inside, start_at}
 use Rattle.gx_types.specs.declared.built.Built.{Built}
-use Rattle.gx_model.specs.Runs.{Runs, IsBadLine, IsPlayFrom}
 pub use Rattle.gx_engine.specs.declared.engine.Engine.{Engine}
 use Rattle.gx_engine.specs.Moments.{AreInternal}
 pub use Rattle.gx_engine.specs.Steps.{AreFor, IsAt, IsReady, schema_of, built_of, stop_of, leaves_of}
-use Rattle.gx_engine.specs.Steps.{IsShortFor, is_commit}
+use Rattle.gx_engine.specs.Steps.{IsShortFor}
+use Rattle.gx_play.specs.declared.lines.Asked.{Asked}
+use Rattle.gx_play.specs.declared.lines.Asked.TheVariants as asked
+use Rattle.gx_play.specs.Asked.{IsAsked, IsAnsweredTo, after_asked, is_commit, IsBadLine, Runs, IsPlayFrom}
 use Rattle.gx_play.specs.declared.ending.Ending.{Ending}
 use Rattle.gx_play.specs.declared.ending.Ending.TheVariants as ending
 use Rattle.gx_play.specs.Endings.{ending_of}
@@ -36,49 +38,46 @@ use Rattle.gx_play.specs.declared.play.Answers.{Answers}
 use Rattle.gx_play.specs.declared.play.Answers.TheVariants as answers
 use Rattle.gx_play.specs.Say.{OnlySays}
 
--- a command was carried out and its answer said, and the engine stands for what comes after it
-pub record IsCommandPlayed {S : Type 0} (g : Ghosts S) (p : Playing) (command : Command)
+-- what is asked for was carried out and its answer said, and the engine stands for what comes after
+-- it
+pub record IsAskedPlayed {S : Type 0} (g : Ghosts S) (p : Playing) (a : Asked)
     (old new : Engine S) : Type 0 where
   pub answer : List ℕ
-  pub answered : IsAnswered (schema_of old) p command answer
-  pub at : IsAt g (after_command (schema_of old) p command) new
+  pub answered : IsAnsweredTo (schema_of old) p a answer
+  pub at : IsAt g (after_asked (schema_of old) p a) new
   pub said : IsTrue g.tells
       → (g.content (leaves_of new)).now.said ≡ (g.content (leaves_of old)).now.said ++ answer
 
--- the same of the command that a line means, which may stand there
+-- the same of what a line asks for
 pub record IsLinePlayed {S : Type 0} (g : Ghosts S) (p : Playing) (line : List ℕ)
     (old new : Engine S) : Type 0 where
-  pub command : Command
-  pub means : IsLineOf (schema_of old) line command
-  pub placed : place_reason (is_inside p) command ≡ None
-  pub played : IsCommandPlayed g p command old new
+  pub asked : Asked
+  pub means : IsAsked (schema_of old) (is_inside p) line asked
+  pub played : IsAskedPlayed g p asked old new
 
--- nothing was said of a command, and unless it is a commit what was last committed stays
-abbrev pub IsCommandUnsaid : {S : Type 0} → Ghosts S → Command → Engine S → Engine S → Type 0
-IsCommandUnsaid g command old new =
+-- nothing was said of it, and unless it is a commit what was last committed stays
+abbrev pub IsAskedUnsaid : {S : Type 0} → Ghosts S → Asked → Engine S → Engine S → Type 0
+IsAskedUnsaid g a old new =
     ((g.content (leaves_of new)).now.said ≡ (g.content (leaves_of old)).now.said)
-    × (is_commit command ≡ false → Keeps g (leaves_of old) (leaves_of new))
+    × (is_commit a ≡ false → Keeps g (leaves_of old) (leaves_of new))
 
--- a command was carried out, and a front of its answer was said
-abbrev pub IsAnswerCut : {S : Type 0} → Ghosts S → Playing → Command → Engine S → Engine S → Type 0
-IsAnswerCut g p command old new =
-    IsAt g (after_command (schema_of old) p command) new
-    × ((answer : List ℕ) × IsAnswered (schema_of old) p command answer
+-- it was carried out, and a front of its answer was said
+abbrev pub IsAnswerCut : {S : Type 0} → Ghosts S → Playing → Asked → Engine S → Engine S → Type 0
+IsAnswerCut g p a old new =
+    IsAt g (after_asked (schema_of old) p a) new
+    × ((answer : List ℕ) × IsAnsweredTo (schema_of old) p a answer
     × ((count : ℕ) × ((g.content (leaves_of new)).now.said
     ≡ (g.content (leaves_of old)).now.said ++ take count answer)))
 
--- A command was given up: nothing was said, or a front of its answer behind which it was carried
--- out.
-abbrev pub IsCommandCut : {S : Type 0} → Ghosts S → Playing → Command → Engine S → Engine S → Type 0
-IsCommandCut g p command old new =
-    IsCommandUnsaid g command old new ⊎ IsAnswerCut g p command old new
+-- It was given up: nothing was said, or a front of its answer behind which it was carried out.
+abbrev pub IsAskedCut : {S : Type 0} → Ghosts S → Playing → Asked → Engine S → Engine S → Type 0
+IsAskedCut g p a old new = IsAskedUnsaid g a old new ⊎ IsAnswerCut g p a old new
 
--- the same of the command that a line means, which may stand there; where none was read, nothing
--- happened
+-- the same of what a line asks for; where it wasn't read, nothing happened
 abbrev pub IsLineCut : {S : Type 0} → Ghosts S → Playing → List ℕ → Engine S → Engine S → Type 0
 IsLineCut g p line old new =
-    (new ≡ old) ⊎ ((command : Command) × IsLineOf (schema_of old) line command
-    × (place_reason (is_inside p) command ≡ None) × IsCommandCut g p command old new)
+    (new ≡ old) ⊎ ((a : Asked) × IsAsked (schema_of old) (is_inside p) line a
+    × IsAskedCut g p a old new)
 
 -- the line of this number is bad
 abbrev pub IsBadAt : Schema → Bool → ℕ → List ℕ → ℕ → LineWhy → Type 0
@@ -132,21 +131,26 @@ pub record CountsFailed (before now : ℕ) (failed : Bool) : Type 0 where
 
 -- ---- the play of lines
 
+-- the pages may be too few for what is asked for, which is no path
+abbrev pub IsAskedShort : {S : Type 0} → Ghosts S → Engine S → Playing → Asked → Type 0
+IsAskedShort g e p (asked.Command c) = IsShortFor g e p c
+IsAskedShort g e p (asked.Path q) = ⊥
+
 -- the pages may be too few for the command of a line, which may stand there
 abbrev pub IsShortLine : {S : Type 0} → Ghosts S → Engine S → Playing → List ℕ → Type 0
 IsShortLine g e p line =
     (command : Command) × IsLineOf (schema_of e) line command
     × (place_reason (is_inside p) command ≡ None) × IsShortFor g e p command
 
--- A command was given up: unless a call below failed, nothing was said of it, and what was last
--- committed stays.
-pub record IsCommandGivenUp {S : Type 0} (g : Ghosts S) (p : Playing) (command : Command)
+-- What is asked for was given up: unless a call below failed, nothing was said of it, and what was
+-- last committed stays.
+pub record IsAskedGivenUp {S : Type 0} (g : Ghosts S) (p : Playing) (a : Asked)
     (old new : Engine S) (why : Stop) : Type 0 where
   pub unsaid : why ≢ stop.Fault
       → (g.content (leaves_of new)).now.said ≡ (g.content (leaves_of old)).now.said
-  pub cut : IsCommandCut g p command old new
+  pub cut : IsAskedCut g p a old new
   pub kept : why ≢ stop.Fault → Keeps g (leaves_of old) (leaves_of new)
-  pub short : why ≡ stop.Full → IsShortFor g old p command
+  pub short : why ≡ stop.Full → IsAskedShort g old p a
 
 -- A line was given up: unless a call below failed, nothing of it was said, and what was last
 -- committed stays.

@@ -1,25 +1,23 @@
 -- Which lines a play reads, whatever it is played on: good ones, and where they end.
-use Rattle.std.specs.Prelude.{◌≡◌, ℕ, List, [], ◌++◌, length, Bool, None, Result, Ok, Err}
+use Rattle.std.specs.Prelude.{◌≡◌, ℕ, List, [], ◌++◌, length, Bool, Result, Ok, Err}
 use Rattle.gx_schema.specs.declared.schema.Schema.{Schema}
-use Rattle.gx_commands.specs.declared.command.Command.{Command}
-use Rattle.gx_commands.specs.Commands.{place_reason, inside_after}
 use Rattle.gx_commands.specs.Lines.{Lines, no_lines}
-use Rattle.gx_script.specs.Grammar.{IsLineOf}
 use Rattle.gx_reader.specs.declared.reader.LineReader.{LineReader}
 use Rattle.gx_reader.specs.Reader.{meant, number_of}
 use Rattle.gx_model.specs.Play.{End, good, stopped}
 use Rattle.gx_play.specs.declared.ending.Ending.{Ending}
 use Rattle.gx_play.specs.declared.ending.Ending.TheVariants as ending
+use Rattle.gx_play.specs.declared.lines.Asked.{Asked}
+use Rattle.gx_play.specs.Asked.{IsAsked, inside_behind}
 use Rattle.gx_play.specs.ScriptEnds.{AreGood, IsLinesEnd}
 use Rattle.gx_play.specs.declared.play.PlayEnd.{PlayEnd}
 use Rattle.gx_play.specs.declared.play.PlayEnd.TheVariants as play_end
 
 -- a good line, and whether a transaction is open before it and behind it
 pub record IsReadLine (schema : Schema) (line : List ℕ) (inside behind : Bool) : Type 0 where
-  pub command : Command
-  pub means : IsLineOf schema line command
-  pub placed : place_reason inside command ≡ None
-  pub behind_is : behind ≡ inside_after inside command
+  pub asked : Asked
+  pub means : IsAsked schema inside line asked
+  pub behind_is : behind ≡ inside_behind inside asked
 
 -- so many good lines were read, and these are left
 pub record IsReadTo (schema : Schema) (begun : Bool) (all left : Lines) (number : ℕ)

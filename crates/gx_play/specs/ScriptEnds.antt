@@ -1,20 +1,18 @@
 -- Where a script ends by its lines alone, whatever state it is played from.
 use Rattle.std.specs.Prelude.{◌≡◌, ℕ, ◌+◌, List, [], ◌∷◌, length, Bool, false, Option, Some, None, Result, Ok, Err}
 use Rattle.gx_schema.specs.declared.schema.Schema.{Schema}
-use Rattle.gx_commands.specs.declared.command.Command.{Command}
 use Rattle.gx_commands.specs.declared.command.LineWhy.{LineWhy}
-use Rattle.gx_commands.specs.Commands.{place_reason, inside_after}
 use Rattle.gx_commands.specs.Lines.{Lines, script_lines}
-use Rattle.gx_script.specs.Grammar.{IsLineOf}
 use Rattle.gx_model.specs.Play.{End, stopped, end_at}
-use Rattle.gx_model.specs.Runs.{IsBadLine, AreFirstLines}
+use Rattle.gx_model.specs.Languages.{AreFirstLines}
+use Rattle.gx_play.specs.declared.lines.Asked.{Asked}
+use Rattle.gx_play.specs.Asked.{IsAsked, IsBadLine, inside_behind}
 
 -- good lines that may stand where they do, and whether a transaction is open behind them
 abbrev pub AreGood : Schema → Bool → List (List ℕ) → Bool → Type 0
 AreGood schema inside [] final = final ≡ inside
 AreGood schema inside (line ∷ lines) final =
-    (c : Command) × IsLineOf schema line c × (place_reason inside c ≡ None)
-    × AreGood schema (inside_after inside c) lines final
+    (a : Asked) × IsAsked schema inside line a × AreGood schema (inside_behind inside a) lines final
 
 -- where the next line isn't one of them, or there is none
 abbrev pub IsEndAt : Schema → Bool → ℕ → Result (Option (List ℕ)) LineWhy → End → Type 0

@@ -2,33 +2,31 @@
 ghost use Rattle.std.specs.Prelude.{◌≡◌, ◌≤◌, None, Err, length, IsTrue, IfOk, OnOk, OnErr, false};
 ghost use Rattle.gx_device.specs.Content.{Content};
 ghost use Rattle.gx_schema.specs.WellFormed.{IsWellFormed};
-ghost use Rattle.gx_ports.specs.Stops.{is_fault, HasStopCause};
-ghost use Rattle.gx_ports.specs.Calls.{Keeps};
-ghost use Rattle.gx_engine.specs.Steps.{IsReady, IsAt, IsDue, IsSound, IsShortFor, CarriesOut, KeepsEngine, schema_of, built_of, is_open, stop_of, leaves_of};
-ghost use Rattle.gx_engine.specs.Crashes.{LeavesStates};
+ghost use Rattle.gx_ports.specs.Stops.{is_fault};
+ghost use Rattle.gx_engine.specs.Steps.{IsReady, IsAt, schema_of, built_of, is_open, stop_of, leaves_of};
 ghost use Rattle.gx_model.specs.Play.{Playing};
-ghost use Rattle.gx_model.specs.Runs.{IsBadLine};
-ghost use Rattle.gx_commands.specs.Commands.{inside_after};
 ghost use Rattle.gx_commands.specs.Lines.{longest_line};
-ghost use Rattle.gx_script.specs.Grammar.{IsLineOf};
+ghost use Rattle.gx_play.specs.Asked.{IsAsked, IsBadLine, inside_behind};
+ghost use Rattle.gx_play.specs.Carrying.{IsDueAsked, IsAskedStep, without_first};
 ghost use Rattle.gx_play.specs.Answering.{are_told, beside, with_answers};
-ghost use Rattle.gx_play.specs.Plays.{IsLinePlayed, IsCommandPlayed, IsGivenUp, IsCommandGivenUp, HasPlayCause, KeepsPlayed, CountsFailed, is_line_fault};
-ghost use Rattle.gx_play.specs.Images.{LeavesLine, LeavesCommand};
+ghost use Rattle.gx_play.specs.Plays.{IsLinePlayed, IsAskedPlayed, IsGivenUp, IsAskedGivenUp, HasPlayCause, KeepsPlayed, CountsFailed, is_line_fault};
+ghost use Rattle.gx_play.specs.Images.{LeavesLine, LeavesAsked};
 ghost use Rattle.gx_play.specs.Readings.{IsReadLine};
 
-use crate::lines::line_command;
+use crate::lines::{Asked, asked_line};
 use crate::play::Answers;
 use crate::say::answer_all;
-use gx_commands::{Command, LineWhy};
+use gx_commands::LineWhy;
 use gx_engine::{Engine, StepStop};
 use gx_ports::{Leaves, Stop};
 use gx_values::Octets;
+use gx_walks::answer_path;
 use std::alloc::Global;
 
 /// Why a line isn't carried out.
 #[derive(Clone, Copy, Debug)]
 pub enum LineEnd {
-    /// It means no command, or one that may not stand there.
+    /// It means no path, and no command that may stand there.
     Bad(LineWhy),
     /// It was given up.
     Stop(Stop),
@@ -86,97 +84,96 @@ pub fn play_line<B: Leaves + Drop>(
     ensures counts { CountsFailed (B.faults (leaves_of engine.old))
         (B.faults (leaves_of engine.new)) (is_line_fault result) }
 {
-    let command = due_command(alloc, line, engine)?;
-    carry_out(alloc, command, answers, engine, out)?;
+    let asked = due_line(alloc, line, engine)?;
+    carry_out(alloc, asked, answers, engine, out)?;
     Ok(())
 }
 
-// The command of a line, which may stand where the engine is.
-fn due_command<B: Leaves + Drop>(
+// What a line asks for, which may stand where the engine is.
+fn due_line<B: Leaves + Drop>(
     alloc: Global,
     line: &[u8],
     engine: &Engine<B>,
-) -> Result<Command, LineEnd>
+) -> Result<Asked, LineEnd>
     requires well_formed { IsWellFormed (schema_of engine.now) }
     requires short { length line.now ≤ longest_line }
-    ensures read { IfOk result (IsLineOf (schema_of engine.now) line.now) }
-    ensures due { IfOk result (IsDue engine.now) }
+    ensures read { IfOk result (IsAsked (schema_of engine.now) (is_open engine.now) line.now) }
+    ensures due { IfOk result (IsDueAsked engine.now) }
     ensures bad { (why : LineWhy) → result ≡ Err (LineEnd.Bad why) →
         IsBadLine (schema_of engine.now) (is_open engine.now) line.now why }
     ensures unread { (stop : Stop) → result ≡ Err (LineEnd.Stop stop) → stop ≡ Stop.NoMemory }
 {
-    line_command(alloc, engine.schema(), engine.inside(), line)
+    asked_line(alloc, engine.schema(), engine.inside(), line)
 }
 
-// Carries out a command, and says its answer whole or keeps it.
+// Carries out what is asked for, and says its answer whole or keeps it.
 fn carry_out<B: Leaves + Drop>(
     alloc: Global,
-    command: Command,
+    asked: Asked,
     answers: Answers,
     engine: &mut Engine<B>,
     out: &mut Octets,
 ) -> Result<(), Stop>
     requires ready { IsReady B.View engine.old }
-    requires due { IsDue engine.old command }
+    requires well_formed { IsWellFormed (schema_of engine.old) }
+    requires due { IsDueAsked engine.old asked }
     requires going { stop_of engine.old ≡ None }
     ensures answered { (p : Playing) → IsAt B.View p engine.old → OnOk result
-        (IsCommandPlayed (beside B.View answers) p command (with_answers engine.old out.old)
+        (IsAskedPlayed (beside B.View answers) p asked (with_answers engine.old out.old)
         (with_answers engine.new out.new)) }
     ensures given_up { IsTrue (are_told B.tells answers) → (p : Playing) →
         IsAt B.View p engine.old →
         (stop : Stop) → result ≡ Err stop →
-        IsCommandGivenUp (beside B.View answers) p command (with_answers engine.old out.old)
+        IsAskedGivenUp (beside B.View answers) p asked (with_answers engine.old out.old)
         (with_answers engine.new out.new) stop }
     ensures cause { (p : Playing) → IsAt B.View p engine.old → (stop : Stop) → result ≡ Err stop →
         HasPlayCause (B.limit (leaves_of engine.old)) (B.faults (leaves_of engine.old))
         (B.faults (leaves_of engine.new)) stop }
     ensures crash { IsTrue (are_told B.tells answers) → (p : Playing) → IsAt B.View p engine.old →
         (start : Content) → B.calm (leaves_of engine.old) start →
-        LeavesCommand B.View (schema_of engine.old) (built_of engine.old) answers p command
+        LeavesAsked B.View (schema_of engine.old) (built_of engine.old) answers p asked
         (is_fault result) (leaves_of engine.old) (leaves_of engine.new) }
     ensures keeps { KeepsPlayed B.View answers engine.old engine.new }
     ensures going { OnOk result (stop_of engine.new ≡ None) }
-    ensures inside { OnOk result (is_open engine.new ≡ inside_after (is_open engine.old) command) }
+    ensures inside { OnOk result (is_open engine.new ≡ inside_behind (is_open engine.old) asked) }
     ensures counts { CountsFailed (B.faults (leaves_of engine.old))
         (B.faults (leaves_of engine.new)) (is_fault result) }
 {
     match answers {
         Answers::Said => {
             out.0.clear();
-            step(alloc, command, engine, out)?;
+            step(alloc, asked, engine, out)?;
             answer_all(engine, out.as_slice())?;
             Ok(())
         }
-        Answers::Kept => step(alloc, command, engine, out),
+        Answers::Kept => step(alloc, asked, engine, out),
     }
 }
 
-// Carries out a command and appends its answer.
+// Carries out what is asked for and appends its answer.
 fn step<B: Leaves + Drop>(
     alloc: Global,
-    command: Command,
+    asked: Asked,
     engine: &mut Engine<B>,
     out: &mut Octets,
 ) -> Result<(), Stop>
     requires ready { IsReady B.View engine.old }
-    requires due { IsDue engine.old command }
+    requires well_formed { IsWellFormed (schema_of engine.old) }
+    requires due { IsDueAsked engine.old asked }
     requires going { stop_of engine.old ≡ None }
-    ensures carried { (p : Playing) → IsAt B.View p engine.old →
-        OnOk result (CarriesOut B.View p command engine.old engine.new out.old out.new) }
-    ensures full { (p : Playing) → IsAt B.View p engine.old → result ≡ Err Stop.Full →
-        IsShortFor B.View engine.old p command }
-    ensures images { (p : Playing) → IsAt B.View p engine.old → (start : Content) →
-        B.calm (leaves_of engine.old) start →
-        LeavesStates B.View p command engine.old engine.new (is_fault result) }
-    ensures unsaid { OnErr result (out.new ≡ out.old) }
-    ensures rest { KeepsEngine B.View engine.old engine.new command result }
-    ensures kept { is_fault result ≡ false →
-        OnErr result (Keeps B.View (leaves_of engine.old) (leaves_of engine.new)) }
-    ensures goes_on { IsReady B.View engine.new × OnOk result (stop_of engine.new ≡ None) }
-    ensures cause { HasStopCause (B.faults (leaves_of engine.old))
-        (B.faults (leaves_of engine.new)) (IsSound B.View engine.old) result }
+    ensures step { IsAskedStep B.View engine.old engine.new asked out.old out.new result }
 {
-    match engine.step(alloc, command, out) {
+    match asked {
+        Asked::Command(command) => without_first(engine.step(alloc, command, out)),
+        Asked::Path(query) => without_first(answer_path(alloc, engine, &query, out)),
+    }
+}
+
+// How a step ended, where its stop is the first one or a later one.
+fn without_first(ended: Result<(), StepStop>) -> Result<(), Stop>
+    ensures { result ≡ without_first ended }
+{
+    match ended {
         Ok(()) => Ok(()),
         Err(StepStop::Now(stop) | StepStop::Stopped(stop)) => Err(stop),
     }

@@ -16,7 +16,7 @@ pub use carry::{LineEnd, play_line};
 pub use ending::{DeviceWhy, Ending, end};
 pub use gx_engine::Engine;
 pub use laws::acked_commits_are_kept;
-pub use lines::{PIECE_LEN, line_command, next_line, placed_command};
+pub use lines::{Asked, PIECE_LEN, asked_at, line_command, next_line};
 pub use outcome::{finish, tell};
 pub use over_leaves::play_over;
 pub use play::{Answers, PlayEnd, play_script};

@@ -9,7 +9,7 @@ use Rattle.gx_ports.specs.declared.view.View.{Ghosts}
 use Rattle.gx_types.specs.declared.built.Built.{Built}
 use Rattle.gx_model.specs.Play.{after_command, IsAnswered}
 use Rattle.gx_engine.specs.declared.engine.Engine.{Engine}
-use Rattle.gx_engine.specs.Steps.{schema_of, built_of, leaves_of, IsAt, IsShortFor, CarriesOut, KeepsEngine}
+use Rattle.gx_engine.specs.Steps.{schema_of, built_of, leaves_of, IsReady, IsAt, IsShortFor, CarriesOut, KeepsEngine}
 use Rattle.gx_sharing.specs.Sharing.{Sharing, Session, outside, inside, ended, view_in, play_of, session_after}
 use Rattle.gx_sessions.specs.declared.session.SessionState.{SessionState}
 use Rattle.gx_sessions.specs.Standings.{IsSession, stands_in, commands_of}
@@ -33,11 +33,11 @@ module _ {S : Type 0} (g : Ghosts S) where
   pub short_last : (p : Sharing) (n : ℕ) (c : Command) (schema : Schema) (built : Built)
       (limit : Option Limits) (state : SessionState) (e : Engine S) → schema_of e ≡ schema
       → built_of e ≡ built → g.limit (leaves_of e) ≡ limit → IsSession schema (p.session n) state
-      → place_reason (stands_in state.standing) c ≡ None
+      → place_reason (stands_in state.standing) c ≡ None → IsReady g e
       → IsAt g (play_of schema p n) e → IsShortFor g e (play_of schema p n) c
       → IsShortAmong schema built limit p (commands_of (p.session n) ++ c ∷ [])
-  short_last p n c schema built limit state e same_schema same_built same_limit is allowed at
-      short =
+  short_last p n c schema built limit state e same_schema same_built same_limit is allowed ready
+      at short =
       go (p.session n) is at short
     where
       go : (s : Session) → IsSession schema s state
@@ -52,7 +52,7 @@ module _ {S : Type 0} (g : Ghosts S) where
           ∙ allowed) wants.0.kind)
       go (inside cs) so here wants =
           short_at g p (cs ++ c ∷ []) cs c [] schema built limit e same_schema same_built same_limit
-          refl here wants
+          refl ready here wants
 
   pub carried_for : (p : Sharing) (n : ℕ) (c : Command) (schema : Schema) (carried : Option ℕ)
       (mid new : Engine S) (state : SessionState) (out now : List ℕ) → schema_of mid ≡ schema

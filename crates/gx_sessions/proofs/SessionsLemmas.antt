@@ -1,17 +1,27 @@
 -- One of the sessions goes on, and the others stay.
-use Rattle.std.proofs.Common.{◌≡◌, ◌≢◌, ℕ, ◌+◌, ◌-◌, ◌<◌, ◌⊎◌, List, length, get_or, set, Bool, true, false, cond, Option, Some, sym, ap, subst, ◌∙◌, arith, inl, inr, eq-eqb, ne_eqb}
+use Rattle.std.proofs.Common.{◌≡◌, ◌≢◌, ℕ, ◌+◌, ◌-◌, ◌<◌, ◌≤◌, ◌⊎◌, List, map, length, get_or, set, Bool, true, false, cond, Option, Some, Result, Ok, Err, OnOk, sym, ap, subst, ◌∙◌, arith, inl, inr, eq-eqb, ne_eqb}
 use Rattle.std.specs.Prelude.{◌==◌}
 use Rattle.std.proofs.lemmas.Bool.{true≢false, cases_Bool, eqb-true}
-use Rattle.std.proofs.lemmas.List.{get_or-set_other, length-set}
+use Rattle.std.proofs.lemmas.List.{get_or-map, get_or-set_other, length-map, length-set, map-set}
 use Rattle.std.proofs.lemmas.Grind.{get_or-set_at}
 use Rattle.gx_schema.specs.declared.schema.Schema.{Schema}
+use Rattle.gx_commands.specs.declared.command.Command.{Command}
+use Rattle.gx_commands.specs.Commands.{inside_after}
+use Rattle.gx_ports.specs.declared.stop.Stop.{Stop}
 use Rattle.gx_ports.specs.declared.view.View.{Ghosts}
 use Rattle.gx_engine.specs.declared.engine.Engine.{Engine}
 use Rattle.gx_engine.specs.Steps.{schema_of}
 use Rattle.gx_sharing.specs.Sharing.{Sharing, Session, view_in, with_session}
 use Rattle.gx_sessions.specs.declared.session.SessionState.{SessionState}
-use Rattle.gx_sessions.specs.Standings.{IsSession, IsWhole, AreSessions, AreWhole}
+use Rattle.gx_sessions.specs.declared.session.Standing.{Standing}
+use Rattle.gx_sessions.specs.declared.session.Standing.TheVariants.{Outside}
+use Rattle.gx_sessions.specs.declared.sessions.Sessions.{Sessions}
+use Rattle.gx_sessions.specs.Standings.{IsSession, IsWhole, AreSessions, AreWhole, is_within}
 use Rattle.gx_sessions.specs.Shared.{IsShared}
+use Rattle.gx_sessions.specs.Turns.{standing_at, is_in_at, MovesTo}
+
+abbrev standing_in : SessionState → Standing
+standing_in state = state.standing
 
 same_number : (k i : ℕ) → k ≡ i → ((k + 1) == (i + 1)) ≡ true
 same_number k i e = eq-eqb (k + 1) (i + 1) (ap (λ n. n + 1) e)
@@ -56,6 +66,78 @@ module _ (schema : Schema) (states : List SessionState) (i : ℕ) (state : Sessi
           (λ same. true≢false (sym (eq-eqb k i same) ∙ e)))) (are.each k other within)
     ];
   }
+
+-- ---- where the sessions stand
+
+module _ {S : Type 0} (old new : Sessions S) (i : ℕ) (state : SessionState)
+    (eight : length old.states.items ≡ 8) (lt : i < 8)
+    (states : new.states.items ≡ set old.states.items i state) where
+  standings : map standing_in new.states.items
+      ≡ set (map standing_in old.states.items) i state.standing
+  standings =
+      ap (λ (xs : List SessionState). map standing_in xs) states
+      ∙ map-set standing_in old.states.items i state
+
+  long : length (map standing_in old.states.items) ≡ 8
+  long = length-map old.states.items standing_in ∙ eight
+
+  -- of the session that was set, and of another
+  pub moved : (n : ℕ) (within : Bool) → i + 1 ≡ n → is_within state.standing ≡ within
+      → MovesTo old new n within
+  moved n within number is = record { at = λ m numbered. go m numbered.0 }
+    where
+      go : (m : ℕ) → 1 ≤ m
+          → is_in_at new m ≡ cond (m == n) within (is_in_at old m)
+      go m least = elim (cases_Bool (m == n)) [
+        | inl e ↦
+            let same : m ≡ n = eqb-true m n e in
+            ap (λ (xs : List Standing). is_within (get_or xs (m - 1) Outside)) standings
+            ∙ ap is_within (get_or-set_at (map standing_in old.states.items) i (m - 1) state.standing
+            Outside (omega (arith, same, number)) (omega (arith, lt, long)))
+            ∙ is
+            ∙ ap (λ (b : Bool). cond b within (is_in_at old m)) (sym e)
+        | inr e ↦
+            ap (λ (xs : List Standing). is_within (get_or xs (m - 1) Outside)) standings
+            ∙ ap is_within (get_or-set_other (map standing_in old.states.items) i (m - 1)
+            state.standing Outside
+            (λ same. true≢false (sym (eq-eqb m n (omega (arith, same, number, least))) ∙ e)))
+            ∙ ap (λ (b : Bool). cond b within (is_in_at old m)) (sym e)
+      ]
+
+-- where it stands is what the table says of it
+pub within_there : {S : Type 0} (s : Sessions S) (n i : ℕ) (state : SessionState) → i + 1 ≡ n
+    → i < length s.states.items → state ≡ get_or s.states.items i state
+    → standing_at s n ≡ state.standing
+within_there s n i state number lt is =
+    let e : n - 1 ≡ i = omega (arith, number) in
+    ap (λ k. get_or (map standing_in s.states.items) k Outside) e
+    ∙ get_or-map standing_in s.states.items i state Outside lt
+    ∙ ap standing_in (sym is)
+
+-- the session that was set is where its command leads
+pub moved_on : {S : Type 0} (r : Result (Unit {0}) Stop) (old new : Sessions S) (i : ℕ)
+    (before state : SessionState) → length old.states.items ≡ 8 → i < 8
+    → new.states.items ≡ set old.states.items i state → (n : ℕ) (c : Command) → i + 1 ≡ n
+    → before ≡ get_or old.states.items i before
+    → OnOk r (is_within state.standing ≡ inside_after (is_within before.standing) c)
+    → OnOk r (MovesTo old new n (inside_after (is_in_at old n) c))
+moved_on (Ok x) old new i before state eight lt states n c number there is =
+    moved old new i state eight lt states n (inside_after (is_in_at old n) c) number
+    (is ∙ ap (λ (s : Standing). inside_after (is_within s) c)
+    (sym (within_there old n i before number (omega (arith, lt, eight)) there)))
+moved_on (Err e) old new i before state eight lt states n c number there is = tt
+
+-- nothing moves
+pub unmoved : {S : Type 0} (s : Sessions S) (n : ℕ) (within : Bool) → within ≡ is_in_at s n
+    → MovesTo s s n within
+unmoved s n within is = record {
+  at = λ m numbered. elim (cases_Bool (m == n)) [
+    | inl e ↦
+        ap (λ k. is_in_at s k) (eqb-true m n e) ∙ sym is
+        ∙ ap (λ (b : Bool). cond b within (is_in_at s m)) (sym e)
+    | inr e ↦ ap (λ (b : Bool). cond b within (is_in_at s m)) (sym e)
+  ];
+}
 
 -- the engine stands for the same where one session sees the same
 module _ {S : Type 0} (g : Ghosts S) where

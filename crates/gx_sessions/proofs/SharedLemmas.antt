@@ -186,11 +186,11 @@ module _ {S : Type 0} (g : Ghosts S) where
       (schema : Schema) (built : Built) (limit : Option Limits) (e : Engine S)
       → schema_of e ≡ schema → built_of e ≡ built → g.limit (leaves_of e) ≡ limit
       → cs ≡ before ++ c ∷ later
-      → IsAt g (seeing p (Some (played schema p.kept before))) e
+      → IsReady g e → IsAt g (seeing p (Some (played schema p.kept before))) e
       → IsShortFor g e (seeing p (Some (played schema p.kept before))) c
       → IsShortAmong schema built limit p cs
-  short_at p cs before c later schema built limit e same_schema same_built same_limit parts at
-      short =
+  short_at p cs before c later schema built limit e same_schema same_built same_limit parts
+      ready at short =
       let w = played schema p.kept before in
       let q = seeing p (Some w) in
       let next : seen_state (after_command (schema_of e) q c) ≡ next_state schema w c =
@@ -203,6 +203,7 @@ module _ {S : Type 0} (g : Ghosts S) where
         parts = parts;
         wants = subst (λ (x : Schema). MayWantRoom x q c) same_schema short.0;
         maps = g.working (leaves_of e);
+        many = sym ready.owned.each ∙ ap (λ (b : Built). length b.owners) same_built;
         stands = subst (λ (x : Schema). AreInternal x built (g.working (leaves_of e)) w) same_schema
             (subst (λ (b : Built). AreInternal (schema_of e) b (g.working (leaves_of e)) w)
             same_built at.stands.working_is);
@@ -232,6 +233,7 @@ short_more schema built limit p kept cs more is short =
       wants = subst (λ (s : State). MayWantRoom schema (seeing p (Some s)) short.command) same
           short.wants;
       maps = short.maps;
+      many = short.many;
       stands = subst (λ (s : State). AreInternal schema built short.maps s) same short.stands;
       short = subst (λ (s : State). IsCrowdedBy limit (entry_count short.maps
           + state_entries built (next_state schema s short.command))) same short.short;

@@ -7,7 +7,7 @@ use Rattle.gx_schema.specs.declared.schema.Schema.{Schema}
 use Rattle.gx_commands.specs.declared.command.Command.{Command}
 use Rattle.gx_commands.specs.declared.command.Command.TheVariants as command
 use Rattle.gx_commands.specs.Commands.{IsOfSchema, inside_after}
-use Rattle.gx_sharing.specs.Locks.{stronger, lock_of}
+use Rattle.gx_sharing.specs.Locks.{Item, Mode, free, shared, exclusive, conflict, stronger, lock_of}
 use Rattle.gx_sharing.specs.Kept.{is_kept, kept_of}
 use Rattle.gx_sharing.specs.Sharing.{Session, outside, inside, ended, session_after}
 use Rattle.gx_sharing.proofs.Modes.{held_push}
@@ -18,7 +18,7 @@ use Rattle.gx_sessions.specs.declared.session.Standing.{Standing}
 use Rattle.gx_sessions.specs.declared.session.Standing.TheVariants.{Outside}
 use Rattle.gx_sessions.specs.declared.locks.Lock.TheVariants.{Free}
 use Rattle.gx_sessions.specs.Places.{mode_of, item_at}
-use Rattle.gx_sessions.specs.Standings.{bare, standing_after, lock_in, IsSession, AreKept, AreStronger}
+use Rattle.gx_sessions.specs.Standings.{bare, is_within, standing_after, lock_in, IsSession, AreKept, AreStronger}
 
 -- ---- after a command
 
@@ -92,6 +92,54 @@ plain_inside b (command.Find q) e = refl
 plain_inside b (command.ReorganizeFile f) e = refl
 plain_inside b (command.ReorganizeLink l) e = refl
 plain_inside b command.Nothing e = refl
+
+none_not_some : (s : Standing) → ◌≡◌ {A = Option Standing} (Some s) None → ⊥
+none_not_some s e = cc
+
+-- whether it is in a transaction after one that begins it or ends it
+pub control_within : (b : Bool) (c : Command) (standing : Standing)
+    → standing_after c ≡ Some standing → is_within standing ≡ inside_after b c
+control_within b c standing e = go c (kind_of c) e
+  where
+    go : (d : Command) → Kind d → standing_after d ≡ Some standing
+        → is_within standing ≡ inside_after b d
+    go command.Begin begins same =
+        sym (ap (λ (o : Option Standing). is_within (standing_or Outside o)) same)
+    go command.Commit commits same =
+        sym (ap (λ (o : Option Standing). is_within (standing_or Outside o)) same)
+    go command.Abort aborts same =
+        sym (ap (λ (o : Option Standing). is_within (standing_or Outside o)) same)
+    go d (plain h) same = absurd (some_not_none standing (sym (plain_standing d h) ∙ same))
+
+-- and after another
+pub same_within : (b : Bool) (c : Command) → standing_after c ≡ None → inside_after b c ≡ b
+same_within b c e = go c (kind_of c) e
+  where
+    go : (d : Command) → Kind d → standing_after d ≡ None → inside_after b d ≡ b
+    go command.Begin begins same = absurd (none_not_some _ same)
+    go command.Commit commits same = absurd (none_not_some _ same)
+    go command.Abort aborts same = absurd (none_not_some _ same)
+    go d (plain h) same = plain_inside b d h
+
+-- a command that wants a lock begins no transaction and ends none
+pub wanting_plain : (schema : Schema) (c : Command) (x : Item)
+    → (lock_of schema c x ≡ free → ⊥) → standing_after c ≡ None
+wanting_plain schema c x wants = go c (kind_of c) wants
+  where
+    go : (d : Command) → Kind d → (lock_of schema d x ≡ free → ⊥) → standing_after d ≡ None
+    go command.Begin begins want = absurd (want refl)
+    go command.Commit commits want = absurd (want refl)
+    go command.Abort aborts want = absurd (want refl)
+    go d (plain h) want = plain_standing d h
+
+conflict_free : (m : Mode) → conflict m free ≡ true → ⊥
+conflict_free free e = true≢false (sym e)
+conflict_free shared e = true≢false (sym e)
+conflict_free exclusive e = true≢false (sym e)
+
+-- nothing conflicts with a lock that isn't wanted
+pub conflict_wants : (m wanted : Mode) → conflict m wanted ≡ true → wanted ≡ free → ⊥
+conflict_wants m wanted is none = conflict_free m (ap (conflict m) (sym none) ∙ is)
 
 -- ---- what is kept
 

@@ -297,6 +297,62 @@ module _ {S : Type 0} (g : Ghosts S) where
         (kept_turn g means goes_on p next are.engine.working (engine_of old) (engine_of old) failed
         are.engine.at (keeps_still g (leaves_of old)) start calm)
 
+-- ---- answers that reach no leaf
+
+abbrev text_or : List ℕ → Option (List ℕ) → List ℕ
+text_or d None = d
+text_or d (Some text) = text
+
+never_at_once : {A : Type 0} (text : List ℕ) → ◌≡◌ {A = Option (List ℕ)} None (Some text) → A
+never_at_once text e = absurd cc
+
+pub came_at_once : {S : Type 0} (g : Ghosts S) (p : Sharing) (n : ℕ) (c : Command)
+    (old new : Sessions S) (out now text : List ℕ) → answer_at_once c ≡ Some text
+    → now ≡ out ++ text
+    → AreShared g (record p {
+      session = with_session p.session n (session_after (p.session n) c);
+    }) new
+    → ComesOut g p n c answered old new out now
+came_at_once g p n command.Begin old new out now text is said after = record {
+  text = text;
+  said = said;
+  text_is = sym (ap (text_or []) is);
+  after = after;
+}
+came_at_once g p n command.Abort old new out now text is said after = record {
+  text = text;
+  said = said;
+  text_is = sym (ap (text_or []) is);
+  after = after;
+}
+came_at_once g p n command.Nothing old new out now text is said after = record {
+  text = text;
+  said = said;
+  text_is = sym (ap (text_or []) is);
+  after = after;
+}
+came_at_once g p n command.Commit old new out now text is said after = never_at_once text is
+came_at_once g p n (command.Insert f values) old new out now text is said after =
+    never_at_once text is
+came_at_once g p n (command.Get f key) old new out now text is said after = never_at_once text is
+came_at_once g p n (command.Update f key changes) old new out now text is said after =
+    never_at_once text is
+came_at_once g p n (command.Delete f key) old new out now text is said after =
+    never_at_once text is
+came_at_once g p n (command.Connect l owner member) old new out now text is said after =
+    never_at_once text is
+came_at_once g p n (command.Disconnect l member) old new out now text is said after =
+    never_at_once text is
+came_at_once g p n (command.Members l owner order) old new out now text is said after =
+    never_at_once text is
+came_at_once g p n (command.Owner l member) old new out now text is said after =
+    never_at_once text is
+came_at_once g p n (command.Find q) old new out now text is said after = never_at_once text is
+came_at_once g p n (command.ReorganizeFile f) old new out now text is said after =
+    never_at_once text is
+came_at_once g p n (command.ReorganizeLink l) old new out now text is said after =
+    never_at_once text is
+
 -- ---- turns that reach the leaves
 
 module _ {S : Type 0} (g : Ghosts S) where

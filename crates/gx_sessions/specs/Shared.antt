@@ -48,6 +48,7 @@ pub record IsShortAmong (schema : Schema) (built : Built) (limit : Option Limits
   pub parts : cs ≡ before ++ command ∷ later
   pub wants : MayWantRoom schema (seeing p (Some (played schema p.kept before))) command
   pub maps : List LeafMap
+  pub many : length maps ≡ length built.owners
   pub stands : AreInternal schema built maps (played schema p.kept before)
   pub short : IsCrowdedBy limit (entry_count maps
       + state_entries built (next_state schema (played schema p.kept before) command))

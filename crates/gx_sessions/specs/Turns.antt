@@ -1,5 +1,5 @@
 -- What contracts see of sessions that take turns, and what a turn does.
-use Rattle.std.specs.Prelude.{◌≡◌, ℕ, ◌+◌, ◌-◌, ◌^◌, ◌<◌, ◌≤◌, List, [], ◌++◌, map, length, slice_index_or, ◌⊎◌, Bool, true, false, Option, Some, None, IsSome, is_some, codes, Result, Ok, Err, OnOk, OnErr}
+use Rattle.std.specs.Prelude.{◌≡◌, ℕ, ◌+◌, ◌-◌, ◌^◌, ◌<◌, ◌≤◌, List, [], ◌++◌, map, length, slice_index_or, ◌==◌, if◌then◌else◌, ◌⊎◌, Bool, true, false, Option, Some, None, IsSome, is_some, codes, Result, Ok, Err, OnOk, OnErr}
 use Rattle.gx_device.specs.Content.{Silent}
 use Rattle.gx_device.specs.Faults.{Rose}
 use Rattle.gx_schema.specs.declared.schema.Schema.{Schema}
@@ -51,6 +51,11 @@ is_in_at s n = is_within (standing_at s n)
 -- the number of a session
 abbrev pub IsNumber : ℕ → Type 0
 IsNumber n = (1 ≤ n) × (n ≤ 8)
+
+-- one session is in a transaction afterwards or not, and the others are where they were
+pub record MovesTo {S : Type 0} (old new : Sessions S) (session : ℕ) (within : Bool) : Type 0 where
+  pub at : (n : ℕ) → IsNumber n
+      → is_in_at new n ≡ (if n == session then within else is_in_at old n)
 
 -- the engine gave nothing up, and where it stands for a session it is inside where that one is
 pub record GoesOn {S : Type 0} (s : Sessions S) : Type 0 where

@@ -1,11 +1,11 @@
 // Which session holds a lock that another's command can't go with.
-ghost use Rattle.std.specs.Prelude.{◌≡◌, ◌<◌, ◌+◌, length, find};
+ghost use Rattle.std.specs.Prelude.{◌≡◌, ◌<◌, ◌+◌, length, find, None, true, is_some};
 ghost use Rattle.gx_commands.specs.declared.command.Command.{Command as TheCommand};
 ghost use Rattle.gx_commands.specs.Commands.{IsOfSchema};
-ghost use Rattle.gx_sharing.specs.Locks.{conflict, lock_of, items_of};
+ghost use Rattle.gx_sharing.specs.Locks.{free, conflict, lock_of, items_of};
 ghost use Rattle.gx_sharing.specs.Sharing.{Sharing, sessions, is_barred, holder_among};
 ghost use Rattle.gx_sessions.specs.Places.{mode_of, item_at};
-ghost use Rattle.gx_sessions.specs.Standings.{lock_in, AreSessions, AreWhole};
+ghost use Rattle.gx_sessions.specs.Standings.{lock_in, standing_after, AreSessions, AreWhole};
 
 use crate::locks::{Lock, lock_at, places};
 use crate::session::SessionState;
@@ -22,7 +22,8 @@ pub(crate) fn holder(
 ) -> Option<u8>
     requires whole { AreWhole schema.now states.now }
     requires of_schema { IsOfSchema schema.now command.now }
-    ensures { (p : Sharing) → AreSessions schema.now p.session states.now →
+    ensures wanting { is_some result ≡ true → standing_after command.now ≡ None }
+    ensures least { (p : Sharing) → AreSessions schema.now p.session states.now →
         result ≡ holder_among schema.now p session command.now (items_of schema.now) }
 {
     for place in 0..places(schema) {
@@ -51,7 +52,8 @@ fn holder_at(
 ) -> Option<u8>
     requires whole { AreWhole schema.now states.now }
     requires place { place < length schema.now.files + length schema.now.links }
-    ensures { (p : Sharing) (c : TheCommand) → AreSessions schema.now p.session states.now →
+    ensures wanting { is_some result ≡ true → mode_of wanted ≡ free → ⊥ }
+    ensures least { (p : Sharing) (c : TheCommand) → AreSessions schema.now p.session states.now →
         mode_of wanted ≡ lock_of schema.now c (item_at schema.now place) →
         result ≡ find (is_barred schema.now p session c (item_at schema.now place)) sessions }
 {

@@ -5,7 +5,7 @@ ghost use Rattle.gx_commands.specs.declared.command.Command.{Command as TheComma
 ghost use Rattle.gx_commands.specs.Commands.{IsOfSchema, inside_after};
 ghost use Rattle.gx_sharing.specs.Kept.{is_kept, kept_of};
 ghost use Rattle.gx_sharing.specs.Sharing.{Session, outside, inside, session_after};
-ghost use Rattle.gx_sessions.specs.Standings.{stands_in, standing_after, bare, IsSession, IsWhole, AreStronger, AreFree};
+ghost use Rattle.gx_sessions.specs.Standings.{stands_in, is_within, standing_after, bare, IsSession, IsWhole, AreStronger, AreFree};
 
 use crate::locks::{Lock, lock_at};
 use gx_commands::Command;
@@ -78,6 +78,9 @@ impl SessionState {
         ensures inside { OnOk result
             (stands_in self.new.standing
             ≡ inside_after (stands_in self.old.standing) command.now) }
+        ensures within { OnOk result
+            (is_within self.new.standing
+            ≡ inside_after (is_within self.old.standing) command.now) }
     {
         match after_control(command) {
             Some(standing) => {

@@ -1,5 +1,5 @@
 // Sessions that take turns on one engine.
-ghost use Rattle.std.specs.Prelude.{◌≡◌, ◌<◌, ◌++◌, ◌∷◌, [], length, Some, None, Err, true, false, IfOk, IfErr, OnOk, OnErr};
+ghost use Rattle.std.specs.Prelude.{◌≡◌, ℕ, ◌<◌, ◌++◌, ◌∷◌, [], length, Some, None, Err, true, false, IfOk, IfErr, OnOk, OnErr};
 ghost use Rattle.std.specs.Option.{option_map};
 ghost use Rattle.gx_device.specs.Content.{Content};
 ghost use Rattle.gx_ports.specs.Stops.{is_fault};
@@ -45,11 +45,11 @@ pub struct Sessions<B: Leaves + Drop> {
 
 impl<B: Leaves + Drop> Sessions<B> {
     ghost use Rattle.gx_engine.specs.Steps.{IsReady as IsEngineReady, IsAt, built_of, is_open, is_fault_now, stop_of as engine_stop};
-    ghost use Rattle.gx_commands.specs.Commands.{place_reason};
+    ghost use Rattle.gx_commands.specs.Commands.{place_reason, inside_after};
     ghost use Rattle.gx_sharing.specs.Sharing.{Sharing, share_start, is_in, outcome_of, after_turn, answered, with_session, session_after};
-    ghost use Rattle.gx_sessions.specs.Standings.{commands_of, stands_in, bare};
+    ghost use Rattle.gx_sessions.specs.Standings.{commands_of, stands_in, is_within, bare};
     ghost use Rattle.gx_sessions.specs.Shared.{IsShortAmong, LeavesTurn};
-    ghost use Rattle.gx_sessions.specs.Turns.{engine_of, schema_of, leaves_of, stop_of, standing_at, is_in_at, IsNumber, IsReady, IsDue, AreShared, turn_of, IsIdle, ComesOut, IsTurned, EndsTurn, EndsTaken, RestsOn, IsSame, rests, without_turn};
+    ghost use Rattle.gx_sessions.specs.Turns.{engine_of, schema_of, leaves_of, stop_of, standing_at, is_in_at, IsNumber, MovesTo, IsReady, IsDue, AreShared, turn_of, IsIdle, ComesOut, IsTurned, EndsTurn, EndsTaken, RestsOn, IsSame, rests, without_turn};
 
     /// Sessions that are all outside, over an engine without an open transaction and without a
     /// stop. `NoMemory`: there was none for them; the engine is given back.
@@ -133,6 +133,8 @@ impl<B: Leaves + Drop> Sessions<B> {
             (outcome_of (schema_of self.old) p session command)) (engine_of self.old)
             (engine_of self.new) (is_fault_now (without_turn result)) }
         ensures ends { EndsTurn B.View command self.old self.new out.old out.new result }
+        ensures moves { OnOk result (MovesTo self.old self.new session
+            (inside_after (is_in_at self.old session) command)) }
     {
         if let Some(stop) = self.stopped {
             return Err(StepStop::Stopped(stop));
@@ -156,6 +158,8 @@ impl<B: Leaves + Drop> Sessions<B> {
             result ≡ turn_of (outcome_of (schema_of self.now) p session command.now) }
         ensures allowed { result ≡ Turn.Answer →
             place_reason (stands_in (standing_at self.now session)) command.now ≡ None }
+        ensures ended { (m : ℕ) → result ≡ Turn.Ended m →
+            inside_after (is_in_at self.now session) command.now ≡ true }
     {
         match self.states[usize::from(session) - 1].standing {
             Standing::Outside => Turn::Answer,
@@ -187,6 +191,8 @@ impl<B: Leaves + Drop> Sessions<B> {
             turn ≡ turn_of (outcome_of (schema_of self.old) p session command) }
         requires allowed { turn ≡ Turn.Answer →
             place_reason (stands_in (standing_at self.old session)) command ≡ None }
+        requires ended { (m : ℕ) → turn ≡ Turn.Ended m →
+            inside_after (is_in_at self.old session) command ≡ true }
         ensures comes { (p : Sharing) → AreShared B.View p self.old → OnOk result
             (ComesOut B.View p session command (outcome_of (schema_of self.old) p session command)
             self.old self.new out.old out.new) }
@@ -199,6 +205,8 @@ impl<B: Leaves + Drop> Sessions<B> {
             (outcome_of (schema_of self.old) p session command)) (engine_of self.old)
             (engine_of self.new) (is_fault result) }
         ensures ends { EndsTaken B.View command self.old self.new out.old out.new result }
+        ensures moves { OnOk result (MovesTo self.old self.new session
+            (inside_after (is_in_at self.old session) command)) }
         ensures rests { rests command turn ≡ true → engine_of self.new ≡ engine_of self.old }
     {
         match turn {
@@ -237,6 +245,8 @@ impl<B: Leaves + Drop> Sessions<B> {
             LeavesTurn B.View p (after_turn (schema_of self.old) p session command answered)
             (engine_of self.old) (engine_of self.new) (is_fault result) }
         ensures ends { EndsTaken B.View command self.old self.new out.old out.new result }
+        ensures moves { OnOk result (MovesTo self.old self.new session
+            (inside_after (is_in_at self.old session) command)) }
         ensures rests { rests command Turn.Answer ≡ true →
             engine_of self.new ≡ engine_of self.old }
     {
@@ -272,6 +282,8 @@ impl<B: Leaves + Drop> Sessions<B> {
             LeavesTurn B.View p (after_turn (schema_of self.old) p session command answered)
             (engine_of self.old) (engine_of self.new) (is_fault result) }
         ensures ends { EndsTaken B.View command self.old self.new out.old out.new result }
+        ensures moves { OnOk result (MovesTo self.old self.new session
+            (inside_after (is_in_at self.old session) command)) }
     {
         let state = &mut self.states[usize::from(session) - 1];
         self.shared.carry_out(alloc, session, state, command, out)
@@ -292,6 +304,8 @@ impl<B: Leaves + Drop> Sessions<B> {
             (ComesOut B.View p session command.now answered self.old self.new out.old out.new) }
         ensures rest { RestsOn B.View self.old self.new }
         ensures unsaid { OnErr result (out.new ≡ out.old) }
+        ensures moves { OnOk result (MovesTo self.old self.new session
+            (inside_after (is_in_at self.old session) command.now)) }
     {
         append(out, text)?;
         self.settle(session, command);
@@ -309,6 +323,8 @@ impl<B: Leaves + Drop> Sessions<B> {
                   (session_after (p.session session) command.now);
             }) self.new }
         ensures rest { RestsOn B.View self.old self.new }
+        ensures moves { MovesTo self.old self.new session
+            (inside_after (is_in_at self.old session) command.now) }
     {
         if let Some(standing) = after_control(command) {
             self.stand(session, standing);
@@ -323,6 +339,7 @@ impl<B: Leaves + Drop> Sessions<B> {
             AreShared B.View (record p { session = with_session p.session session (bare standing) })
             self.new }
         ensures rest { RestsOn B.View self.old self.new }
+        ensures moves { MovesTo self.old self.new session (is_within standing) }
     {
         self.states[usize::from(session) - 1].stand(standing);
         self.shared.forget(session);

@@ -7,7 +7,7 @@ ghost use Rattle.gx_model.specs.States.{State};
 ghost use Rattle.gx_model.specs.Play.{Playing, after_command};
 ghost use Rattle.gx_engine.specs.Steps.{IsReady, IsAt, IsDue, IsShortFor, schema_of, built_of, leaves_of, stop_of, is_open, is_commit};
 ghost use Rattle.gx_sharing.specs.Sharing.{Sharing, Session, played, play_of, view_in, after_turn, answered};
-ghost use Rattle.gx_sessions.specs.Standings.{AreKept, IsSession, IsWhole, IsAnswerable, commands_of, stands_in};
+ghost use Rattle.gx_sessions.specs.Standings.{AreKept, IsSession, IsWhole, IsAnswerable, commands_of, stands_in, is_within};
 ghost use Rattle.gx_sessions.specs.Shared.{seeing, IsShared, IsShortAmong, Carries, EndsCarry, LeavesTurn, IsCarriedFor};
 
 use crate::session::{SessionState, Standing};
@@ -91,6 +91,8 @@ impl<B: Leaves + Drop> SharedEngine<B> {
         ensures whole { IsWhole (schema_of self.old.engine) state.new }
         ensures own { OnOk result ((self.new.carried ≡ Some session)
             × (is_open self.new.engine ≡ stands_in state.new.standing)) }
+        ensures within { OnOk result (is_within state.new.standing
+            ≡ inside_after (is_within state.old.standing) command) }
     {
         self.bring(alloc, session, state)?;
         state.follow(alloc, self.engine.schema(), &command)?;

@@ -1,8 +1,8 @@
-use Rattle.std.proofs.Common.{◌∙◌, sym, subst, inr}
+use Rattle.std.proofs.Common.{◌∙◌, Bool, sym, subst, inr}
 use Rattle.gx_ports.specs.Stops.{is_fault}
 use Rattle.gx_sharing.specs.Sharing.{Outcome, outcome_of, after_turn}
 use Rattle.gx_sessions.specs.Shared.{LeavesTurn}
-use Rattle.gx_sessions.specs.Turns.{schema_of, engine_of}
+use Rattle.gx_sessions.specs.Turns.{schema_of, engine_of, is_in_at, MovesTo}
 use Rattle.gx_sessions.proofs.TurnLemmas.{answer_is, skipped_is, ended_is, skipped_ended, rested_skip, rested_end, rested_images}
 use Rattle.gx_sessions.proofs.sessions.Sessions.carry.Goals as goal
 
@@ -44,3 +44,8 @@ pub returns-in-Ended-clause-images : goal.returns-in-Ended-clause-images
 returns-in-Ended-clause-images g c = λ p are start calm.
     rested_images g.B.View g.met.B.Leaves.calm_means g.met.B.Leaves.calm_now p _
     c.args.self.now c.stand.new.self _ c.stand.ensures.rest.engine are start calm
+
+pub returns-in-Ended-clause-moves : goal.returns-in-Ended-clause-moves
+returns-in-Ended-clause-moves g c =
+    subst (λ (b : Bool). MovesTo c.args.self.now c.stand.new.self c.args.session b)
+    (sym (c.requires.ended _ c.in-Ended.is)) c.stand.ensures.moves

@@ -1,7 +1,8 @@
-use Rattle.std.proofs.Common.{◌∙◌, sym, subst}
+use Rattle.std.proofs.Common.{◌∙◌, Bool, sym, subst}
 use Rattle.gx_sharing.specs.Sharing.{Session, with_session}
-use Rattle.gx_sessions.specs.Turns.{AreShared}
-use Rattle.gx_sessions.proofs.StandingLemmas.{after_control}
+use Rattle.gx_sessions.specs.Turns.{AreShared, MovesTo, is_in_at}
+use Rattle.gx_sessions.proofs.StandingLemmas.{after_control, control_within, same_within}
+use Rattle.gx_sessions.proofs.SessionsLemmas.{unmoved}
 use Rattle.gx_sessions.proofs.TurnLemmas.{idled}
 use Rattle.gx_sessions.proofs.sessions.Sessions.settle.Goals as goal
 
@@ -17,3 +18,16 @@ pub returns-in_default-clause-settled : goal.returns-in_default-clause-settled
 returns-in_default-clause-settled g c = λ p are is.
     idled g.B.View p c.args.session c.args.command.now c.args.self.now
     (sym c.after_control.ensures ∙ c.in_default.is) is are
+
+pub returns-in-Some-clause-moves : goal.returns-in-Some-clause-moves
+returns-in-Some-clause-moves g c =
+    subst (λ (b : Bool). MovesTo c.args.self.now c.stand.new.self c.args.session b)
+    (control_within (is_in_at c.args.self.now c.args.session) c.args.command.now
+    c.in-Some.standing (sym c.in-Some.ensures))
+    c.stand.ensures.moves
+
+pub returns-in_default-clause-moves : goal.returns-in_default-clause-moves
+returns-in_default-clause-moves g c =
+    unmoved c.args.self.now c.args.session _
+    (same_within (is_in_at c.args.self.now c.args.session) c.args.command.now
+    (sym c.after_control.ensures ∙ c.in_default.is))

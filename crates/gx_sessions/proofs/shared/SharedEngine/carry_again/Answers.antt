@@ -74,7 +74,7 @@ returns-in_err-pass-clause-full g c = λ p at full.
     short_at g.B.View p kept (take i kept) c.in_ok-command.command (drop (i + 1) kept)
     (schema_of e) (built_of e) (g.B.View.limit (leaves_of e)) c.loop-i.self.engine
     inv.carries.schema inv.carries.built inv.carries.keeps.limit
-    (split_here g.B.View kept i c.in_ok-command.command lt is) (inv.again p at)
+    (split_here g.B.View kept i c.in_ok-command.command lt is) inv.carries.ready (inv.again p at)
     (c.in_err-pass.ensures.full _ (inv.again p at)
     (sym (err_is c.from_residual-in_err-pass.result c.in_err-pass.field-0.0
     c.from_residual-in_err-pass.ensures.1) ∙ full))

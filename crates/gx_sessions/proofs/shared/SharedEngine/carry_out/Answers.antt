@@ -59,7 +59,8 @@ returns-in_err-step-clause-full g c = λ p shared is full.
     let x = c.in_ok-bring.ensures.carries in
     short_last g.B.View p c.args.session c.args.command (schema_of e) (built_of e)
     (g.B.View.limit (leaves_of e)) c.args.state.now c.bring.new.self.engine x.schema x.built
-    x.keeps.limit is c.requires.due.allowed (c.in_ok-bring.ensures.brought p shared is)
+    x.keeps.limit is c.requires.due.allowed x.ready
+    (c.in_ok-bring.ensures.brought p shared is)
     (c.in_err-step.ensures.full (play_of (schema_of e) p c.args.session)
     (c.in_ok-bring.ensures.brought p shared is)
     (sym (err_is c.from_residual-in_err-step.result c.in_err-step.field-0.0

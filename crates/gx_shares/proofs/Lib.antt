@@ -1,0 +1,10 @@
+mod SayLemmas
+mod SessionLemmas
+mod RunLemmas
+mod HeardLemmas
+mod StandLemmas
+mod KeepLemmas
+mod CarryLemmas
+mod LineLemmas
+mod GoingLemmas
+mod ReadLemmas

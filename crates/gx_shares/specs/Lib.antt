@@ -1,0 +1,5 @@
+pub mod Shares
+pub mod Player
+pub mod Ends
+pub mod Steps
+pub mod Going
