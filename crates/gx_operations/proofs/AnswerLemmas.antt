@@ -29,7 +29,7 @@ use Rattle.gx_operations.specs.Crashes.{IsIdleLine}
 use Rattle.gx_operations.specs.Given.{Given}
 use Rattle.gx_operations.specs.GivenUp.{GaveUp, GivesUp}
 use Rattle.gx_operations.specs.Promises.{IsKept, IsSaid, SaysPart, SaysBroken}
-use Rattle.gx_operations.specs.Refuses.{refuses, RefusalSays}
+use Rattle.gx_operations.specs.Refuses.{refuses}
 use Rattle.gx_operations.specs.Checks.{checks}
 use Rattle.gx_operations.specs.Tries.{tries}
 use Rattle.gx_operations.specs.Explains.{explains, ExplainSays}
@@ -51,7 +51,7 @@ module _ (why : Ending) (old new : Content) (s : Status) (e : IsEnded why old ne
   pub refusal_kept : status_of why ≡ status.Refused → IsKept (refuses why old) old new s
   refusal_kept is =
       line_kept (refuses why old) why old new s
-      (subst (λ k. RefusalSays (ending_line why) k [] (ending_line why) new) (sym is) (refl, refl))
+      (subst (λ k. (refuses why old).Says k [] (ending_line why) new) (sym is) (refl, refl))
       (refl, refl) (λ d due. due ∙ sym is) (record { devices = devices; script = e.words.script })
       (ends_unchanged why old new moments) e
 

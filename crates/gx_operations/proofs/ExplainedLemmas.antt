@@ -2,9 +2,9 @@
 use Rattle.std.proofs.Common.{◌≡◌, ℕ, ◌+◌, List, [], ◌∷◌, ◌++◌, Bool, false, None, Ok, refl}
 use Rattle.gx_device.specs.Content.{Content}
 use Rattle.gx_schema.specs.declared.schema.Schema.{Schema}
-use Rattle.gx_commands.specs.Commands.{inside_after}
 use Rattle.gx_commands.specs.Lines.{script_lines}
-use Rattle.gx_explain.specs.Explained.{command_text, indexed_fields, AreExplained}
+use Rattle.gx_explain.specs.Explained.{asked_text, indexed_fields, AreExplained}
+use Rattle.gx_play.specs.Asked.{inside_behind}
 use Rattle.gx_play.specs.ScriptEnds.{AreGood}
 use Rattle.gx_play.specs.declared.status.Status.TheVariants as status
 use Rattle.gx_operations.specs.Explains.{ExplainSays}
@@ -15,10 +15,10 @@ explained : (schema : Schema) (indexed : ℕ → List Bool) (number : ℕ) (insi
     → (text : List ℕ) × AreExplained schema indexed number inside lines text final
 explained schema indexed number inside [] final is = ([], (refl, is))
 explained schema indexed number inside (line ∷ lines) final is =
-    let behind = inside_after inside is.0 in
-    let rest = explained schema indexed (number + 1) behind lines final is.3 in (
-      command_text schema indexed number is.0 ++ rest.0,
-      (is.0, rest.0, is.1, is.2, rest.1, refl),
+    let behind = inside_behind inside is.0 in
+    let rest = explained schema indexed (number + 1) behind lines final is.2 in (
+      asked_text schema indexed number is.0 ++ rest.0,
+      (is.0, rest.0, is.1, rest.1, refl),
     )
 
 -- those of a whole script are what `explain` says with Done

@@ -33,7 +33,7 @@ use Rattle.gx_operations.specs.Playing.{PlaySays, PlayBreaks}
 use Rattle.gx_operations.specs.Explains.{explains, ExplainSays, ExplainBreaks}
 use Rattle.gx_operations.specs.Makes.{MakesOn, makes_none, makes_one, IsMakeImage}
 use Rattle.gx_operations.specs.Runs.{RunsOn, runs_from, runs_unheld, script_play, IsRunImage, UnheldSays}
-use Rattle.gx_operations.specs.Inspects.{InspectsOn, inspects_sound, inspects_unsound, UnsoundSays, IsSoundImage, IsUnsoundImage}
+use Rattle.gx_operations.specs.Inspects.{InspectsOn, inspects_sound, inspects_unsound, IsSoundImage, IsUnsoundImage}
 use Rattle.gx_operations.specs.Works.{WorksOn, works_on, IsWorkImage}
 use Rattle.gx_operations.specs.Wrong.{StaysWrong, IsWrong, WrongSays, IsDamageLine, finds_wrong}
 use Rattle.gx_device.proofs.RunLemmas.{weakened}
@@ -369,7 +369,8 @@ module _ (g : Given) (device : List ℕ) (old mid : Content) (l : IsLater old mi
       (ran_on (script_play g mid.script) (IsScriptEnd g.schema mid.script) new s r)
 
   unsound_says : (s : Status) (whole last : List ℕ) (new : Content)
-      → UnsoundSays device mid s whole last new → UnsoundSays device old s whole last new
+      → (inspects_unsound g device mid).Says s whole last new
+      → (inspects_unsound g device old).Says s whole last new
   unsound_says status.Device whole last new is = (is.0, damage last is.1)
   unsound_says status.Memory whole last new is = is
   unsound_says status.Done whole last new is = is

@@ -32,9 +32,9 @@ use Rattle.gx_operations.specs.Making.{IsUnmakable, making_ending}
 use Rattle.gx_requests.specs.declared.opened.Stored.{Stored}
 use Rattle.gx_requests.specs.Checked.{IsStored}
 use Rattle.gx_operations.specs.Given.{Given, under, IsStoredAs, IsInternalOf, HoldState}
-use Rattle.gx_operations.specs.Promises.{IsKept}
+use Rattle.gx_operations.specs.Promises.{Promise, IsKept}
 use Rattle.gx_operations.specs.Crashes.{IsIdleLine, IsLeftOf, CrashesOn}
-use Rattle.gx_operations.specs.Makes.{makes_none, makes_one, UnmadeSays, MakeSays, IsNew, IsMakeImage, MakesOn}
+use Rattle.gx_operations.specs.Makes.{makes_none, makes_one, IsNew, IsMakeImage, MakesOn}
 use Rattle.gx_operations.proofs.GivenLemmas.{under_given, internal_given}
 use Rattle.gx_operations.proofs.UnchangedLemmas.{unchanged_by, attached_crashes}
 use Rattle.gx_operations.proofs.CrashLemmas.{leaves_weaker, leaves_both, ends_leaves, ends_unchanged, ends_idle, unattached_then, unattached_idle}
@@ -111,14 +111,17 @@ module _ (specs : List LeafSpec) (device : List ℕ) (count : ℕ) (old mid : Co
       (script : mid.script ≡ old.script) (ended : IsEnded e mid new s)
       (devices : SameDevices mid new) (through : EndsThrough e mid new)
       (is : (e ≡ ending.Device why) ⊎ (e ≡ ending.Fault) ⊎ (e ≡ ending.NoMemory)) where
-    unmade_line : (e ≡ ending.Fault) ⊎ UnmadeSays why (status_of e) [] (ending_line e) new
+    abbrev Unmade : Promise
+    Unmade = makes_none why device old
+
+    unmade_line : (e ≡ ending.Fault) ⊎ Unmade.Says (status_of e) [] (ending_line e) new
     unmade_line = elim is [
       | inl told ↦ inr
-          (subst (λ (w : Ending). UnmadeSays why (status_of w) [] (ending_line w) new) (sym told)
+          (subst (λ (w : Ending). Unmade.Says (status_of w) [] (ending_line w) new) (sym told)
           (refl, refl))
       | inr (inl fault) ↦ inl fault
       | inr (inr none) ↦ inr
-          (subst (λ (w : Ending). UnmadeSays why (status_of w) [] (ending_line w) new) (sym none)
+          (subst (λ (w : Ending). Unmade.Says (status_of w) [] (ending_line w) new) (sym none)
           (refl, refl))
     ]
 
@@ -128,9 +131,9 @@ module _ (specs : List LeafSpec) (device : List ℕ) (count : ℕ) (old mid : Co
       | inr other ↦ inr other
     ]
 
-    pub unmade_kept : IsKept (makes_none why device old) old new s
+    pub unmade_kept : IsKept Unmade old new s
     unmade_kept = record {
-      said = ended_said (makes_none why device old) old mid new
+      said = ended_said Unmade old mid new
           (ap (λ (m : Moment). m.said) still.now) (refl, refl) e unmade_line s ended;
       due = λ d is outside. ended_due e mid new s ended d
           (subst (λ (t : Status). (status_of e ≡ t) ⊎ (e ≡ ending.Fault) ⊎ (e ≡ ending.NoMemory))
@@ -212,14 +215,17 @@ module _ (g : Given) (device : List ℕ) (count : ℕ) (old mid new : Content) w
               ∙ made.none_pending n;
         }
 
-    made_says : (e ≡ ending.Fault) ⊎ MakeSays g device count (status_of e) [] (ending_line e) new
+    abbrev Made : Promise
+    Made = makes_one g device count old
+
+    made_says : (e ≡ ending.Fault) ⊎ Made.Says (status_of e) [] (ending_line e) new
     made_says = elim ways [
       | inl was ↦ inr
-          (subst (λ (w : Ending). MakeSays g device count (status_of w) [] (ending_line w) new)
-          (sym was.ending_is) ((refl, refl), new_made was.made))
+          (subst (λ (w : Ending). Made.Says (status_of w) [] (ending_line w) new)
+          (sym was.ending_is) (refl, (refl, new_made was.made)))
       | inr (inl fault) ↦ inl fault
       | inr (inr none) ↦ inr
-          (subst (λ (w : Ending). MakeSays g device count (status_of w) [] (ending_line w) new)
+          (subst (λ (w : Ending). Made.Says (status_of w) [] (ending_line w) new)
           (sym none) (refl, refl))
     ]
 
@@ -301,9 +307,9 @@ module _ (g : Given) (device : List ℕ) (count : ℕ) (old mid new : Content) w
         → LeavesMaking device count (schema_text g.schema) (equation_text g.definitions)
         g.typing.specs old mid r
         → Attaches device old mid → IsEnded e mid new s → EndsThrough e mid new
-        → IsKept (makes_one g device count old) old new s
+        → IsKept Made old new s
     made_kept r s free left rest ended through = record {
-      said = ended_said (makes_one g device count old) old mid new rest.said (refl, refl) e made_says
+      said = ended_said Made old mid new rest.said (refl, refl) e made_says
           s ended;
       due = λ d is outside. ended_due e mid new s ended d
           (subst (λ (t : Status). (status_of e ≡ t) ⊎ (e ≡ ending.Fault) ⊎ (e ≡ ending.NoMemory))

@@ -11,8 +11,8 @@ use Rattle.gx_equation.specs.Trees.{DefinitionTree}
 use Rattle.gx_types.specs.declared.built.Built.{Built}
 use Rattle.gx_model.specs.States.{State}
 use Rattle.gx_model.specs.Play.{Playing, End, good, stopped, start_at}
-use Rattle.gx_model.specs.Runs.{AreFirstLines}
-use Rattle.gx_model.proofs.RunLemmas.{play_once}
+use Rattle.gx_model.specs.Languages.{AreFirstLines}
+use Rattle.gx_play.proofs.AskedLemmas.{play_once}
 use Rattle.gx_play.specs.declared.ending.Ending.{Ending}
 use Rattle.gx_play.specs.declared.ending.Ending.TheVariants as ending
 use Rattle.gx_play.specs.declared.status.Status.{Status}

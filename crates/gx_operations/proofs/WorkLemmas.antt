@@ -13,7 +13,7 @@ use Rattle.gx_commands.specs.declared.command.LineWhy.{LineWhy}
 use Rattle.gx_commands.specs.Lines.{script_lines}
 use Rattle.gx_model.specs.Play.{Playing, End, good, stopped, start_at}
 use Rattle.gx_model.specs.States.{State, empty_state}
-use Rattle.gx_model.proofs.RunLemmas.{play_once}
+use Rattle.gx_play.proofs.AskedLemmas.{play_once}
 use Rattle.gx_work.specs.Schema.{work_schema}
 use Rattle.gx_work.specs.Summary.{work_text}
 use Rattle.gx_work.specs.Workload.{work_script}

@@ -1,4 +1,4 @@
--- `explain`: the plan of each `find` of the script.
+-- `explain`: the plan of each `find` of the script, and the direction of each path.
 use Rattle.std.specs.Prelude.{◌≡◌, ◌⊎◌, ℕ, List, [], take}
 use Rattle.gx_device.specs.Content.{Content}
 use Rattle.gx_commands.specs.declared.command.LineWhy.{LineWhy}
@@ -27,7 +27,7 @@ ExplainSays g script status.Memory plans line new =
     × (line ≡ memory_line)
 ExplainSays g script other plans line new = ⊥
 
--- a front of the plans of first lines
+-- a front of the plans and directions of first lines
 abbrev pub ExplainBreaks : Given → List ℕ → List ℕ → Content → Type 0
 ExplainBreaks g script told new =
     (plans : List ℕ) × (count : ℕ)

@@ -10,9 +10,8 @@ use Rattle.gx_store.specs.Store.{OfBlocks}
 use Rattle.gx_play.specs.declared.ending.DeviceWhy.{DeviceWhy}
 use Rattle.gx_play.specs.declared.status.Status.{Status}
 use Rattle.gx_play.specs.declared.status.Status.TheVariants as status
-use Rattle.gx_play.specs.Endings.{memory_line}
 use Rattle.gx_operations.specs.Given.{Given, under, HoldState, IsHeldOn, SettleState, IsStateless}
-use Rattle.gx_operations.specs.Promises.{Promise, IsKept, IsLine, no_break}
+use Rattle.gx_operations.specs.Promises.{Promise, IsKept, SaysOne, no_break}
 use Rattle.gx_operations.specs.Crashes.{CrashesOn, IsAsAttached}
 use Rattle.gx_operations.specs.Wrong.{IsWrong, IsDamageLine, finds_wrong}
 
@@ -24,12 +23,6 @@ pub record TellsOf (g : Given) (device : List ℕ) (s : State) (new : Content)
   pub settled : OfBlocks device new (SettleState g s)
   pub text_is : text ≡ inspect_text g.schema g.typing.specs g.typing.owners settled.2.maps s
 
-abbrev pub SoundSays : Given → List ℕ → State → Status → List ℕ → List ℕ → Content → Type 0
-SoundSays g device s status.Done whole last new =
-    (whole ≡ []) × TellsOf g device s new last
-SoundSays g device s status.Memory whole last new = IsLine memory_line whole last
-SoundSays g device s other whole last new = ⊥
-
 -- a crash leaves what one could have left when the device was attached, or what holds the state
 abbrev pub IsSoundImage : Given → State → Content → Image → Type 0
 IsSoundImage g s middle image = IsAsAttached middle image ⊎ HoldState g s image.blocks
@@ -37,7 +30,7 @@ IsSoundImage g s middle image = IsAsAttached middle image ⊎ HoldState g s imag
 -- whatever the status is, it holds the state
 abbrev pub inspects_sound : Given → List ℕ → State → Content → Promise
 inspects_sound g device s old = record {
-  Says = SoundSays g device s;
+  Says = SaysOne status.Done (λ text new. TellsOf g device s new text);
   Breaks = no_break;
   Due = λ s. s ≡ status.Done;
   Leaves = λ new s'. IsHeldOn g device s new × (new.script ≡ old.script);
@@ -45,12 +38,6 @@ inspects_sound g device s old = record {
 }
 
 -- ---- it holds none
-
-abbrev pub UnsoundSays : List ℕ → Content → Status → List ℕ → List ℕ → Content → Type 0
-UnsoundSays device old status.Device whole last new =
-    (whole ≡ []) × IsDamageLine device old last
-UnsoundSays device old status.Memory whole last new = IsLine memory_line whole last
-UnsoundSays device old other whole last new = ⊥
 
 -- what the blocks reopened to stays, and those that reopened to nothing read as before
 pub record StayUnsound (g : Given) (old new : List (List ℕ)) : Type 0 where
@@ -68,7 +55,7 @@ IsUnsoundImage g middle image =
 
 abbrev pub inspects_unsound : Given → List ℕ → Content → Promise
 inspects_unsound g device old = record {
-  Says = UnsoundSays device old;
+  Says = SaysOne status.Device (λ line new. IsDamageLine device old line);
   Breaks = no_break;
   Due = λ s. s ≡ status.Device;
   Leaves = λ new s. StaysUnsound g device old new × (new.script ≡ old.script);

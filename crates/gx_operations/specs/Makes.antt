@@ -1,7 +1,7 @@
 -- `make`: a device with an empty database.
 use Rattle.std.specs.Prelude.{◌≡◌, ℕ, List, length, Some, None, ◌++◌}
 use Rattle.gx_device.specs.Content.{Content, NonePending, device_at}
-use Rattle.gx_device.specs.Crash.{Image, Through}
+use Rattle.gx_device.specs.Crash.{Image}
 use Rattle.gx_layout.specs.Layout.{pages_of}
 use Rattle.gx_model.specs.States.{empty_state}
 use Rattle.gx_store.specs.Device.{IsSize, IsMadeOn, IsNoneOrEmpty}
@@ -9,26 +9,18 @@ use Rattle.gx_store.specs.Store.{OfBlocks}
 use Rattle.gx_play.specs.declared.ending.DeviceWhy.{DeviceWhy}
 use Rattle.gx_play.specs.declared.status.Status.{Status}
 use Rattle.gx_play.specs.declared.status.Status.TheVariants as status
-use Rattle.gx_play.specs.Endings.{device_line, made_line, memory_line}
+use Rattle.gx_play.specs.Endings.{device_line, made_line}
 use Rattle.gx_operations.specs.Making.{IsUnmakable}
 use Rattle.gx_operations.specs.Given.{Given, under, IsSettledOn, HoldState}
-use Rattle.gx_operations.specs.Promises.{Promise, IsKept, IsLine, no_break}
+use Rattle.gx_operations.specs.Promises.{Promise, IsKept, SaysOne, no_break, says_line}
 use Rattle.gx_operations.specs.Crashes.{IsUnchanged, CrashesOn}
 
 -- ---- it can't be had
 
-abbrev pub UnmadeSays : DeviceWhy → Status → List ℕ → List ℕ → Content → Type 0
-UnmadeSays why status.Device whole last new = IsLine (device_line why) whole last
-UnmadeSays why status.Memory whole last new = IsLine memory_line whole last
-UnmadeSays why other whole last new = ⊥
-
+-- No device is changed, but less may be pending.
 abbrev pub makes_none : DeviceWhy → List ℕ → Content → Promise
-makes_none why device old = record {
-  Says = UnmadeSays why;
-  Breaks = no_break;
-  Due = λ s. s ≡ status.Device;
+makes_none why device old = record (says_line status.Device (device_line why) old) {
   Leaves = λ new s. IsUnchanged old.now new.now × (new.script ≡ old.script);
-  Crashes = Through (IsUnchanged old.now) old;
 }
 
 -- ---- it is made
@@ -38,12 +30,6 @@ pub record IsNew (g : Given) (device : List ℕ) (blocks : ℕ) (new : Content) 
   pub made : OfBlocks device new (under g (IsMadeOn blocks))
   pub empty : IsSettledOn g device (empty_state g.schema) new
   pub rests : NonePending new
-
-abbrev pub MakeSays : Given → List ℕ → ℕ → Status → List ℕ → List ℕ → Content → Type 0
-MakeSays g device blocks status.Done whole last new =
-    IsLine (made_line blocks (pages_of blocks)) whole last × IsNew g device blocks new
-MakeSays g device blocks status.Memory whole last new = IsLine memory_line whole last
-MakeSays g device blocks other whole last new = ⊥
 
 -- one of so many blocks that has no magic, or is the empty database
 abbrev pub IsNoneOrNew : Given → ℕ → List (List ℕ) → Type 0
@@ -63,7 +49,8 @@ pub record IsMakeImage (g : Given) (count : ℕ) (old middle : Content) (image :
 
 abbrev pub makes_one : Given → List ℕ → ℕ → Content → Promise
 makes_one g device blocks old = record {
-  Says = MakeSays g device blocks;
+  Says = SaysOne status.Done
+      (λ last new. (last ≡ made_line blocks (pages_of blocks)) × IsNew g device blocks new);
   Breaks = no_break;
   Due = λ s. s ≡ status.Done;
   Leaves = λ new s. LeavesNew g device blocks old new;

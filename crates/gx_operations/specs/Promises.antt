@@ -1,9 +1,12 @@
 -- What is promised of a request, in one case of what there is before it.
 use Rattle.std.specs.Prelude.{◌≡◌, ◌≢◌, ◌⊎◌, ℕ, List, [], ◌++◌, take}
 use Rattle.gx_device.specs.Content.{Content}
+use Rattle.gx_device.specs.Crash.{Through}
 use Rattle.gx_play.specs.Say.{SameDevices}
 use Rattle.gx_play.specs.declared.status.Status.{Status}
 use Rattle.gx_play.specs.declared.status.Status.TheVariants as status
+use Rattle.gx_play.specs.Endings.{memory_line}
+use Rattle.gx_operations.specs.Crashes.{IsUnchanged}
 
 -- What was said is told in two parts: what stands whole, and the last piece, of which a failure may
 -- leave a front.
@@ -64,3 +67,24 @@ no_break told new = ⊥
 pub record IsApart (old new : Content) : Type 0 where
   pub devices : SameDevices old new
   pub script : new.script ≡ old.script
+
+-- ---- what is said in one piece
+
+-- such a piece with the status that is due, or the line on memory
+abbrev pub SaysOne : Status → (List ℕ → Content → Type 0) → Status → List ℕ → List ℕ → Content
+    → Type 0
+SaysOne status.Done P status.Done whole last new = (whole ≡ []) × P last new
+SaysOne status.Refused P status.Refused whole last new = (whole ≡ []) × P last new
+SaysOne status.Device P status.Device whole last new = (whole ≡ []) × P last new
+SaysOne due P status.Memory whole last new = IsLine memory_line whole last
+SaysOne due P other whole last new = ⊥
+
+-- this line is due, and nothing else happens
+abbrev pub says_line : Status → List ℕ → Content → Promise
+says_line due line old = record {
+  Says = SaysOne due (λ last new. last ≡ line);
+  Breaks = no_break;
+  Due = λ s. s ≡ due;
+  Leaves = λ new s. IsApart old new;
+  Crashes = Through (IsUnchanged old.now) old;
+}

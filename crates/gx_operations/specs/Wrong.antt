@@ -1,27 +1,35 @@
 -- A device that isn't what was asked for, of `run` and `inspect`.
-use Rattle.std.specs.Prelude.{◌≡◌, ◌<◌, ℕ, List, [], Some, length, false, get_or}
+use Rattle.std.specs.Prelude.{◌≡◌, ◌<◌, ℕ, List, [], Some, None, length, false, get_or, slice_index_or}
 use Rattle.gx_device.specs.Content.{Content, NonePending, device_at}
-use Rattle.gx_layout.specs.Layout.{is_open}
-use Rattle.gx_store.specs.Device.{ReadAlike}
-use Rattle.gx_store.specs.Opening.{IsUnopened, IsRecoveryOf}
+use Rattle.gx_layout.specs.Head.{HasMagic, DifferFirst, text_at, text_area}
+use Rattle.gx_layout.specs.Layout.{head_of, is_open}
+use Rattle.gx_schema.specs.Printing.{schema_text}
+use Rattle.gx_equation.specs.Printing.{equation_text}
+use Rattle.gx_store.specs.Device.{IsSize, ReadAlike}
+use Rattle.gx_store.specs.Opening.{IsRecoveryOf}
 use Rattle.gx_store.specs.Store.{OfBlocks}
-use Rattle.gx_store.specs.declared.unopened.Unopened.TheVariants as unopened
 use Rattle.gx_play.specs.declared.ending.DeviceWhy.{DeviceWhy}
 use Rattle.gx_play.specs.declared.ending.DeviceWhy.TheVariants as device_why
 use Rattle.gx_play.specs.declared.status.Status.{Status}
 use Rattle.gx_play.specs.declared.status.Status.TheVariants as status
 use Rattle.gx_play.specs.Endings.{device_line, memory_line}
-use Rattle.gx_operations.specs.Given.{Given, under, KeepsNamed, KeepsAbsent}
+use Rattle.gx_operations.specs.Given.{Given, KeepsNamed, KeepsAbsent}
 use Rattle.gx_operations.specs.Promises.{Promise, IsLine}
 use Rattle.gx_operations.specs.Crashes.{IsUnchanged, CrashesOn, ReadsAsAttached}
 
--- Why it isn't opened. Each comes only where those before it don't.
+-- Why it isn't opened. Each comes only where those before it don't. The place is the first one at
+-- which the bytes of the text blocks are others.
 abbrev pub IsWrong : Given → List ℕ → Content → DeviceWhy → Type 0
-IsWrong g device old device_why.Missing = under g (IsUnopened device) old unopened.Missing
-IsWrong g device old device_why.Size = under g (IsUnopened device) old unopened.Size
-IsWrong g device old device_why.NoDatabase = under g (IsUnopened device) old unopened.NoDatabase
+IsWrong g device old device_why.Missing = device_at old.now device ≡ None
+IsWrong g device old device_why.Size = OfBlocks device old (λ b. ¬ IsSize g.typing.specs (length b))
+IsWrong g device old device_why.NoDatabase =
+    OfBlocks device old (λ b.
+    IsSize g.typing.specs (length b) × ¬ HasMagic (length b) (get_or b 0 []))
 IsWrong g device old (device_why.OtherEquation place) =
-    under g (IsUnopened device) old (unopened.OtherTexts place)
+    OfBlocks device old (λ b. IsSize g.typing.specs (length b) × HasMagic (length b) (get_or b 0 [])
+    × DifferFirst (text_at (head_of b)) (λ q.
+    slice_index_or (text_area (schema_text g.schema) (equation_text g.definitions)) q 0)
+    (Some place))
 IsWrong g device old other = ⊥
 
 -- What is left of it: all; of one with other texts, which reads as before, all but the blocks that

@@ -14,8 +14,8 @@ use gx_schema::Schema;
 use gx_types::Built;
 use std::alloc::Global;
 
-/// Hears the script and says the plan of each `find`, and the line that ends it. No line of the
-/// script is carried out, and all devices are as they were.
+/// Hears the script and says the plan of each `find` and the direction of each path, and the line
+/// that ends it. No line of the script is carried out, and all devices are as they were.
 pub fn explain<M: Machine>(alloc: Global, schema: &Schema, built: &Built, machine: &mut M) -> Status
     requires { CanPlay (schema.now, built.now) }
     ensures promised { IsTrue M.tells → (g : Given) → schema.now ≡ g.schema →

@@ -7,18 +7,20 @@ use Rattle.gx_schema.specs.Grammar.{IsSchemaText}
 use Rattle.gx_schema.proofs.SchemaLaws.{one_schema}
 use Rattle.gx_commands.specs.declared.command.Command.{Command}
 use Rattle.gx_commands.specs.declared.command.Command.TheVariants as command
-use Rattle.gx_commands.specs.Commands.{place_reason, inside_after}
+use Rattle.gx_commands.specs.Commands.{inside_after}
 use Rattle.gx_commands.specs.Lines.{script_lines}
 use Rattle.gx_ports.specs.LeafMaps.{Limits}
 use Rattle.gx_equation.specs.Trees.{DefinitionTree}
 use Rattle.gx_model.specs.States.{State, empty_state}
 use Rattle.gx_model.specs.Play.{Playing, good, end_at, start_at, is_inside, after_command}
-use Rattle.gx_model.specs.Runs.{Runs}
 use Rattle.gx_model.proofs.RunLemmas.{some_after}
 use Rattle.gx_work.specs.Schema.{work_schema}
 use Rattle.gx_work.specs.Workload.{work_script}
 use Rattle.gx_work.proofs.SchemaLemmas.{schema_means}
 use Rattle.gx_work.proofs.WorkLemmas.{script_plays}
+use Rattle.gx_play.specs.declared.lines.Asked.{Asked}
+use Rattle.gx_play.specs.declared.lines.Asked.TheVariants as asked
+use Rattle.gx_play.specs.Asked.{IsAsked, Runs, after_asked, inside_behind}
 use Rattle.gx_play.specs.Played.{IsPlay, MayBeFull}
 use Rattle.gx_play.specs.Player.{IsDueOf, line_play}
 use Rattle.gx_play.specs.ScriptEnds.{AreGood}
@@ -30,7 +32,8 @@ use Rattle.gx_operations.specs.Settled.{limits_on}
 use Rattle.gx_operations.proofs.ExplainedLemmas.{good_explained}
 use Rattle.gx_top.specs.Complete.{HasGoodLines, IsReady, IsUnhindered, IsDoneOrMemory}
 use Rattle.gx_top.specs.Promised.{IsGiven, CarriesOut}
-use Rattle.gx_top.proofs.AnsweredLemmas.{some_answer}
+use Rattle.gx_play.proofs.AskedLemmas.{step_of, command_play}
+use Rattle.gx_top.proofs.PlayedLemmas.{some_text}
 use Rattle.gx_top.proofs.NeedLemmas.{never_full}
 
 -- ---- good lines run
@@ -53,6 +56,11 @@ inside_again schema p (command.ReorganizeFile file) = some_after p.working _
 inside_again schema p (command.ReorganizeLink link) = some_after p.working _
 inside_again schema p command.Nothing = some_after p.working _
 
+inside_also : (schema : Schema) (p : Playing) (a : Asked)
+    → is_inside (after_asked schema p a) ≡ inside_behind (is_inside p) a
+inside_also schema p (asked.Command c) = inside_again schema p c
+inside_also schema p (asked.Path q) = refl
+
 -- where they end up, and whether a transaction is open there
 record HaveRun (schema : Schema) (p : Playing) (lines : List (List ℕ))
     (behind : Bool) : Type 0 where
@@ -70,24 +78,18 @@ run_good schema p [] inside behind at is = record {
   behind_is = sym (is ∙ at);
 }
 run_good schema p (line ∷ lines) inside behind at is =
-    let c = is.0 in
-    let answer = some_answer schema p c in
-    let rest = run_good schema (after_command schema p c) lines (inside_after inside c) behind
-    (ap (λ b. inside_after b c) at ∙ sym (inside_again schema p c)) is.3 in
+    let a = is.0 in
+    let answer = some_text schema p a in
+    let rest = run_good schema (after_asked schema p a) lines (inside_behind inside a) behind
+    (ap (λ b. inside_behind b a) at ∙ sym (inside_also schema p a)) is.2 in
     record {
       answers = answer.0 ++ rest.answers;
       final = rest.final;
       runs = (
         answer.0,
         rest.answers,
-        after_command schema p c,
-        record {
-          command = c;
-          means = is.1;
-          allowed = subst (λ b. place_reason b c ≡ None) at is.2;
-          answered = answer.1;
-          next_is = refl;
-        },
+        after_asked schema p a,
+        step_of schema p line answer.0 a (subst (λ b. IsAsked schema b line a) at is.1) answer.1,
         rest.runs,
         refl,
       );
@@ -141,7 +143,8 @@ work_plays words texts device digits number records g given few =
       plays.answers,
       plays.final,
       subst (λ (k : Schema). IsPlay k (empty_state g.schema) (work_script records) plays.answers
-          plays.final good) own plays.play,
+          plays.final good) own (command_play work_schema (start_at (empty_state g.schema))
+          (script_lines (work_script records)) plays.answers plays.final plays.play),
     )
 
 carried : (words : List (List ℕ)) (old new : Content) (s : Status) (a : Action) (g : Given)

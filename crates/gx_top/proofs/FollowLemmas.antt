@@ -45,7 +45,7 @@ module _ (words : List (List ℕ)) (g : Given) (device : List ℕ) (old new : Co
       by_device : (found : Option (List (List ℕ))) → device_at old.now device ≡ found
           → IsSize g.typing.specs blocks → IsHeldOn g device (empty_state g.schema) new
       by_device None none size =
-          settled_held g device (empty_state g.schema) new (m.makable size none).said.says.1.empty
+          settled_held g device (empty_state g.schema) new (m.makable size none).said.says.1.1.empty
       by_device (Some there) is size =
           absurd (m.unmakable device_why.Exists (size, subst IsSome (sym is) refl)).said.says
 

@@ -18,8 +18,8 @@ use Rattle.gx_requests.specs.Words.{Action, checking, trying, explaining, making
 use Rattle.gx_operations.specs.Given.{Given, IsStoredAs, KeepsBut, KeepsAll}
 use Rattle.gx_operations.specs.GivenUp.{GivesUp}
 use Rattle.gx_operations.specs.Makes.{MakesOn}
-use Rattle.gx_operations.specs.Promises.{IsKept}
-use Rattle.gx_operations.specs.Refuses.{refuses, refuses_by}
+use Rattle.gx_operations.specs.Promises.{IsKept, says_line}
+use Rattle.gx_operations.specs.Refuses.{refuses}
 use Rattle.gx_operations.specs.Runs.{script_play}
 use Rattle.gx_operations.specs.Works.{WorksOn}
 use Rattle.gx_operations.proofs.MemoryLemmas.{refusal_given_up, check_given_up, try_given_up, explain_given_up, make_given_up, run_given_up, inspect_given_up, work_given_up}
@@ -59,7 +59,7 @@ pub joined_refusal : (words : List (List ℕ)) (old new : Content) (s : Status) 
     → IsRefused words old.aside.texts why → IsKept (refuses why old) old new s
     → KeepsBut (NameDevice words) old new → IsPromised words old new s
 joined_refusal words old new s why is done keeps = record {
-  refused = λ other too. subst (λ line. IsKept (refuses_by line old) old new s)
+  refused = λ other too. subst (λ line. IsKept (says_line status.Refused line old) old new s)
       (refused_once words old.aside.texts why other is too) done;
   accepted = λ b h too. absurd
       (accepted_not_refused words old.aside.texts b h.schema h.definitions h.typing why too is);

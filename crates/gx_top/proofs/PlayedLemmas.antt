@@ -1,5 +1,5 @@
 -- Each line is read, and each script has a play.
-use Rattle.std.proofs.Common.{◌≡◌, ℕ, zero, suc, ◌+◌, ◌<◌, ◌≤◌, List, [], ◌∷◌, ◌++◌, length, Bool, Option, Some, None, Result, Ok, Err, refl, sym, ap, subst, ◌∙◌, inl, inr, arith}
+use Rattle.std.proofs.Common.{◌≡◌, ℕ, zero, suc, ◌+◌, ◌<◌, ◌≤◌, List, [], ◌∷◌, ◌++◌, length, Bool, true, false, Option, Some, None, Result, Ok, Err, refl, sym, ap, subst, ◌∙◌, inl, inr, arith}
 use Rattle.std.specs.Prelude.{◌⊎◌}
 use Rattle.std.specs.List.{list_all}
 use Rattle.std.proofs.lemmas.Bool.{cases_Bool}
@@ -18,8 +18,17 @@ use Rattle.gx_commands.proofs.WordLaws.{first_found, first_shorter}
 use Rattle.gx_script.specs.Grammar.{IsLineOf}
 use Rattle.gx_script.specs.Reading.{reading, IsReading}
 use Rattle.gx_script.proofs.ReadingLaws.{line_found}
-use Rattle.gx_model.specs.Play.{Playing, End, stopped, end_at, is_inside, after_command}
-use Rattle.gx_model.specs.Runs.{Runs, IsEnd, IsBadLine, AreFirstLines, IsPlayFrom}
+use Rattle.gx_script.specs.Paths.{is_path, path_reading, IsPathReading}
+use Rattle.gx_script.proofs.PathLaws.{path_line_found}
+use Rattle.gx_commands.specs.declared.path.PathQuery.{PathQuery}
+use Rattle.gx_model.specs.Play.{Playing, End, stopped, end_at, is_inside, seen_state}
+use Rattle.gx_model.specs.Languages.{AreFirstLines}
+use Rattle.gx_model.specs.Paths.{PathOr, path_text}
+use Rattle.gx_model.specs.Runs.{IsBadLine as IsBadCommandLine}
+use Rattle.gx_play.specs.declared.lines.Asked.{Asked}
+use Rattle.gx_play.specs.declared.lines.Asked.TheVariants as asked
+use Rattle.gx_play.specs.Asked.{IsAsked, IsAnsweredTo, IsBadLine, Runs, IsEnd, IsPlayFrom, after_asked}
+use Rattle.gx_play.proofs.AskedLemmas.{step_of}
 use Rattle.gx_top.proofs.AnsweredLemmas.{some_answer}
 
 -- ---- a line is words, or it isn't
@@ -73,29 +82,74 @@ some_reading schema line = elim (cases_Bool (is_comment line)) as (λ _. HasRead
   ]
 ]
 
--- it means a command that may stand there, or is bad
+-- the same of a path
+abbrev HasPathReading : Schema → List ℕ → Type 0
+HasPathReading schema line = (r : Result PathQuery LineWhy) × IsPathReading schema line r
+
+some_path_reading : (schema : Schema) (line : List ℕ) → HasPathReading schema line
+some_path_reading schema line = elim (cases_Bool (list_all is_character line)) as
+    (λ _. HasPathReading schema line) [
+      | inr strange ↦ (Err why.Character, inl (strange, refl))
+      | inl characters ↦ elim (words_within (length line) line (omega arith)) as
+          (λ _. HasPathReading schema line) [
+            | inl has ↦ (path_reading schema has.0, inr (inr (characters, (has.0, has.1, refl))))
+            | inr not_any ↦ (
+              Err why.Quote,
+              inr (inl (characters, (λ words are. not_any (words, are)), refl)),
+            )
+          ]
+    ]
+
+-- it asks for what may stand there, or is bad
 abbrev pub IsGoodOrBad : Schema → Bool → List ℕ → Type 0
 IsGoodOrBad schema inside line =
-    ((c : Command) × IsLineOf schema line c × (place_reason inside c ≡ None))
-    ⊎ ((why : LineWhy) × IsBadLine schema inside line why)
+    ((a : Asked) × IsAsked schema inside line a) ⊎ ((why : LineWhy) × IsBadLine schema inside line why)
 
-by_place : (schema : Schema) (inside : Bool) (line : List ℕ) (c : Command)
-    → IsLineOf schema line c → (r : Option LineWhy) → place_reason inside c ≡ r
-    → IsGoodOrBad schema inside line
-by_place schema inside line c means None is = inl (c, means, is)
-by_place schema inside line c means (Some why) is = inr (why, inr (c, means, is))
+module _ (schema : Schema) (inside : Bool) (line : List ℕ) (whole : IsWellFormed schema) where
+  -- a line that is told to be a path, or no path
+  bad_of : (path : Bool) (why : LineWhy) → is_path line ≡ path
+      → PathOr path (IsPathReading schema line (Err why)) (IsBadCommandLine schema inside line why)
+      → IsGoodOrBad schema inside line
+  bad_of path why is bad =
+      inr (
+        why,
+        subst (λ (b : Bool). PathOr b (IsPathReading schema line (Err why))
+            (IsBadCommandLine schema inside line why)) (sym is) bad,
+      )
 
-by_reading : (schema : Schema) (inside : Bool) (line : List ℕ) → IsWellFormed schema
-    → (r : Result Command LineWhy) → IsReading schema line r → IsGoodOrBad schema inside line
-by_reading schema inside line whole (Ok c) is =
-    by_place schema inside line c (line_found schema line c whole is) (place_reason inside c) refl
-by_reading schema inside line whole (Err why) is = inr (why, inl is)
+  by_place : is_path line ≡ false → (c : Command) → IsLineOf schema line c → (r : Option LineWhy)
+      → place_reason inside c ≡ r → IsGoodOrBad schema inside line
+  by_place no_path c means None is = inl (asked.Command c, (no_path, means, is))
+  by_place no_path c means (Some why) is = bad_of false why no_path (inr (c, means, is))
+
+  by_reading : is_path line ≡ false → (r : Result Command LineWhy) → IsReading schema line r
+      → IsGoodOrBad schema inside line
+  by_reading no_path (Ok c) is =
+      by_place no_path c (line_found schema line c whole is) (place_reason inside c) refl
+  by_reading no_path (Err why) is = bad_of false why no_path (inl is)
+
+  by_path_reading : is_path line ≡ true → (r : Result PathQuery LineWhy)
+      → IsPathReading schema line r → IsGoodOrBad schema inside line
+  by_path_reading path (Ok q) is = inl (asked.Path q, (path, path_line_found schema line q whole is))
+  by_path_reading path (Err why) is = bad_of true why path is
 
 pub good_or_bad : (schema : Schema) (inside : Bool) (line : List ℕ) → IsWellFormed schema
     → IsGoodOrBad schema inside line
-good_or_bad schema inside line whole =
-    let r = some_reading schema line in
-    by_reading schema inside line whole r.0 r.1
+good_or_bad schema inside line whole = elim (cases_Bool (is_path line)) as
+    (λ _. IsGoodOrBad schema inside line) [
+      | inl path ↦
+          let r = some_path_reading schema line in
+          by_path_reading schema inside line whole path r.0 r.1
+      | inr no_path ↦
+          let r = some_reading schema line in
+          by_reading schema inside line whole no_path r.0 r.1
+    ]
+
+-- what is asked for is answered
+pub some_text : (schema : Schema) (p : Playing) (a : Asked)
+    → (text : List ℕ) × IsAnsweredTo schema p a text
+some_text schema p (asked.Command c) = some_answer schema p c
+some_text schema p (asked.Path q) = (path_text schema (seen_state p) q, refl)
 
 -- ---- lines have a play
 
@@ -135,9 +189,9 @@ play_of_more schema p last line all (inr (why, bad)) later = record {
   runs = (refl, refl);
   ends = (why, bad, refl);
 }
-play_of_more schema p last line all (inl (c, means, allowed)) later =
-    let answer = some_answer schema p c in
-    let rest = later (after_command schema p c) in
+play_of_more schema p last line all (inl (a, means)) later =
+    let answer = some_text schema p a in
+    let rest = later (after_asked schema p a) in
     let many : last + 1 + length rest.ran ≡ last + length (line ∷ rest.ran) = omega arith in
     record {
       answers = answer.0 ++ rest.answers;
@@ -149,14 +203,8 @@ play_of_more schema p last line all (inl (c, means, allowed)) later =
       runs = (
         answer.0,
         rest.answers,
-        after_command schema p c,
-        record {
-          command = c;
-          means = means;
-          allowed = allowed;
-          answered = answer.1;
-          next_is = refl;
-        },
+        after_asked schema p a,
+        step_of schema p line answer.0 a means answer.1,
         rest.runs,
         refl,
       );

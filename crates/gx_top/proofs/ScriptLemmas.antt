@@ -7,7 +7,7 @@ use Rattle.gx_schema.proofs.SchemaLaws.{one_schema}
 use Rattle.gx_commands.specs.Lines.{script_lines}
 use Rattle.gx_model.specs.States.{State}
 use Rattle.gx_model.specs.Play.{End, end_text, start_at}
-use Rattle.gx_model.proofs.RunLemmas.{play_once}
+use Rattle.gx_play.proofs.AskedLemmas.{play_once}
 use Rattle.gx_requests.specs.Requests.{IsText, IsSchemaOf}
 use Rattle.gx_play.specs.Played.{IsPlayText}
 use Rattle.gx_operations.specs.Given.{Given}

@@ -10,8 +10,8 @@ use gx_play::Status;
 use gx_requests::prepare_nodes;
 use std::alloc::Global;
 
-/// Says the plan of each `find` of the script, under the texts of these names; or says the reason
-/// where the request is refused.
+/// Says the plan of each `find` and the direction of each path of the script, under the texts of
+/// these names; or says the reason where the request is refused.
 pub fn explain<M: Machine>(alloc: Global, schema: &str, equation: &str, machine: M) -> (Status, M)
     ensures promised { IsTrue M.tells → IsPromised
         (request_words explaining schema.now equation.now) (M.content machine)

@@ -91,8 +91,7 @@ pub fn one_text(words: &[String])
         → text ≡ more }
 {}
 
-/// Each script has a play from each state, under each schema that is accepted: so none is asked for
-/// where something is said of its play. It does nothing.
+/// Each script has a play from each state, under each schema that is accepted. It does nothing.
 pub fn each_script_is_played(words: &[String])
     ensures { (texts : Texts) (a : Action) (g : Given) (start : State) (script : List ℕ)
         → IsGiven (texts_of words.now) texts a g

@@ -27,12 +27,14 @@ use std::alloc::Global;
 ///   exactly the line of the device that was made. Of `try`, and of `run` on a device that holds a
 ///   state, exactly the answers of the play of the whole script were said, and the script was heard
 ///   to its end. `try` plays it on an empty database, `run` on that state. Of `explain`, exactly
-///   the plans of the script's `find` lines were said, and the script was heard to its end; a
-///   transaction may be open there. Of `inspect`, exactly the lines of the leaves, files and links
-///   of the state were said that the device held, and then `sound`. Of `work`, exactly the summary
-///   of the workload was said, which was played to its end on a device that is new.
-/// - `Script`: a line ends the play, or the plans. Exactly the answers or plans up to it were said,
-///   of `run` on a device that holds a state, and then the line that says where and why.
+///   the plans of the script's `find` lines and the directions of its paths were said, and the
+///   script was heard to its end; a transaction may be open there. Of `inspect`, exactly the lines
+///   of the leaves, files and links of the state were said that the device held, and then `sound`.
+///   Of `work`, exactly the summary of the workload was said, which was played to its end on a
+///   device that is new.
+/// - `Script`: a line ends the play, or the plans and directions. Exactly the answers, or these, up
+///   to it were said, of `run` on a device that holds a state, and then the line that says where
+///   and why.
 /// - `Refused`: the request is refused for the first reason in the order of the words, the texts,
 ///   the schema, the equation, its types, and the length of the texts. The line of that reason was
 ///   said, and nothing else.
@@ -44,8 +46,8 @@ use std::alloc::Global;
 ///   damage, which names a block that the device has, was said last, behind what was said before.
 ///   Damage comes only of a device that is there, with its size, a database and the same texts, and
 ///   that holds no state. `inspect` finds it exactly there.
-/// - `Memory`: there was no memory. Exactly the answers or plans of the script's first lines were
-///   said, perhaps of none, of `run` on a device that holds a state, and then `stopped: memory`.
+/// - `Memory`: there was no memory. Exactly the answers of the script's first lines, or their plans
+///   and directions, were said, perhaps of none, of `run` on a device that holds a state, and then `stopped: memory`.
 /// - `Outside`: a call of the machine failed. All answers of one of the others were said and a
 ///   front of its line, or first answers, but perhaps an end of the last one.
 ///

@@ -37,7 +37,7 @@ fn script(alloc: Global) -> Result<Vec<u8>, Fail> {
 }
 
 // Expects that a request on the machine ends with Done, with this said last.
-fn expect_done(
+pub(crate) fn expect_done(
     rt: &impl Abort,
     alloc: Global,
     machine: MemoryMachine,

@@ -6,6 +6,8 @@ mod bounded;
 #[cfg(test)]
 mod partner;
 #[cfg(test)]
+mod paths;
+#[cfg(test)]
 mod requests;
 #[cfg(test)]
 mod row;
