@@ -96,6 +96,21 @@ impl Mapping for Partition {
 }
 
 impl Partition {
+    /// Where the field stands by whose value records go to children.
+    pub fn place(&self) -> Where
+        ensures { result ≡ at_of self.now }
+    {
+        self.at
+    }
+
+    /// The ascending values between children: child `i` has the values from bound `i - 1` on and
+    /// below bound `i`.
+    pub fn bounds(&self) -> &Values
+        ensures { result.now ≡ bounds_of self.now }
+    {
+        &self.bounds
+    }
+
     // The child that the record goes to.
     fn child_for(&self, rec: &Rec) -> u16
         requires { IsOf (form_of self.now) rec.now }

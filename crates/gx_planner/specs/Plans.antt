@@ -9,7 +9,7 @@ use Rattle.gx_commands.specs.declared.command.Find.{Find}
 use Rattle.gx_planner.specs.declared.plans.Plan.{Plan}
 use Rattle.gx_planner.specs.declared.plans.Plan.TheVariants.{Key, Link, Index, KeyRange, IndexRange, Scan}
 
--- ---- ranks: the less, the better
+-- ---- ranks
 
 -- equality, or a range; `<>` is neither
 abbrev pub rank_by : ℕ → ℕ → Op → ℕ

@@ -41,7 +41,7 @@ pub fn plan(find: &Find, indexed: &[bool]) -> Plan
     by_condition(conds, indexed)
 }
 
-/// The rank of a plan, from 1 to 6: the less, the better.
+/// The rank of a plan, from 1 to 6. `plan` gives one of the least rank among those that apply.
 pub fn rank(plan: Plan) -> u8
     ensures { result ≡ plan_rank plan }
 {
