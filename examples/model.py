@@ -15,6 +15,7 @@ QUOTED = re.compile(rb'"(?:[^"\t]|"")*"(?=[ \t]|$)')
 OPERATORS = {"=": lambda a, b: a == b, "<>": lambda a, b: a != b, "<": lambda a, b: a < b, "<=": lambda a, b: a <= b,
              ">": lambda a, b: a > b, ">=": lambda a, b: a >= b}
 RANGES = ("<", "<=", ">", ">=")
+LEGS_LIMIT = 8
 INSIDE = ("commit", "abort", "insert", "update", "delete", "connect", "disconnect", "reorganize")
 
 
@@ -109,6 +110,26 @@ class Reader:
             raise Stop("word")
         return word
 
+    def conditions(self, file):
+        """The conditions behind `where`: the number of a field, an operator and a value each."""
+        conditions, word = [], self.keyword("where")
+        while word:
+            field = self.one_of(file.fields, "field")
+            operator = self.operator()
+            conditions.append((file.fields.index(field), operator, self.value(field)))
+            word = self.keyword("and")
+        return conditions
+
+    def leg(self, file):
+        """A leg from a file: whether it goes down, its link, and the conditions of the other file."""
+        word = self.take()
+        if word not in ("down", "up"):
+            raise Stop("word")
+        is_down = word == "down"
+        links = [it for it in self.schema.links if (it.owner if is_down else it.member) == file]
+        link = self.one_of(links, "link")
+        return is_down, link, self.conditions(link.member if is_down else link.owner)
+
     def order(self, file):
         """The number of the field of an order, and whether it descends."""
         if not self.keyword("order"):
@@ -119,6 +140,15 @@ class Reader:
     def end(self):
         if self.words:
             raise Stop("word")
+
+
+def end_of(leg):
+    """The file to which a leg leads."""
+    return leg[1].member if leg[0] else leg[1].owner
+
+
+def meets(record, conditions):
+    return all(OPERATORS[operator](record[number], value) for number, operator, value in conditions)
 
 
 def read_command(schema, words):
@@ -155,17 +185,17 @@ def read_command(schema, words):
         rest = [read.value(of.owner.fields[0]), read.order(of.member)]
     elif command == "find":
         of = read.file()
-        conditions, owner = [], None
-        word = read.keyword("where")
-        while word:
-            field = read.one_of(of.fields, "field")
-            operator = read.operator()
-            conditions.append((of.fields.index(field), operator, read.value(field)))
-            word = read.keyword("and")
+        conditions, owner = read.conditions(of), None
         if read.keyword("of"):
             link = read.one_of([it for it in schema.links if it.member == of], "link")
             owner = link, read.value(link.owner.fields[0])
         rest = [conditions, owner, read.order(of)]
+    elif command == "path":
+        of = read.file()
+        rest, file = [read.conditions(of), []], of
+        while read.words and len(rest[1]) < LEGS_LIMIT or not rest[1]:
+            rest[1].append(read.leg(file))
+            file = end_of(rest[1][-1])
     elif command == "reorganize":
         of = read.one_of(schema.files + schema.links, "file")
     else:
@@ -241,6 +271,8 @@ class Model:
                 is_open = command == "begin" or is_open and command not in ("commit", "abort")
                 if command == "find":
                     said.append(f"line {number}: {plan(of, rest[0], rest[1], indexed[of.name])}")
+                elif command == "path":
+                    said.append(f"line {number}: path {direction(of, *rest, indexed)}")
         except Stop as it:
             number += str(it) in ("too long", "script too long")
             return [*said, f"stopped at line {number}: {it}"], 2
@@ -318,8 +350,20 @@ class Model:
 
     def find(self, file, conditions, owner, order):
         records = self.of_owner(*owner) if owner else self.records[file.name].values()
-        found = [it for it in records if all(OPERATORS[op](it[number], value) for number, op, value in conditions)]
-        return self.listed(file, found, order)
+        return self.listed(file, [it for it in records if meets(it, conditions)], order)
+
+    def path(self, file, conditions, legs):
+        keys = {key for key, it in self.records[file.name].items() if meets(it, conditions)}
+        for leg in legs:
+            is_down, link, its = leg
+            pairs = self.owners[link.name].items()
+            if is_down:
+                linked = {member for member, owner in pairs if owner in keys}
+            else:
+                linked = {owner for member, owner in pairs if member in keys}
+            file = end_of(leg)
+            keys = {it for it in linked if meets(self.records[file.name][it], its)}
+        return self.listed(file, [self.records[file.name][it] for it in keys], None)
 
     def reorganize(self, _):
         return ["ok"]
@@ -342,6 +386,16 @@ def plan(file, conditions, owner, indexed):
             if not is_key and name in indexed and operator in operators:
                 return f"index{kind} {name}"
     return "scan"
+
+
+def direction(file, conditions, legs, indexed):
+    """From which end a path is walked: from the one whose find has the better plan, of two equal
+    plans from the first."""
+    ranks = ["key", "link", "index", "key range", "index range", "scan"]
+    last, its = end_of(legs[-1]), legs[-1][2]
+    plans = (plan(it, its, None, indexed[it.name]) for it, its in ((last, its), (file, conditions)))
+    back, on = (ranks.index(re.match(r"(?:key|index) range|\w+", it)[0]) for it in plans)
+    return "backward" if back < on else "forward"
 
 
 def indexed_in(term):

@@ -14,8 +14,8 @@ syntax keyword genesisLeaf    heap hash isam bplus
 syntax keyword genesisLayer   actual encode segment transpose partition divide index pack rle
 syntax keyword genesisLinkset array ring inverted
 syntax keyword genesisCommand begin commit abort insert get update delete find connect disconnect
-syntax keyword genesisCommand members owner reorganize
-syntax keyword genesisClause  where and of order desc
+syntax keyword genesisCommand members owner path reorganize
+syntax keyword genesisClause  where and of order desc down up
 
 highlight default link genesisComment Comment
 highlight default link genesisText    String

@@ -14,7 +14,7 @@ from formats import SCRIPT_LIMIT, VALUE, Wrong, read_schema, text_of
 TOP = os.path.dirname(os.path.dirname(os.path.realpath(__file__)))
 # Less than a pipe holds, so that a program that waits to be read never waits for one that waits to write.
 BATCH_LINES, BATCH_BYTES = 500, 32768
-IS_LIST = re.compile(rb"[ \t]*(find|members)[ \t]")
+IS_LIST = re.compile(rb"[ \t]*(find|members|path)[ \t]")
 IS_LAST = re.compile(r"found [0-9]+$|refused: ")
 NO_ANSWER = re.compile(rb"[ \t]*(#|\r?$)")
 # What the program says where it ends, and no record line begins with.
