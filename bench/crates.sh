@@ -49,7 +49,8 @@ program lines 'gx_schema gx_script gx_values'
 program slots gx_slots
 program frames gx_frames
 program lru lru
-for name in schema lines slots frames lru; do
+program walks 'gx_slots gx_bnode'
+for name in schema lines slots frames lru walks; do
     build "$name"
 done
 rustc --edition 2021 -O "$bench/programs/slots.rs" -o "$folder/slots_plain" || exit

@@ -33,6 +33,10 @@ void peer_open(const char *path, const char *mode)
     run(strcmp(mode, "memory") ? "pragma synchronous=FULL" : "pragma synchronous=OFF");
     run("create table if not exists part (number integer primary key, quantity integer not null, name text not null)");
     run("create table if not exists note (title text primary key, body text not null) without rowid");
+    if (getenv("PEER_PAGES")) {
+        snprintf(sql, sizeof sql, "pragma cache_size=%d", atoi(getenv("PEER_PAGES")));
+        run(sql);
+    }
     if (getenv("PEER_INDEX"))
         run("create index if not exists by_quantity on part (quantity)");
     begin = prepared("begin");
