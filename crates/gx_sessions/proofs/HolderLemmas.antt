@@ -101,6 +101,18 @@ barred_there schema p n c states state k place wanted are whole lt is within sam
 
 -- ---- the first item on which one does
 
+pub file_there : (schema : Schema) (i : ℕ) → i < length schema.files → item_at schema i ≡ file i
+file_there schema i lt =
+    ap (λ (b : Bool). cond b (file i) (link (i - length schema.files)))
+    (lt-ltb i (length schema.files) lt)
+
+pub link_there : (schema : Schema) (j : ℕ) → item_at schema (length schema.files + j) ≡ link j
+link_there schema j =
+    let e : (length schema.files + j) - length schema.files ≡ j = omega arith in
+    ap (λ (b : Bool). cond b (file (length schema.files + j))
+    (link ((length schema.files + j) - length schema.files)))
+    (le-ltb (length schema.files + j) (length schema.files) (omega arith)) ∙ ap link e
+
 or_some : (a b : Option ℕ) → is_some a ≡ true → option_or a b ≡ a
 or_some None b e = absurd (true≢false (sym e))
 or_some (Some n) b e = refl
@@ -151,18 +163,6 @@ module _ (schema : Schema) (p : Sharing) (n : ℕ) (c : Command) where
       ∙ among_rest f (first + 1) many rest
       (λ j a b. none j (omega (arith, a)) (omega (arith, b)))
 
-  file_there : (i : ℕ) → i < length schema.files → item_at schema i ≡ file i
-  file_there i lt =
-      ap (λ (b : Bool). cond b (file i) (link (i - length schema.files)))
-      (lt-ltb i (length schema.files) lt)
-
-  link_there : (j : ℕ) → item_at schema (length schema.files + j) ≡ link j
-  link_there j =
-      let e : (length schema.files + j) - length schema.files ≡ j = omega arith in
-      ap (λ (b : Bool). cond b (file (length schema.files + j))
-      (link ((length schema.files + j) - length schema.files)))
-      (le-ltb (length schema.files + j) (length schema.files) (omega arith)) ∙ ap link e
-
   abbrev links_of : List Item
   links_of = map link (range_with_len 0 (length schema.links))
 
@@ -170,7 +170,8 @@ module _ (schema : Schema) (p : Sharing) (n : ℕ) (c : Command) where
       → holder_among schema p n c (items_of schema) ≡ holder_among schema p n c links_of
   files_free none =
       among_rest file 0 (length schema.files) links_of
-      (λ j a b. ap barring (sym (file_there j (omega (arith, b)))) ∙ none j (omega (arith, b)))
+      (λ j a b. ap barring (sym (file_there schema j (omega (arith, b))))
+      ∙ none j (omega (arith, b)))
 
   pub held_there : (place : ℕ) → place < length schema.files + length schema.links
       → ((i : ℕ) → i < place → barring (item_at schema i) ≡ None)
@@ -183,10 +184,10 @@ module _ (schema : Schema) (p : Sharing) (n : ℕ) (c : Command) where
       at_file lt =
           let e : 0 + place ≡ place = omega arith in
           let here : item_at schema place ≡ file (0 + place) =
-          file_there place lt ∙ ap file (sym e) in
+          file_there schema place lt ∙ ap file (sym e) in
           ap barring here
           ∙ sym (among_at file 0 (length schema.files) place links_of lt
-          (λ j a b. ap barring (sym (file_there j (omega (arith, b, lt)))) ∙ none j (omega
+          (λ j a b. ap barring (sym (file_there schema j (omega (arith, b, lt)))) ∙ none j (omega
           (arith, b)))
           (ap (λ (x : Item). is_some (barring x)) (sym here) ∙ is))
 
@@ -197,7 +198,7 @@ module _ (schema : Schema) (p : Sharing) (n : ℕ) (c : Command) where
           let e : length schema.files + (0 + (place - length schema.files)) ≡ place = omega
           (arith, le) in
           let here : item_at schema place ≡ link (0 + (place - length schema.files)) =
-          ap (item_at schema) (sym e) ∙ link_there (0 + (place - length schema.files)) in
+          ap (item_at schema) (sym e) ∙ link_there schema (0 + (place - length schema.files)) in
           ap barring here
           ∙ sym (files_free (λ i lt. none i (omega (arith, lt, le)))
           ∙ ap (holder_among schema p n c) (sym (append-nil links_of))
@@ -206,7 +207,7 @@ module _ (schema : Schema) (p : Sharing) (n : ℕ) (c : Command) where
             within,
             le,
           ))
-          (λ j a b. ap barring (sym (link_there j))
+          (λ j a b. ap barring (sym (link_there schema j))
           ∙ none (length schema.files + j) (omega (arith, b, le)))
           (ap (λ (x : Item). is_some (barring x)) (sym here) ∙ is))
 
@@ -222,5 +223,5 @@ module _ (schema : Schema) (p : Sharing) (n : ℕ) (c : Command) where
       sym (files_free (λ i lt. none i (omega (arith, lt, all)))
       ∙ ap (holder_among schema p n c) (sym (append-nil links_of))
       ∙ among_rest link 0 (length schema.links) []
-      (λ j a b. ap barring (sym (link_there j))
+      (λ j a b. ap barring (sym (link_there schema j))
       ∙ none (length schema.files + j) (omega (arith, b, all))))

@@ -5,4 +5,5 @@ pub mod AgainLemmas
 pub mod CarryLemmas
 pub mod BringLemmas
 pub mod SessionsLemmas
+pub mod ReadLemmas
 pub mod TurnLemmas

@@ -1,10 +1,11 @@
 -- What an engine stands for between the turns of sessions.
-use Rattle.std.specs.Prelude.{◌≡◌, ℕ, ◌+◌, List, ◌∷◌, ◌++◌, length, Bool, false, Option, Some, None, Result, Err, OnOk, OnErr}
+use Rattle.std.specs.Prelude.{◌≡◌, ℕ, ◌+◌, List, ◌∷◌, ◌++◌, length, Bool, true, false, Option, Some, None, Result, Err, OnOk, OnErr}
 use Rattle.gx_device.specs.Content.{Silent}
 use Rattle.gx_device.specs.Crash.{LeavesOnly}
 use Rattle.gx_device.specs.Quiet.{IsOldOrNew}
 use Rattle.gx_schema.specs.declared.schema.Schema.{Schema}
 use Rattle.gx_commands.specs.declared.command.Command.{Command}
+use Rattle.gx_commands.specs.declared.command.Command.TheVariants as command
 use Rattle.gx_ports.specs.Calls.{Keeps}
 use Rattle.gx_ports.specs.LeafMaps.{LeafMap, Limits, IsCrowdedBy, entry_count}
 use Rattle.gx_ports.specs.Stops.{HasStopCause, is_fault}
@@ -20,7 +21,8 @@ use Rattle.gx_engine.specs.Moments.{AreInternal, MayWantRoom}
 use Rattle.gx_states.specs.Internal.{state_entries}
 use Rattle.gx_engine.specs.Steps.{schema_of, built_of, leaves_of, stop_of, IsReady, IsAt, IsSound, is_commit}
 use Rattle.gx_engine.specs.Crashes.{HoldsFor}
-use Rattle.gx_sharing.specs.Sharing.{Sharing, answered, view_in, played, play_of, session_after, after_turn}
+use Rattle.gx_sharing.specs.Kept.{IsClearOf}
+use Rattle.gx_sharing.specs.Sharing.{Sharing, answered, view_in, holds, played, play_of, session_after, after_turn}
 use Rattle.gx_sessions.specs.declared.session.SessionState.{SessionState}
 use Rattle.gx_sessions.specs.Standings.{IsSession}
 
@@ -36,6 +38,26 @@ pub record IsShared {S : Type 0} (g : Ghosts S) (p : Sharing) (carried : Option 
   pub working : Option State
   pub at : IsAt g (seeing p working) e
   pub own : (n : ℕ) → carried ≡ Some n → working ≡ view_in (schema_of e) p.kept (p.session n)
+
+-- what the session sees for which the engine stands; where it stands for none, nothing is open
+abbrev pub view_for : Schema → Sharing → Option ℕ → Option State
+view_for schema p None = None
+view_for schema p (Some n) = view_in schema p.kept (p.session n)
+
+-- the command only reads
+abbrev pub is_read : Command → Bool
+is_read (command.Get file key) = true
+is_read (command.Members link owner order) = true
+is_read (command.Owner link member) = true
+is_read (command.Find q) = true
+is_read _ = false
+
+-- neither the session nor the one for which the engine stands has locked exclusively what the
+-- command locks
+pub record AreClear (schema : Schema) (p : Sharing) (n : ℕ) (carried : Option ℕ)
+    (c : Command) : Type 0 where
+  pub own : IsClearOf schema c (holds schema (p.session n))
+  pub other : (m : ℕ) → carried ≡ Some m → IsClearOf schema c (holds schema (p.session m))
 
 -- One of these commands, carried out in order on the last kept state, may want room, isn't refused,
 -- and the pages may be too few for the entries of the leaves that stand for the state before it

@@ -1,10 +1,10 @@
 // One session: where it stands, what of its transaction is kept, and the locks that this holds.
-ghost use Rattle.std.specs.Prelude.{◌≡◌, ◌+◌, ◌++◌, List, [], ◌∷◌, length, IfOk, OnOk, OnErr};
+ghost use Rattle.std.specs.Prelude.{◌≡◌, ◌+◌, ◌++◌, List, [], ◌∷◌, length, true, IfOk, OnOk, OnErr};
 ghost use Rattle.gx_schema.specs.declared.schema.Schema.{Schema as TheSchema};
 ghost use Rattle.gx_commands.specs.declared.command.Command.{Command as TheCommand};
 ghost use Rattle.gx_commands.specs.Commands.{IsOfSchema, inside_after};
-ghost use Rattle.gx_sharing.specs.Kept.{is_kept, kept_of};
-ghost use Rattle.gx_sharing.specs.Sharing.{Session, outside, inside, session_after};
+ghost use Rattle.gx_sharing.specs.Kept.{is_kept, kept_of, IsClearOf};
+ghost use Rattle.gx_sharing.specs.Sharing.{Session, outside, inside, holds, session_after};
 ghost use Rattle.gx_sessions.specs.Standings.{stands_in, is_within, standing_after, bare, IsSession, IsWhole, AreStronger, AreFree};
 
 use crate::locks::{Lock, lock_at};
@@ -92,6 +92,21 @@ impl SessionState {
                 Standing::Outside | Standing::Ended => Ok(()),
             },
         }
+    }
+
+    /// Whether no lock that it holds conflicts with one that the command takes.
+    pub(crate) fn goes_with(&self, schema: &Schema, command: &Command) -> bool
+        requires whole { IsWhole schema.now self.now }
+        requires of_schema { IsOfSchema schema.now command.now }
+        ensures { (s : Session) → IsSession schema.now s self.now → result ≡ true →
+            IsClearOf schema.now command.now (holds schema.now s) }
+    {
+        for place in 0..self.locks.len() {
+            if self.locks[place].conflicts(lock_at(schema, command, place)) {
+                return false;
+            }
+        }
+        true
     }
 
     // Goes on inside by a command, which is kept where it changes something.

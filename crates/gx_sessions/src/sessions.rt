@@ -8,6 +8,7 @@ ghost use Rattle.gx_model.specs.States.{State};
 ghost use Rattle.gx_model.specs.Play.{start_at};
 ghost use Rattle.gx_sharing.specs.Sharing.{outside};
 ghost use Rattle.gx_sessions.specs.Standings.{AreSessions, AreWhole};
+ghost use Rattle.gx_sessions.specs.Shared.{is_read};
 ghost use Rattle.gx_sessions.specs.Turns.{answer_at_once};
 
 use crate::holder::holder;
@@ -45,10 +46,11 @@ pub struct Sessions<B: Leaves + Drop> {
 
 impl<B: Leaves + Drop> Sessions<B> {
     ghost use Rattle.gx_engine.specs.Steps.{IsReady as IsEngineReady, IsAt, built_of, is_open, is_fault_now, stop_of as engine_stop};
-    ghost use Rattle.gx_commands.specs.Commands.{place_reason, inside_after};
-    ghost use Rattle.gx_sharing.specs.Sharing.{Sharing, share_start, is_in, outcome_of, after_turn, answered, with_session, session_after};
+    ghost use Rattle.gx_commands.specs.Commands.{IsOfSchema, place_reason, inside_after};
+    ghost use Rattle.gx_sharing.specs.Kept.{IsClearOf};
+    ghost use Rattle.gx_sharing.specs.Sharing.{Sharing, share_start, is_in, holds, outcome_of, after_turn, answered, with_session, session_after};
     ghost use Rattle.gx_sessions.specs.Standings.{commands_of, stands_in, is_within, bare};
-    ghost use Rattle.gx_sessions.specs.Shared.{IsShortAmong, LeavesTurn};
+    ghost use Rattle.gx_sessions.specs.Shared.{AreClear, IsShortAmong, LeavesTurn};
     ghost use Rattle.gx_sessions.specs.Turns.{engine_of, schema_of, leaves_of, stop_of, standing_at, is_in_at, IsNumber, MovesTo, IsReady, IsDue, AreShared, turn_of, IsIdle, ComesOut, IsTurned, EndsTurn, EndsTaken, RestsOn, IsSame, rests, without_turn};
 
     /// Sessions that are all outside, over an engine without an open transaction and without a
@@ -255,38 +257,67 @@ impl<B: Leaves + Drop> Sessions<B> {
                 self.pass(session, &command, text, out)?;
                 Ok(())
             }
-            None => self.carry_out(alloc, session, command, out),
+            None => {
+                let as_it_stands = self.answers_as_it_stands(session, &command);
+                let state = &mut self.states[usize::from(session) - 1];
+                if as_it_stands {
+                    self.shared.read(alloc, state, command, out)
+                } else {
+                    self.shared.carry_out(alloc, session, state, command, out)
+                }
+            }
         }
     }
 
-    // Carries out a command that reaches the leaves.
-    fn carry_out(
-        &mut self,
-        alloc: Global,
-        session: u8,
-        command: Command,
-        out: &mut Octets,
-    ) -> Result<(), Stop>
-        requires ready { IsReady B.View self.old }
-        requires going { stop_of self.old ≡ None }
-        requires numbered { IsNumber session }
-        requires due { IsDue self.old session command }
-        requires allowed { place_reason (stands_in (standing_at self.old session)) command ≡ None }
-        ensures comes { (p : Sharing) → AreShared B.View p self.old → OnOk result
-            (ComesOut B.View p session command answered self.old self.new out.old out.new) }
-        ensures full { (p : Sharing) → AreShared B.View p self.old → result ≡ Err Stop.Full →
-            IsShortAmong (schema_of self.old) (built_of (engine_of self.old))
-            (B.limit (leaves_of self.old)) p (commands_of (p.session session) ++ command ∷ []) }
-        ensures images { (p : Sharing) → AreShared B.View p self.old → (start : Content) →
-            B.calm (leaves_of self.old) start →
-            LeavesTurn B.View p (after_turn (schema_of self.old) p session command answered)
-            (engine_of self.old) (engine_of self.new) (is_fault result) }
-        ensures ends { EndsTaken B.View command self.old self.new out.old out.new result }
-        ensures moves { OnOk result (MovesTo self.old self.new session
-            (inside_after (is_in_at self.old session) command)) }
+    // Whether the command may be answered as the engine stands, for another session or for none: it
+    // reads, and neither that session nor this one has locked exclusively what it locks.
+    fn answers_as_it_stands(&self, session: u8, command: &Command) -> bool
+        requires ready { IsReady B.View self.now }
+        requires of_schema { IsOfSchema (schema_of self.now) command.now }
+        ensures reads { result ≡ true → is_read command.now ≡ true }
+        ensures other { result ≡ true → self.now.shared.carried ≡ Some session → ⊥ }
+        ensures clear { result ≡ true → (p : Sharing) →
+            AreSessions (schema_of self.now) p.session self.now.states.items →
+            AreClear (schema_of self.now) p session self.now.shared.carried command.now }
     {
-        let state = &mut self.states[usize::from(session) - 1];
-        self.shared.carry_out(alloc, session, state, command, out)
+        is_read(command)
+            && !self.shared.stands_for(session)
+            && self.goes_with(session, command)
+            && self.goes_with_carried(command)
+    }
+
+    // Whether the session for which the engine stands, if any, holds no lock that conflicts with
+    // one that the command takes.
+    fn goes_with_carried(&self, command: &Command) -> bool
+        requires ready { IsReady B.View self.now }
+        requires of_schema { IsOfSchema (schema_of self.now) command.now }
+        ensures { (p : Sharing) (n : ℕ) →
+            AreSessions (schema_of self.now) p.session self.now.states.items →
+            result ≡ true → self.now.shared.carried ≡ Some n →
+            IsClearOf (schema_of self.now) command.now
+            (holds (schema_of self.now) (p.session n)) }
+    {
+        match self.shared.carried {
+            Some(other) => self.goes_with(other, command),
+            None => true,
+        }
+    }
+
+    // Whether the session is one of the eight and holds no lock that conflicts with one that the
+    // command takes.
+    fn goes_with(&self, session: u8, command: &Command) -> bool
+        requires ready { IsReady B.View self.now }
+        requires of_schema { IsOfSchema (schema_of self.now) command.now }
+        ensures { (p : Sharing) →
+            AreSessions (schema_of self.now) p.session self.now.states.items →
+            result ≡ true →
+            IsClearOf (schema_of self.now) command.now
+            (holds (schema_of self.now) (p.session session)) }
+    {
+        if session == 0 || session > 8 {
+            return false;
+        }
+        self.states[usize::from(session) - 1].goes_with(self.schema(), command)
     }
 
     // Says the answer of a command that reaches no leaf.
@@ -381,6 +412,16 @@ fn all_outside(alloc: Global, schema: &Schema) -> Result<Vec<SessionState>, NoMe
         states.push(SessionState::new(alloc, places(schema))?)?;
     }
     Ok(states)
+}
+
+// Whether the command only reads.
+fn is_read(command: &Command) -> bool
+    ensures { result ≡ is_read command.now }
+{
+    matches!(
+        command,
+        Command::Get(..) | Command::Members(..) | Command::Owner(..) | Command::Find(_)
+    )
 }
 
 // The answer of a command that reaches no leaf.

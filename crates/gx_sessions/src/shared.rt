@@ -8,7 +8,7 @@ ghost use Rattle.gx_model.specs.Play.{Playing, after_command};
 ghost use Rattle.gx_engine.specs.Steps.{IsReady, IsAt, IsDue, IsShortFor, schema_of, built_of, leaves_of, stop_of, is_open, is_commit};
 ghost use Rattle.gx_sharing.specs.Sharing.{Sharing, Session, played, play_of, view_in, after_turn, answered};
 ghost use Rattle.gx_sessions.specs.Standings.{AreKept, IsSession, IsWhole, IsAnswerable, commands_of, stands_in, is_within};
-ghost use Rattle.gx_sessions.specs.Shared.{seeing, IsShared, IsShortAmong, Carries, EndsCarry, LeavesTurn, IsCarriedFor};
+ghost use Rattle.gx_sessions.specs.Shared.{seeing, view_for, is_read, AreClear, IsShared, IsShortAmong, Carries, EndsCarry, LeavesTurn, IsCarriedFor};
 
 use crate::session::{SessionState, Standing};
 use crate::step::step;
@@ -98,6 +98,66 @@ impl<B: Leaves + Drop> SharedEngine<B> {
         state.follow(alloc, self.engine.schema(), &command)?;
         step(alloc, command, &mut self.engine, out)?;
         Ok(())
+    }
+
+    /// Answers a command that only reads on what the engine stands for, another session or none,
+    /// and appends the answer. What is open there for no session is given up before. The engine
+    /// stands for the same one afterwards.
+    pub(crate) fn read(
+        &mut self,
+        alloc: Global,
+        state: &mut SessionState,
+        command: Command,
+        out: &mut Octets,
+    ) -> Result<(), Stop>
+        requires ready { IsReady B.View self.old.engine }
+        requires going { stop_of self.old.engine ≡ None }
+        requires whole { IsWhole (schema_of self.old.engine) state.old }
+        requires due { IsAnswerable (schema_of self.old.engine) state.old command }
+        requires reads { is_read command ≡ true }
+        ensures carried { (p : Sharing) (n : ℕ) →
+            IsShared B.View p self.old.carried self.old.engine →
+            IsSession (schema_of self.old.engine) (p.session n) state.old →
+            (self.old.carried ≡ Some n → ⊥) →
+            AreClear (schema_of self.old.engine) p n self.old.carried command → OnOk result
+            (IsCarriedFor B.View p n command (schema_of self.old.engine) self.new.carried
+            self.new.engine state.new out.old out.new) }
+        ensures not_full { (p : Sharing) → IsShared B.View p self.old.carried self.old.engine →
+            result ≡ Err Stop.Full → ⊥ }
+        ensures ends { EndsCarry B.View command self.old.engine self.new.engine out.old out.new
+            result }
+        ensures whole { IsWhole (schema_of self.old.engine) state.new }
+        ensures same { self.new.carried ≡ self.old.carried }
+        ensures stays { OnOk result ((n : ℕ) → self.old.carried ≡ Some n →
+            is_open self.new.engine ≡ is_open self.old.engine) }
+        ensures within { OnOk result (is_within state.new.standing
+            ≡ inside_after (is_within state.old.standing) command) }
+    {
+        self.give_up_stale(alloc)?;
+        state.follow(alloc, self.engine.schema(), &command)?;
+        step(alloc, command, &mut self.engine, out)?;
+        Ok(())
+    }
+
+    // Gives up what is open for no session.
+    fn give_up_stale(&mut self, alloc: Global) -> Result<(), Stop>
+        requires ready { IsReady B.View self.old.engine }
+        requires going { stop_of self.old.engine ≡ None }
+        ensures stands { (p : Sharing) → IsShared B.View p self.old.carried self.old.engine →
+            OnOk result (IsAt B.View
+            (seeing p (view_for (schema_of self.old.engine) p self.old.carried))
+            self.new.engine) }
+        ensures not_full { (p : Sharing) → IsShared B.View p self.old.carried self.old.engine →
+            result ≡ Err Stop.Full → ⊥ }
+        ensures carries { Carries B.View self.old.engine self.new.engine result }
+        ensures carried { self.new.carried ≡ self.old.carried }
+        ensures stays { OnOk result ((n : ℕ) → self.old.carried ≡ Some n →
+            is_open self.new.engine ≡ is_open self.old.engine) }
+    {
+        match self.carried {
+            Some(_) => Ok(()),
+            None => self.give_up(alloc),
+        }
     }
 
     // Makes the engine stand for what a session sees. Where it doesn't, what is open there is given

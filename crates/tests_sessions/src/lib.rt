@@ -4,6 +4,8 @@
 #[cfg(test)]
 mod engines;
 #[cfg(test)]
+mod reads;
+#[cfg(test)]
 mod row;
 #[cfg(test)]
 mod turns;

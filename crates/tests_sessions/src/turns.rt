@@ -20,22 +20,22 @@ use std::test::Fail;
 // Turns on an empty database, and all that they say. Here the number of a session stands once
 // before each answer.
 #[derive(Clone, Copy)]
-struct Case {
-    schema: &'static str,
-    equation: &'static str,
-    turns: &'static str,
-    answers: &'static str,
+pub(crate) struct Case {
+    pub(crate) schema: &'static str,
+    pub(crate) equation: &'static str,
+    pub(crate) turns: &'static str,
+    pub(crate) answers: &'static str,
 }
 
 const ONE_FILE: &str = "file f (k int, t text 5)";
 
 const ONE_LEAF: &str = "f = actual(heap)";
 
-const STAFF: &str = "file dept (dno int, dname text 12)
+pub(crate) const STAFF: &str = "file dept (dno int, dname text 12)
 file emp (eno int, name text 24, pay int, room text 8)
 link works (dept, emp)";
 
-const STORED: &str = "dept = actual(bplus)
+pub(crate) const STORED: &str = "dept = actual(bplus)
 emp = index(pay, segment(name pay, actual(bplus), actual(heap)), bplus)
 works = ring(actual(hash(8)), actual(bplus))";
 
@@ -374,7 +374,7 @@ fn said_on<B: Leaves + Drop>(alloc: Global, turns: &str, engine: Engine<B>) -> R
     }
 }
 
-fn expect_case(rt: &impl Abort, alloc: Global, case: &Case) -> Result<(), Fail> {
+pub(crate) fn expect_case(rt: &impl Abort, alloc: Global, case: &Case) -> Result<(), Fail> {
     let machine = MemoryMachine::new(alloc)?;
     let engine = started(alloc, case.schema, case.equation, machine)?;
     let said = said_on(alloc, case.turns, engine)?;

@@ -2,7 +2,7 @@ use Rattle.std.proofs.Common.{◌∙◌, Bool, sym, subst, inr}
 use Rattle.gx_ports.specs.Stops.{is_fault}
 use Rattle.gx_sharing.specs.Sharing.{Outcome, outcome_of, after_turn}
 use Rattle.gx_sessions.specs.Shared.{LeavesTurn}
-use Rattle.gx_sessions.specs.Turns.{schema_of, engine_of, is_in_at, MovesTo}
+use Rattle.gx_sessions.specs.Turns.{schema_of, engine_of, MovesTo}
 use Rattle.gx_sessions.proofs.TurnLemmas.{answer_is, skipped_is, ended_is, skipped_ended, rested_skip, rested_end, rested_images}
 use Rattle.gx_sessions.proofs.sessions.Sessions.carry.Goals as goal
 
