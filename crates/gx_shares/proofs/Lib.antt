@@ -8,3 +8,4 @@ mod CarryLemmas
 mod LineLemmas
 mod GoingLemmas
 mod ReadLemmas
+pub mod FullLemmas
