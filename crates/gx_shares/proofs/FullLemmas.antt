@@ -14,7 +14,6 @@ use Rattle.gx_states.proofs.CountLemmas.{crowded_more}
 use Rattle.gx_states.proofs.SizeLemmas.{same_size, few_entries}
 use Rattle.gx_sharing.specs.Sharing.{Sharing, played}
 use Rattle.gx_sessions.specs.Shared.{IsShortAmong}
-use Rattle.gx_play.specs.Player.{Play}
 use Rattle.gx_shares.specs.Player.{IsShortIn, share_play, share_over_play}
 
 -- over nodes that the definitions mean

@@ -9,3 +9,7 @@ mod LineLemmas
 mod GoingLemmas
 mod ReadLemmas
 pub mod FullLemmas
+mod StepLemmas
+mod PlayLemmas
+mod OverLemmas
+mod HearLemmas
