@@ -1,5 +1,5 @@
 -- One of the sessions goes on, and the others stay.
-use Rattle.std.proofs.Common.{◌≡◌, ◌≢◌, ℕ, ◌+◌, ◌-◌, ◌<◌, ◌≤◌, ◌⊎◌, List, map, length, get_or, set, Bool, true, false, cond, Option, Some, Result, Ok, Err, OnOk, sym, ap, subst, ◌∙◌, arith, inl, inr, eq-eqb, ne_eqb}
+use Rattle.std.proofs.Common.{◌≡◌, ◌≢◌, ℕ, ◌+◌, ◌-◌, ◌<◌, ◌≤◌, ◌⊎◌, List, [], ◌∷◌, map, length, get_or, set, Bool, true, false, cond, Option, Some, Result, Ok, Err, OnOk, sym, ap, subst, ◌∙◌, arith, inl, inr, eq-eqb, ne_eqb}
 use Rattle.std.specs.Prelude.{◌==◌}
 use Rattle.std.proofs.lemmas.Bool.{true≢false, cases_Bool, eqb-true}
 use Rattle.std.proofs.lemmas.List.{get_or-map, get_or-set_other, length-map, length-set, map-set}
@@ -11,14 +11,14 @@ use Rattle.gx_ports.specs.declared.stop.Stop.{Stop}
 use Rattle.gx_ports.specs.declared.view.View.{Ghosts}
 use Rattle.gx_engine.specs.declared.engine.Engine.{Engine}
 use Rattle.gx_engine.specs.Steps.{schema_of}
-use Rattle.gx_sharing.specs.Sharing.{Sharing, Session, view_in, with_session}
+use Rattle.gx_sharing.specs.Sharing.{Sharing, Session, outside, view_in, with_session}
 use Rattle.gx_sessions.specs.declared.session.SessionState.{SessionState}
 use Rattle.gx_sessions.specs.declared.session.Standing.{Standing}
 use Rattle.gx_sessions.specs.declared.session.Standing.TheVariants.{Outside}
 use Rattle.gx_sessions.specs.declared.sessions.Sessions.{Sessions}
 use Rattle.gx_sessions.specs.Standings.{IsSession, IsWhole, AreSessions, AreWhole, is_within}
 use Rattle.gx_sessions.specs.Shared.{IsShared}
-use Rattle.gx_sessions.specs.Turns.{standing_at, is_in_at, MovesTo}
+use Rattle.gx_sessions.specs.Turns.{standing_at, is_in_at, IsNumber, MovesTo}
 
 abbrev standing_in : SessionState → Standing
 standing_in state = state.standing
@@ -113,6 +113,21 @@ within_there s n i state number lt is =
     ap (λ k. get_or (map standing_in s.states.items) k Outside) e
     ∙ get_or-map standing_in s.states.items i state Outside lt
     ∙ ap standing_in (sym is)
+
+-- sessions that are all outside
+pub all_out : {S : Type 0} (s : Sessions S) (schema : Schema) → AreWhole schema s.states.items
+    → AreSessions schema (λ n. outside) s.states.items → (n : ℕ) → IsNumber n
+    → is_in_at s n ≡ false
+all_out s schema whole are n number =
+    go s.states.items whole.eight are (n - 1) (omega (arith, number.0, number.1))
+  where
+    go : (states : List SessionState) → length states ≡ 8
+        → AreSessions schema (λ n. outside) states → (k : ℕ) → k < 8
+        → is_within (get_or (map standing_in states) k Outside) ≡ false
+    go [] eight out k lt = absurd (omega (arith, eight))
+    go (d ∷ ds) eight out k lt =
+        ap is_within (get_or-map standing_in (d ∷ ds) k d Outside (omega (arith, lt, eight))
+        ∙ (out k d lt).standing)
 
 -- the session that was set is where its command leads
 pub moved_on : {S : Type 0} (r : Result (Unit {0}) Stop) (old new : Sessions S) (i : ℕ)

@@ -64,6 +64,8 @@ impl<B: Leaves + Drop> Sessions<B> {
         ensures no_stop { IfOk result (λ sessions. stop_of sessions ≡ None) }
         ensures stands { (s : State) → IsAt B.View (start_at s) engine →
             IfOk result (AreShared B.View (share_start s)) }
+        ensures outside { IfOk result (λ sessions. (n : ℕ) → IsNumber n →
+            is_in_at sessions n ≡ false) }
         ensures given_back { IfErr result (λ given. given.0 ≡ engine) }
     {
         match all_outside(alloc, engine.schema()) {

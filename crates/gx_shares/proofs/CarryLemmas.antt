@@ -1,22 +1,20 @@
 -- The turn of a session: how it comes out, and what is said of it.
-use Rattle.std.proofs.Common.{◌≡◌, ◌⊎◌, inl, inr, ℕ, ◌<◌, List, [], ◌∷◌, ◌++◌, length, take, Bool, true, false, IsTrue, Some, None, Option, Result, Ok, Err, refl, sym, ap, subst, ◌∙◌, arith, append_assoc}
-use Rattle.std.specs.Prelude.{◌≢◌, IfOk, OnOk, OnErr, codes}
-use Rattle.std.specs.Fmt.{decimal}
+use Rattle.std.proofs.Common.{◌≡◌, ◌⊎◌, inl, inr, ℕ, ◌<◌, List, [], ◌∷◌, ◌++◌, length, take, Bool, true, false, IsTrue, None, Option, Result, Ok, Err, refl, sym, ap, subst, ◌∙◌, arith, append_assoc}
+use Rattle.std.specs.Prelude.{◌≢◌, IfOk}
 use Rattle.std.proofs.lemmas.Bool.{cases_Bool}
 use Rattle.std.proofs.lemmas.List.{append-nil}
 use Rattle.gx_laws.specs.Members.{In}
 use Rattle.gx_device.specs.declared.device.Failed.{Failed}
-use Rattle.gx_device.specs.Content.{Moment, Content, Silent}
-use Rattle.gx_device.specs.Crash.{Image, IsImage, EachImage, LeavesOnly}
-use Rattle.gx_device.specs.Quiet.{IsPrefix, IsQuiet, QuietSince, IsOldOrNew}
+use Rattle.gx_device.specs.Content.{Content, Silent}
+use Rattle.gx_device.specs.Crash.{Image, EachImage}
+use Rattle.gx_device.specs.Quiet.{IsQuiet, QuietSince, IsOldOrNew}
 use Rattle.gx_device.proofs.RunLemmas.{started, joined, weakened}
 use Rattle.gx_schema.specs.declared.schema.Schema.{Schema}
 use Rattle.gx_commands.specs.declared.command.Command.{Command}
 use Rattle.gx_commands.specs.declared.command.Command.TheVariants as command
 use Rattle.gx_ports.specs.Heads.{Head}
-use Rattle.gx_ports.specs.Calls.{Keeps}
 use Rattle.gx_ports.specs.Calm.{StaysKept}
-use Rattle.gx_ports.specs.Stops.{is_outside, is_fault}
+use Rattle.gx_ports.specs.Stops.{is_outside}
 use Rattle.gx_ports.specs.QuietLaws.{quiet_weaker}
 use Rattle.gx_ports.specs.declared.stop.Stop.{Stop}
 use Rattle.gx_ports.specs.declared.stop.Stop.TheVariants as stop
@@ -30,16 +28,14 @@ use Rattle.gx_engine.specs.Crashes.{HoldsState, HoldsFor}
 use Rattle.gx_engine.specs.Steps.{built_of as engine_built, IsServed, is_commit, is_fault_now}
 use Rattle.gx_engine.proofs.CrashLemmas.{kept_state, talks_states}
 use Rattle.gx_sharing.specs.Sharing.{Sharing, Outcome, answered, skipped, ended_by, sessions, outcome_of, after_turn, IsSaid}
-use Rattle.gx_sharing.specs.Turns.{Turn, IsHolder}
+use Rattle.gx_sharing.specs.Turns.{Turn}
 use Rattle.gx_sharing.specs.Texts.{with_number}
 use Rattle.gx_sharing.proofs.Replays.{ended_by_holder}
 use Rattle.gx_sessions.specs.declared.sessions.Sessions.{Sessions}
 use Rattle.gx_sessions.specs.declared.sessions.Turn.{Turn as TheTurn}
-use Rattle.gx_sessions.specs.declared.sessions.Turn.TheVariants as turn
 use Rattle.gx_sessions.specs.Standings.{commands_of}
 use Rattle.gx_sessions.specs.Shared.{seeing, IsShortAmong, LeavesTurn}
 use Rattle.gx_sessions.specs.Turns.{engine_of, schema_of, leaves_of, stop_of, AreShared, IsSame, IsTextOf, IsTurned, EndsTurn, turn_of, without_turn}
-use Rattle.gx_play.specs.Say.{SaysAll}
 use Rattle.gx_play.proofs.TextLemmas.{cancel, front_of}
 use Rattle.gx_shares.specs.Shares.{said_of, IsNamed, SaysTurn}
 use Rattle.gx_shares.specs.Player.{texts_of}

@@ -1,13 +1,11 @@
 -- The play of a script of turns: one line more, and how it ends.
-use Rattle.std.proofs.Common.{◌≡◌, ◌⊎◌, inl, inr, ℕ, ◌+◌, ◌≤◌, List, [], ◌∷◌, ◌++◌, length, take, Bool, true, false, IsTrue, Some, Option, Result, Ok, Err, refl, sym, ap, subst, ◌∙◌, arith, append_assoc}
-use Rattle.std.specs.Prelude.{◌≢◌}
+use Rattle.std.proofs.Common.{◌≡◌, inl, inr, ℕ, ◌+◌, ◌≤◌, List, [], ◌∷◌, ◌++◌, length, take, Bool, true, false, IsTrue, Option, Ok, Err, refl, sym, ap, subst, ◌∙◌, arith, append_assoc}
 use Rattle.std.proofs.lemmas.List.{append-nil}
 use Rattle.gx_device.specs.Content.{Moment, Content, Listens}
-use Rattle.gx_device.specs.Crash.{Image, IsImage, EachImage, LeavesOnly}
+use Rattle.gx_device.specs.Crash.{Image, EachImage}
 use Rattle.gx_device.specs.Quiet.{IsPrefix, IsQuiet, QuietSince}
 use Rattle.gx_device.proofs.RunLemmas.{started, joined, weakened}
 use Rattle.gx_schema.specs.declared.schema.Schema.{Schema}
-use Rattle.gx_commands.specs.declared.command.Command.{Command}
 use Rattle.gx_commands.specs.declared.command.LineWhy.{LineWhy}
 use Rattle.gx_commands.specs.declared.command.LineWhy.TheVariants as why
 use Rattle.gx_commands.specs.Lines.{Lines, with_line, no_lines, script_lines}
@@ -24,8 +22,8 @@ use Rattle.gx_ports.specs.declared.view.View.{Ghosts}
 use Rattle.gx_ports.proofs.ImageLemmas.{quiet_images, prefix_both}
 use Rattle.gx_types.specs.declared.built.Built.{Built}
 use Rattle.gx_model.specs.States.{State}
-use Rattle.gx_model.specs.Play.{good, stopped, end_at}
-use Rattle.gx_model.specs.Languages.{RunsIn, IsPlayIn}
+use Rattle.gx_model.specs.Play.{stopped, end_at}
+use Rattle.gx_model.specs.Languages.{IsPlayIn}
 use Rattle.gx_engine.specs.Crashes.{HoldsState, HoldsFor}
 use Rattle.gx_engine.specs.Moments.{AreInternal}
 use Rattle.gx_engine.specs.Steps.{built_of as engine_built}
@@ -36,7 +34,6 @@ use Rattle.gx_sharing.specs.Texts.{turns, turn_text, IsLinePlayed, IsBadTurn, is
 use Rattle.gx_sessions.specs.declared.sessions.Sessions.{Sessions}
 use Rattle.gx_sessions.specs.Shared.{seeing, IsShortAmong}
 use Rattle.gx_sessions.specs.Turns.{engine_of, schema_of, leaves_of, AreShared, IsSame}
-use Rattle.gx_play.specs.declared.ending.Ending.{Ending}
 use Rattle.gx_play.specs.declared.ending.Ending.TheVariants as ending
 use Rattle.gx_play.specs.declared.play.PlayEnd.{PlayEnd}
 use Rattle.gx_play.specs.declared.play.PlayEnd.TheVariants as play_end
@@ -44,11 +41,11 @@ use Rattle.gx_play.specs.Endings.{ending_of, is_fault}
 use Rattle.gx_play.specs.Player.{Play}
 use Rattle.gx_play.specs.Overs.{IsPlayedOf, IsImageOf, LeavesPlayOf}
 use Rattle.gx_play.specs.Plays.{KeepsState, IsLineEnd}
-use Rattle.gx_shares.specs.Player.{texts_of, AreFirstTurns, AreToldOf, IsCommitOf, IsShortLine, IsShortNext, IsToldFront, turn_play, share_over_play}
+use Rattle.gx_shares.specs.Player.{texts_of, AreFirstTurns, AreToldOf, IsCommitOf, IsShortLine}
 use Rattle.gx_shares.specs.Steps.{IsStepped, IsStepCut, IsStepImage, LeavesStep, KeepsSessions}
 use Rattle.gx_shares.specs.Going.{RunsTo, Over, play_over, IsGoing, IsOver}
 use Rattle.gx_shares.proofs.HeardLemmas.{still_shared}
-use Rattle.gx_shares.proofs.RunLemmas.{runs_new, runs_line, plays_out, plays_stopped, plays_bad}
+use Rattle.gx_shares.proofs.RunLemmas.{runs_line, plays_out, plays_stopped, plays_bad}
 
 -- ---- what turns say
 

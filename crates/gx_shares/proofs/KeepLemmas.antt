@@ -1,10 +1,8 @@
 -- What stays of sessions, and how failures are counted, one call behind the other.
-use Rattle.std.proofs.Common.{◌≡◌, ℕ, List, ◌++◌, take, Bool, true, false, IsTrue, None, Result, Ok, Err, refl, sym, ap, subst, ◌∙◌, arith}
-use Rattle.std.specs.Prelude.{OnOk, OnErr}
+use Rattle.std.proofs.Common.{◌≡◌, ℕ, List, take, true, false, Result, Ok, Err, refl, sym, ap, subst, ◌∙◌, arith}
 use Rattle.gx_device.specs.declared.device.Failed.{Failed}
-use Rattle.gx_device.specs.Content.{Content, Silent, Listens}
+use Rattle.gx_device.specs.Content.{Listens}
 use Rattle.gx_device.specs.Faults.{Rose, HasCause}
-use Rattle.gx_device.specs.Quiet.{IsPrefix}
 use Rattle.gx_device.proofs.PrefixLemmas.{prefix_same, prefix_twice}
 use Rattle.gx_commands.specs.declared.command.Command.{Command}
 use Rattle.gx_ports.specs.Stops.{HasStopCause, is_fault, is_outside}
@@ -13,9 +11,8 @@ use Rattle.gx_ports.specs.declared.stop.Stop.TheVariants as stop
 use Rattle.gx_ports.specs.declared.view.View.{Ghosts}
 use Rattle.gx_sessions.specs.declared.sessions.Sessions.{Sessions}
 use Rattle.gx_sessions.specs.declared.sessions.Turn.{Turn as TheTurn}
-use Rattle.gx_sessions.specs.Turns.{engine_of, schema_of, leaves_of, stop_of, IsReady, IsSame}
+use Rattle.gx_sessions.specs.Turns.{leaves_of, IsReady, IsSame}
 use Rattle.gx_play.specs.Plays.{CountsFailed}
-use Rattle.gx_play.specs.Say.{SaysAll}
 use Rattle.gx_shares.specs.Shares.{SaysTurn}
 use Rattle.gx_shares.specs.Steps.{IsTurnStep, KeepsSessions}
 use Rattle.gx_shares.specs.Going.{KeepsHeard}

@@ -8,3 +8,8 @@ mod CarryLemmas
 mod LineLemmas
 mod GoingLemmas
 mod ReadLemmas
+pub mod FullLemmas
+mod StepLemmas
+mod PlayLemmas
+mod OverLemmas
+mod HearLemmas

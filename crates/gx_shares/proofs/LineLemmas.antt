@@ -1,10 +1,9 @@
 -- The line of a turn.
-use Rattle.std.proofs.Common.{◌≡◌, ◌⊎◌, inl, inr, ℕ, zero, suc, ◌-◌, ◌≤◌, List, [], ◌∷◌, ◌++◌, Bool, true, false, cond, Option, Some, None, Result, Ok, Err, refl, sym, ap, subst, ◌∙◌, arith}
+use Rattle.std.proofs.Common.{◌≡◌, inl, inr, ℕ, zero, suc, ◌-◌, ◌≤◌, List, [], ◌∷◌, Bool, true, false, cond, Option, Some, None, Result, Ok, Err, refl, sym, ap, subst, ◌∙◌, arith}
 use Rattle.std.specs.Prelude.{◌&&◌, nat_le}
 use Rattle.std.proofs.lemmas.List.{append-nil}
 use Rattle.gx_laws.specs.Members.{In}
 use Rattle.gx_laws.proofs.NumberLemmas.{at_most_from_nat_le}
-use Rattle.gx_device.specs.Content.{Content}
 use Rattle.gx_device.specs.Crash.{EachImage}
 use Rattle.gx_device.proofs.RunLemmas.{weakened}
 use Rattle.gx_schema.specs.declared.schema.Schema.{Schema}
@@ -28,7 +27,7 @@ use Rattle.gx_sharing.specs.Sharing.{Sharing, sessions, is_in, outcome_of}
 use Rattle.gx_sharing.specs.Turns.{Turn}
 use Rattle.gx_sharing.specs.Texts.{IsLinePlayed}
 use Rattle.gx_sessions.specs.declared.sessions.Sessions.{Sessions}
-use Rattle.gx_sessions.specs.Turns.{engine_of, schema_of, leaves_of, AreShared, IsNumber}
+use Rattle.gx_sessions.specs.Turns.{engine_of, leaves_of, AreShared, IsNumber}
 use Rattle.gx_shares.specs.Player.{IsCommitOf, IsShortLine}
 use Rattle.gx_shares.specs.Steps.{IsTurnOf, IsTurnLine, IsShortTurn, IsStepped, IsStepCut, IsStepImage, LeavesStep}
 

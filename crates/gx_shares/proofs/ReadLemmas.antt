@@ -1,7 +1,8 @@
 -- Lines of turns that are read one behind the other, whatever state they are played from.
-use Rattle.std.proofs.Common.{◌≡◌, ℕ, ◌+◌, ◌≤◌, List, [], Bool, true, false, Ok, Err, refl, sym, ap, subst, ◌∙◌, arith}
+use Rattle.std.proofs.Common.{◌≡◌, inl, inr, ℕ, ◌+◌, ◌≤◌, List, [], ◌∷◌, Bool, true, false, Err, refl, sym, ap, subst, ◌∙◌, arith}
 use Rattle.std.specs.Prelude.{◌||◌}
 use Rattle.std.specs.List.{list_any}
+use Rattle.gx_laws.specs.Members.{In}
 use Rattle.gx_schema.specs.declared.schema.Schema.{Schema}
 use Rattle.gx_commands.specs.declared.command.LineWhy.{LineWhy}
 use Rattle.gx_commands.specs.Lines.{Lines, with_line, no_lines, script_lines}
@@ -13,18 +14,19 @@ use Rattle.gx_model.specs.Play.{stopped, end_at}
 use Rattle.gx_model.specs.Languages.{IsPlayIn}
 use Rattle.gx_sharing.specs.Sharing.{sessions}
 use Rattle.gx_sessions.specs.declared.sessions.Sessions.{Sessions}
-use Rattle.gx_sessions.specs.Turns.{schema_of, IsNumber, is_in_at}
-use Rattle.gx_play.specs.declared.ending.Ending.TheVariants as ending
+use Rattle.gx_ports.specs.declared.view.View.{Ghosts}
+use Rattle.gx_sessions.specs.Turns.{schema_of, IsNumber, IsSame, is_in_at}
 use Rattle.gx_play.specs.declared.play.PlayEnd.{PlayEnd}
 use Rattle.gx_play.specs.declared.play.PlayEnd.TheVariants as play_end
 use Rattle.gx_play.specs.Endings.{ending_of}
 use Rattle.gx_play.specs.Plays.{IsLineEnd}
 use Rattle.gx_play.specs.Readings.{EndsAs}
 use Rattle.gx_shares.specs.Ends.{turn_lines, IsLineRead, IsLineBad, IsShareEnd}
-use Rattle.gx_shares.specs.Going.{RunsTo, IsReadTo}
+use Rattle.gx_shares.specs.Going.{IsReadTo}
+use Rattle.gx_shares.proofs.LineLemmas.{in_sessions}
 use Rattle.gx_shares.proofs.RunLemmas.{runs_new, runs_line, plays_out, plays_stopped, plays_bad}
 
-any_same : (f h : ℕ → Bool) → ((n : ℕ) → IsNumber n → f n ≡ h n)
+pub any_same : (f h : ℕ → Bool) → ((n : ℕ) → IsNumber n → f n ≡ h n)
     → list_any f sessions ≡ list_any h sessions
 any_same f h same =
     let at = λ (n : ℕ) (least : 1 ≤ n) (most : n ≤ 8). same n (least, most) in
@@ -38,6 +40,23 @@ any_same f h same =
     let z : f 8 ≡ h 8 = at 8 (omega arith) (omega arith) in
     λ i. a i || (b i || (c i || (d i || (e i || (x i || (y i || (z i || false)))))))
 
+-- none is in one
+pub none_in : (f : ℕ → Bool) → ((n : ℕ) → IsNumber n → f n ≡ false) → list_any f sessions ≡ false
+none_in f out = any_same f (λ n. false) out
+
+-- one is
+pub one_in : (f : ℕ → Bool) (n : ℕ) → IsNumber n → f n ≡ true → list_any f sessions ≡ true
+one_in f n number is = go sessions (in_sessions n number)
+  where
+    or_true : (b : Bool) → b || true ≡ true
+    or_true true = refl
+    or_true false = refl
+
+    go : (ns : List ℕ) → In n ns → list_any f ns ≡ true
+    go [] none = absurd none
+    go (k ∷ ns) (inl e) = ap (λ (b : Bool). b || list_any f ns) (ap f (sym e) ∙ is)
+    go (k ∷ ns) (inr later) = ap (λ (b : Bool). f k || b) (go ns later) ∙ or_true (f k)
+
 -- a stop isn't an end of the lines
 pub read_stop : (schema : Schema) (script : List ℕ) (why : Stop)
     → EndsAs (IsShareEnd schema script) (Err (ending_of (play_end.Stop why)))
@@ -45,6 +64,18 @@ read_stop schema script stop.Fault = tt
 read_stop schema script stop.Full = tt
 read_stop schema script stop.NoMemory = tt
 read_stop schema script (stop.Damaged block) = tt
+
+-- what was heard or said moves no session
+pub read_same : {S : Type 0} (g : Ghosts S) (schema : Schema) (script : List ℕ) (left : Lines)
+    (number : ℕ) (s f : Sessions S) → IsSame g s f → IsReadTo schema script left number s
+    → IsReadTo schema script left number f
+read_same g schema script left number s f same so = record {
+  schema_is = same.engine.schema ∙ so.schema_is;
+  answers = so.answers;
+  within = so.within;
+  runs = so.runs;
+  stands = λ n is. rw (same.states) (so.stands n is);
+}
 
 module _ {S : Type 0} (schema : Schema) (script : List ℕ) where
   -- no line was read yet

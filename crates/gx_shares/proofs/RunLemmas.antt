@@ -1,5 +1,5 @@
 -- Lines that run one behind the other, in any language.
-use Rattle.std.proofs.Common.{◌≡◌, ℕ, ◌+◌, List, [], ◌∷◌, ◌++◌, length, Some, None, Ok, Err, Option, Result, refl, sym, ap, subst, ◌∙◌}
+use Rattle.std.proofs.Common.{◌≡◌, ℕ, ◌+◌, List, [], ◌∷◌, ◌++◌, Some, None, Ok, Err, Option, Result, refl, sym, ap, subst, ◌∙◌}
 use Rattle.std.proofs.lemmas.List.{append-nil, append_assoc, length-append}
 use Rattle.gx_commands.specs.declared.command.LineWhy.{LineWhy}
 use Rattle.gx_commands.specs.Lines.{Lines, with_line, no_lines, stopped as stopped_lines, script_lines}

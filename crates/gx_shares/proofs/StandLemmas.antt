@@ -1,13 +1,13 @@
 -- Which sessions are in a transaction, by what they stand for.
-use Rattle.std.proofs.Common.{◌≡◌, ℕ, zero, suc, ◌+◌, ◌-◌, ◌<◌, List, [], ◌∷◌, length, get_or, Bool, refl, sym, ap, subst, ◌∙◌, arith}
+use Rattle.std.proofs.Common.{◌≡◌, ℕ, zero, suc, ◌+◌, ◌-◌, ◌<◌, List, [], ◌∷◌, length, get_or, refl, ap, ◌∙◌, arith}
 use Rattle.std.specs.Prelude.{map}
 use Rattle.gx_ports.specs.declared.view.View.{Ghosts}
 use Rattle.gx_sharing.specs.Sharing.{Sharing, Session, outside, inside, ended, is_in}
 use Rattle.gx_sessions.specs.declared.session.SessionState.{SessionState}
 use Rattle.gx_sessions.specs.declared.session.Standing.{Standing}
 use Rattle.gx_sessions.specs.declared.sessions.Sessions.{Sessions}
-use Rattle.gx_sessions.specs.Standings.{is_within, standing_of, AreSessions, AreWhole}
-use Rattle.gx_sessions.specs.Turns.{schema_of, AreShared, IsReady, IsNumber, is_in_at}
+use Rattle.gx_sessions.specs.Standings.{is_within, standing_of}
+use Rattle.gx_sessions.specs.Turns.{AreShared, IsReady, IsNumber, is_in_at}
 
 standing_there : (states : List SessionState) (k : ℕ) (d : SessionState) (other : Standing)
     → k < length states

@@ -1,5 +1,5 @@
 -- Where a script of turns ends by its lines alone, whatever state it is played from.
-use Rattle.std.specs.Prelude.{◌≡◌, ◌⊎◌, ℕ, ◌==◌, List, [], Bool, false, Option, Some, None, Ok, Err, if◌then◌else◌}
+use Rattle.std.specs.Prelude.{◌≡◌, ◌⊎◌, ℕ, ◌==◌, List, [], Bool, false, Some, None, Ok, Err, if◌then◌else◌}
 use Rattle.std.specs.List.{list_any}
 use Rattle.gx_schema.specs.declared.schema.Schema.{Schema}
 use Rattle.gx_commands.specs.declared.command.Command.{Command}

@@ -8,7 +8,6 @@ use Rattle.gx_reader.specs.Reader.{meant, number_of}
 use Rattle.gx_ports.specs.declared.view.View.{Ghosts}
 use Rattle.gx_types.specs.declared.built.Built.{Built}
 use Rattle.gx_model.specs.States.{State}
-use Rattle.gx_model.specs.Play.{good, stopped}
 use Rattle.gx_model.specs.Languages.{Language, RunsIn}
 use Rattle.gx_engine.specs.Steps.{built_of as engine_built}
 use Rattle.gx_sharing.specs.Sharing.{Sharing, share_start}
@@ -111,12 +110,17 @@ abbrev pub PlaysRest : {S : Type 0} → Ghosts S → LineReader → Sessions S �
 PlaysRest {S = S} g reader old new result =
     (o : Over S) → IsGoing g o (meant reader []) (number_of reader) old → IsOver g o new (ended_as result)
 
--- and of a script that is heard
+-- and of a script that is heard, by how the request ends
+abbrev pub PlaysOut : {S : Type 0} → Ghosts S → Sessions S → Sessions S
+    → Result (Unit {0}) Ending → Type 0
+PlaysOut {S = S} g old new result =
+    (o : Over S) → IsGoing g o (script_lines (g.content (leaves_of old)).script) 0 old
+    → IsOver g o new result
+
+-- the same by how the play does
 abbrev pub PlaysHeard : {S : Type 0} → Ghosts S → Sessions S → Sessions S
     → Result (Unit {0}) PlayEnd → Type 0
-PlaysHeard {S = S} g old new result =
-    (o : Over S) → IsGoing g o (script_lines (g.content (leaves_of old)).script) 0 old
-    → IsOver g o new (ended_as result)
+PlaysHeard g old new result = PlaysOut g old new (ended_as result)
 
 -- What stays of sessions while a script is heard, whatever they stood for. What was said before
 -- stays, in front.

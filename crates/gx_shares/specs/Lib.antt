@@ -3,3 +3,5 @@ pub mod Player
 pub mod Ends
 pub mod Steps
 pub mod Going
+pub mod Carried
+pub mod Reads

@@ -14,7 +14,6 @@ use Rattle.gx_types.specs.declared.built.Built.{Built}
 use Rattle.gx_states.specs.Terms.{state_size}
 use Rattle.gx_model.specs.States.{State}
 use Rattle.gx_model.specs.Commands.{next_state}
-use Rattle.gx_model.specs.Play.{End}
 use Rattle.gx_model.specs.Languages.{RunsIn, IsPlayIn}
 use Rattle.gx_engine.specs.Moments.{MayWantRoom}
 use Rattle.gx_sharing.specs.Sharing.{Sharing, share_start, played, is_in}

@@ -1,6 +1,9 @@
-//! What the turns of several sessions say.
+//! The play of a script of turns of several sessions.
 #![tactic(auto)]
 
+mod carry;
+mod over_leaves;
+mod play;
 mod say;
 
-pub use say::say_turn;
+pub use over_leaves::share_over;

@@ -13,7 +13,7 @@ use memchr::memchr;
 
 /// Says what a turn says, each line behind the number of the session and a space: its answer, or
 /// that it was skipped or ended. After `Failed` a front of it was said.
-pub fn say_turn<B: Leaves + Drop>(
+pub(crate) fn say_turn<B: Leaves + Drop>(
     session: u8,
     turn: Turn,
     answer: &[u8],
