@@ -1,5 +1,5 @@
 -- How a stock that is given is committed, and what a crash leaves within it.
-use Rattle.std.proofs.Common.{◌≡◌, ℕ, List, ◌∷◌, Bool, true, false, Option, None, Ok, sym, subst, ◌∙◌, inl, inr}
+use Rattle.std.proofs.Common.{◌≡◌, ℕ, List, [], ◌∷◌, Bool, false, Option, None, Ok, sym, subst, ◌∙◌, inl, inr}
 use Rattle.std.specs.Prelude.{Result, Err, OnOk, OnErr}
 use Rattle.std.proofs.lemmas.Bool.{true≢false}
 use Rattle.gx_device.specs.Content.{Moment, Content}
@@ -24,8 +24,8 @@ use Rattle.gx_engine.specs.Steps.{schema_of, built_of, leaves_of, stop_of, IsAt,
 use Rattle.gx_engine.specs.Crashes.{HoldsState, HoldsFor, LeavesStates}
 use Rattle.gx_engine.proofs.CrashLemmas.{keeps_states}
 use Rattle.gx_move.specs.declared.stock.Stock.{Stock}
-use Rattle.gx_move.specs.Giving.{commands_of, IsGift, with_commit, KeepsLast, CarriesOn, EndsGiving, LeavesGift}
-use Rattle.gx_move.proofs.GiftLemmas.{open_at, gift_carried}
+use Rattle.gx_move.specs.Giving.{commands_of, transaction_of, after_commands, IsGift, with_commit, KeepsLast, CarriesOn, EndsGiving, LeavesGift}
+use Rattle.gx_move.proofs.GiftLemmas.{open_at, after_both, gift_carried}
 use Rattle.gx_move.proofs.CarryLemmas.{cause_then, cause_of_step, sound_after, stepped_at}
 
 on_err : {T A B : Type 0} (r : Result T StepStop) → (A → B) → OnErr r A → OnErr r B
@@ -90,6 +90,21 @@ module _ {S : Type 0} (g : Ghosts S) where
   filled_at p s stock old mid x at gift =
       subst (λ (q : Playing). IsAt g q mid) (gift_carried (schema_of old) p stock s gift)
       (x.carried p at)
+
+  -- after an Ok all of them were carried out, and the commit
+  pub carried_at : (p : Playing) (stock : Stock) (old mid new : Engine S) (out now : List ℕ)
+      (r : Result (Unit {0}) StepStop)
+      → CarriesOn g (command.Begin ∷ commands_of stock) old mid (Ok tt) → IsAt g p old
+      → ((q : Playing) → IsAt g q mid → OnOk r (CarriesOut g q command.Commit mid new out now))
+      → EndsStep g mid new command.Commit out now r
+      → OnOk r (IsAt g (after_commands (schema_of old) p (transaction_of stock)) new)
+  carried_at p stock old mid new out now r x at carried ends =
+      let cs = command.Begin ∷ commands_of stock in
+      let q = after_commands (schema_of old) p cs in
+      subst (λ (z : Playing). OnOk r (IsAt g z new))
+      (sym (after_both (schema_of old) p cs (command.Commit ∷ [])))
+      (stepped_at g q command.Commit mid new out now r (x.carried p at)
+      (carried q (x.carried p at)) ends)
 
   pub given_at : (p : Playing) (s : State) (mid new : Engine S) (out now : List ℕ)
       (r : Result (Unit {0}) StepStop) → IsAt g (open_at p s) mid

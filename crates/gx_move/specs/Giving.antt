@@ -54,6 +54,10 @@ each_from commands n (x ∷ xs) = commands n x ++ each_from commands (n + 1) xs
 abbrev pub commands_of : Stock → List Command
 commands_of stock = each_from inserts_of 0 stock.files ++ each_from connects_of 0 stock.links
 
+-- the same in a transaction of their own, which is committed
+abbrev pub transaction_of : Stock → List Command
+transaction_of stock = command.Begin ∷ commands_of stock ++ command.Commit ∷ []
+
 -- what comes after commands that are carried out one after the other
 abbrev pub after_commands : Schema → Playing → List Command → Playing
 after_commands schema p [] = p
@@ -101,6 +105,7 @@ pub record IsShortAmong (schema : Schema) (built : Built) (limit : Option Limits
   pub parts : cs ≡ before ++ command ∷ later
   pub wants : MayWantRoom schema (after_commands schema p before) command
   pub maps : List LeafMap
+  pub many : length maps ≡ length built.owners
   pub stands : AreInternal schema built maps (seen_state (after_commands schema p before))
   pub short : IsCrowdedBy limit (entry_count maps
       + state_entries built

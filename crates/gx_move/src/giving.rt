@@ -9,7 +9,7 @@ ghost use Rattle.gx_model.specs.States.{State};
 ghost use Rattle.gx_model.specs.Play.{Playing};
 ghost use Rattle.gx_engine.specs.declared.engine.StepStop.TheVariants.{Now};
 ghost use Rattle.gx_engine.specs.Steps.{schema_of, built_of, leaves_of, stop_of, is_open, is_commit, is_fault_now, IsReady, IsAt, IsDue};
-ghost use Rattle.gx_move.specs.Giving.{insert_of, inserts_of, connect_of, connects_of, each_from, commands_of, AreOfSchema, IsStockFor, IsGift, with_commit, IsShortAmong, CarriesOn, EndsGiving, LeavesGift};
+ghost use Rattle.gx_move.specs.Giving.{insert_of, inserts_of, connect_of, connects_of, each_from, commands_of, transaction_of, after_commands, AreOfSchema, IsStockFor, IsGift, with_commit, IsShortAmong, CarriesOn, EndsGiving, LeavesGift};
 
 use crate::stock::Stock;
 use crate::taking::or_stop;
@@ -24,7 +24,8 @@ use std::alloc::Global;
 /// Gives a stock to the engine of a database for whose schema it is, where no transaction is open
 /// and no stop is kept. It takes one transaction: each record is inserted, each pair is connected,
 /// and all of it is committed at the end. Where the database has no record and the stock is that of
-/// a valid state, that state is then the last committed one.
+/// a valid state, that state is then the last committed one. Elsewhere a command that is refused is
+/// passed over: that of a record whose key is there, or of a pair that can't be connected.
 ///
 /// `Now` gives this call up and is kept. Where it isn't `Now(Fault)`, the state of the last commit
 /// stays. `Now(Fault)`: the count of faults rose; with any other answer it stays. `Now(Full)`: at
@@ -44,6 +45,9 @@ pub fn give<B: Leaves + Drop>(
     ensures given { (p : Playing) (s : State) → IsAt B.View p engine.old →
         IsGift (schema_of engine.old) p stock.now s →
         OnOk result (IsAt B.View (with_commit p s) engine.new) }
+    ensures carried { (p : Playing) → IsAt B.View p engine.old → OnOk result
+        (IsAt B.View (after_commands (schema_of engine.old) p (transaction_of stock.now))
+        engine.new) }
     ensures full { (p : Playing) → IsAt B.View p engine.old → result ≡ Err (Now Full) →
         IsShortAmong (schema_of engine.old) (built_of engine.old)
         (B.limit (leaves_of engine.old)) p (command.Begin ∷ commands_of stock.now) }

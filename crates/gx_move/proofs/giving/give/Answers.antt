@@ -5,7 +5,7 @@ use Rattle.gx_engine.specs.Steps.{schema_of, built_of, leaves_of, is_fault_now}
 use Rattle.gx_move.specs.Giving.{commands_of, IsShortAmong, EndsGiving}
 use Rattle.gx_move.proofs.GiftLemmas.{open_at}
 use Rattle.gx_move.proofs.CarryLemmas.{err_is}
-use Rattle.gx_move.proofs.EndLemmas.{ends_early, ends_committed, commit_not_full, filled_at, given_at, kept_gift, committed_gift}
+use Rattle.gx_move.proofs.EndLemmas.{ends_early, ends_committed, commit_not_full, filled_at, carried_at, given_at, kept_gift, committed_gift}
 use Rattle.gx_move.proofs.giving.give.Goals as goal
 
 pub returns-in_err-fill-clause-full : goal.returns-in_err-fill-clause-full
@@ -38,6 +38,11 @@ returns-clause-given g c = λ p s at gift.
     c.in_ok-fill.ensures at gift in
     given_at g.B.View p s c.fill.new.engine c.step.new.self _ _ c.step.result filled
     (c.step.ensures.carried (open_at p s) filled) c.step.ensures.ends
+
+pub returns-clause-carried : goal.returns-clause-carried
+returns-clause-carried g c = λ p at.
+    carried_at g.B.View p c.args.stock.now c.args.engine.now c.fill.new.engine c.step.new.self _ _
+    c.step.result c.in_ok-fill.ensures at c.step.ensures.carried c.step.ensures.ends
 
 pub returns-clause-full : goal.returns-clause-full
 returns-clause-full g c = λ p at full.
