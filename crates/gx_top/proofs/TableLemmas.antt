@@ -118,7 +118,8 @@ module _ (g : Given) (device : List ℕ) (old new : Content) where
   wrong_shared why status.Outside k = refl
 
   unshared : (start : State) (p : Play Sharing) (answers line : List ℕ)
-      → RunSays g device start p status.Refused answers line new → may_end (sharing device) status.Refused ≡ true
+      → RunSays g device start p status.Refused answers line new
+      → may_end (sharing device) status.Refused ≡ true
   unshared start p answers line (inl is) = absurd is.1
   unshared start p answers line (inr is) = absurd (differ is.0)
     where

@@ -43,14 +43,15 @@ use std::alloc::Global;
 /// - `Full`: the pages may be too few for the command of a line, which changes records or links,
 ///   isn't refused and is no `delete`, or is a `reorganize`; of `share`, for one of the commands of
 ///   the session's transaction, carried out in order on the last kept state, with that of the turn.
-///   Exactly the answers of the lines before it were said, of `run` on a device that holds a state, and then `stopped: full`; of
-///   `work` that line alone.
+///   Exactly the answers of the lines before it were said, of `run` on a device that holds a
+///   state, and then `stopped: full`; of `work` that line alone.
 /// - `Device`: the device isn't what was asked for. Its line was said, and nothing else; that of
 ///   damage, which names a block that the device has, was said last, behind what was said before.
 ///   Damage comes only of a device that is there, with its size, a database and the same texts, and
 ///   that holds no state. `inspect` finds it exactly there.
 /// - `Memory`: there was no memory. Exactly the answers of the script's first lines, or their plans
-///   and directions, were said, perhaps of none, of `run` on a device that holds a state, and then `stopped: memory`.
+///   and directions, were said, perhaps of none, of `run` on a device that holds a state, and then
+///   `stopped: memory`.
 /// - `Outside`: a call of the machine failed. All answers of one of the others were said and a
 ///   front of its line, or first answers, but perhaps an end of the last one.
 ///

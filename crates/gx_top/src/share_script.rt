@@ -11,8 +11,8 @@ use gx_play::Status;
 use std::alloc::Global;
 
 /// Plays the script of turns on the device of that name, under the texts of these names, and says
-/// what the turns say; or says the reason where the request is refused or the device is another than
-/// was asked for.
+/// what the turns say; or says the reason where the request is refused or the device is another
+/// than was asked for.
 pub fn share_script<M: Machine + Drop>(
     alloc: Global,
     schema: &str,

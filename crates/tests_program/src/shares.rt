@@ -88,7 +88,13 @@ const CASES: [Case; 5] = [
     Case {
         texts: ONE_FILE,
         script: "1 begin\n1 insert f 1 \"a\"\n2 begin\n2 get f 1\n1 commit",
-        said: "1 begun\n1 ok\n2 begun\n2 ended: held by 1\n1 committed 1\nstopped at line 5: open transaction\n",
+        said: r#"1 begun
+1 ok
+2 begun
+2 ended: held by 1
+1 committed 1
+stopped at line 5: open transaction
+"#,
         status: Status::Script,
     },
 ];
