@@ -88,8 +88,8 @@ IsLineStep g old new line =
 
 -- ---- the lines alone
 
--- the line of a session has a command that may stand where this one is, which is behind it where
--- the command leads; or the line is bad there
+-- the line of a session has a command that may stand where this one is, and behind it the session is
+-- where the command leads; or the line is bad there
 abbrev pub IsReadTurn : {S : Type 0} → Sessions S → Sessions S → ℕ → List ℕ
     → Result (Unit {0}) LineEnd → Type 0
 IsReadTurn old new n line (Ok x) =
