@@ -10,7 +10,7 @@ use Rattle.gx_ports.specs.declared.kinds.LeafSpec.{LeafSpec}
 use Rattle.gx_commands.specs.declared.command.LineWhy.{LineWhy}
 use Rattle.gx_commands.specs.Lines.{script_lines}
 use Rattle.gx_types.specs.declared.built.Built.{Built}
-use Rattle.gx_model.specs.States.{State, empty_state}
+use Rattle.gx_model.specs.States.{empty_state}
 use Rattle.gx_model.specs.Play.{End, good, stopped, end_text}
 use Rattle.gx_explain.specs.Explained.{indexed_fields, IsExplainedTo, IsSomeText, IsScriptExplained, AreFirstExplained}
 use Rattle.gx_explain.specs.Explaining.{fields_in}
@@ -22,6 +22,7 @@ use Rattle.gx_play.specs.declared.ending.Ending.TheVariants as ending
 use Rattle.gx_play.specs.declared.status.Status.{Status}
 use Rattle.gx_play.specs.declared.status.Status.TheVariants as status
 use Rattle.gx_play.specs.Endings.{ending_line, status_of, memory_line, IsEnded, IsFinished, IsPlayEnding, EndsThrough}
+use Rattle.gx_play.specs.Overs.{IsPlayedOf}
 use Rattle.gx_play.specs.Plays.{IsPlayedAs}
 use Rattle.gx_play.specs.Say.{SameDevices, IsCut}
 use Rattle.gx_play.specs.Summaries.{summary_of, accepted_line}
@@ -31,10 +32,12 @@ use Rattle.gx_operations.specs.GivenUp.{GaveUp, GivesUp}
 use Rattle.gx_operations.specs.Promises.{IsKept, IsSaid, SaysPart, SaysBroken}
 use Rattle.gx_operations.specs.Refuses.{refuses}
 use Rattle.gx_operations.specs.Checks.{checks}
-use Rattle.gx_operations.specs.Tries.{tries}
+use Rattle.gx_operations.specs.Kinds.{line_over_play}
+use Rattle.gx_operations.specs.Tries.{tries, memory_play}
 use Rattle.gx_operations.specs.Explains.{explains, ExplainSays}
 use Rattle.gx_operations.proofs.CrashLemmas.{ends_unchanged, ends_idle}
-use Rattle.gx_operations.proofs.SaidLemmas.{by_memory, line_kept, first_parts, heard_all, broken_off, finished_said, finished_due}
+use Rattle.gx_operations.proofs.SaidLemmas.{by_memory, line_kept, heard_all, finished_said, finished_due}
+use Rattle.gx_operations.proofs.PlayerLemmas.{IsLawful, line_lawful, line_finer, line_played, played_finer, first_parts}
 
 pub devices_twice : (old mid new : Content) → SameDevices old mid → SameDevices mid new
     → SameDevices old new
@@ -111,18 +114,33 @@ module _ (g : Given) (built : Built) (old mid new : Content) (s : Status)
     old.now.said mid.now.said played)
     (ending : IfErr played IsPlayEnding) (heard : played ≡ Ok tt → mid.script ≡ []) (before : SameDevices old mid)
     (finished : IsFinished played mid new s) (behind : SameDevices mid new) where
+  answered : IsPlayedOf (memory_play g old.script) (λ kept. Unit {0}) old.now.said mid.now.said
+      played
+  answered =
+      played_finer (line_over_play g.schema built None (empty_state g.schema) old.script)
+      (memory_play g old.script)
+      (line_finer g.schema g.definitions built None (empty_state g.schema) old.script
+      (λ answers m full. absurd full.short.short.short)) (λ kept. Unit {0}) (λ kept. Unit {0})
+      (λ kept held. tt) old.now.said mid.now.said played
+      (line_played g.schema built None (empty_state g.schema) old.script (λ kept. Unit {0})
+      old.now.said mid.now.said played is)
+
+  law : IsLawful (memory_play g old.script) (empty_state g.schema)
+  law = line_lawful g.schema g.definitions None (empty_state g.schema) old.script
+
   pub try_kept : IsKept (tries g old) old new s
   try_kept = record {
-    said = finished_said g.schema g.definitions built None (empty_state g.schema) old.script
-        (λ kept. Unit {0}) (λ answers final full. absurd full.short.short.short) (tries g old) old
-        mid new (λ s answers line m ends holds. (m, ends, tt)) (λ d due. due) played s is
-        (λ front.
-        let b = broken_off g.schema (empty_state g.schema) (λ (kept : State). Unit {0}) old.script
-        old.now.said new.now.said front in
-        record { told = b.told; breaks = (front.first.final, b.front, tt); said = b.said }) finished;
-    due = finished_due g.schema g.definitions built None (empty_state g.schema) old.script
-        (λ kept. Unit {0}) (λ answers final full. absurd full.short.short.short) (tries g old) old
-        mid new (λ s answers line m ends holds. (m, ends, tt)) (λ d due. due) played s is finished;
+    said = finished_said (memory_play g old.script) (empty_state g.schema) law (λ kept. Unit {0})
+        (tries g old) old mid new (λ s answers line m ends holds. (m, ends, tt)) (λ d due. due)
+        played s answered
+        (λ front. record {
+          told = front.told;
+          breaks = (front.final, front.front, tt);
+          said = front.said;
+        }) finished;
+    due = finished_due (memory_play g old.script) (empty_state g.schema) law (λ kept. Unit {0})
+        (tries g old) old mid new (λ s answers line m ends holds. (m, ends, tt)) (λ d due. due)
+        played s answered finished;
     leaves = (devices_twice old mid new before behind, heard_all mid new s played ending heard finished);
     crashes = tt;
   }

@@ -17,13 +17,14 @@ use Rattle.gx_play.specs.declared.ending.DeviceWhy.{DeviceWhy}
 use Rattle.gx_play.specs.declared.ending.DeviceWhy.TheVariants as device_why
 use Rattle.gx_play.specs.declared.status.Status.{Status}
 use Rattle.gx_play.specs.declared.status.Status.TheVariants as status
-use Rattle.gx_play.specs.ScriptEnds.{IsScriptEnd}
 use Rattle.gx_play.specs.Endings.{made_line, memory_line}
 use Rattle.gx_play.specs.Player.{Play, IsDueOf}
 use Rattle.gx_play.specs.Say.{SameDevices}
 use Rattle.gx_operations.specs.Crashes.{IsUnchanged, IsStill, IsLater, ReadsAsAttached}
 use Rattle.gx_operations.specs.Given.{Given, HoldState, IsStateless, limit_of}
 use Rattle.gx_operations.specs.GivenUp.{GaveUp, GivesUp}
+use Rattle.gx_operations.specs.declared.kinds.ScriptKind.{ScriptKind}
+use Rattle.gx_operations.specs.Kinds.{RunsAs, IsEndOfKind, plays_of}
 use Rattle.gx_operations.specs.Making.{IsUnmakable}
 use Rattle.gx_operations.specs.Promises.{Promise, IsKept, IsSaid, IsApart}
 use Rattle.gx_operations.specs.Refuses.{refuses}
@@ -32,7 +33,7 @@ use Rattle.gx_operations.specs.Tries.{tries, memory_play}
 use Rattle.gx_operations.specs.Playing.{PlaySays, PlayBreaks}
 use Rattle.gx_operations.specs.Explains.{explains, ExplainSays, ExplainBreaks}
 use Rattle.gx_operations.specs.Makes.{MakesOn, makes_none, makes_one, IsMakeImage}
-use Rattle.gx_operations.specs.Runs.{RunsOn, runs_from, runs_unheld, script_play, IsRunImage, UnheldSays}
+use Rattle.gx_operations.specs.Runs.{RunsOn, runs_from, runs_unheld, IsRunImage, UnheldSays}
 use Rattle.gx_operations.specs.Inspects.{InspectsOn, inspects_sound, inspects_unsound, IsSoundImage, IsUnsoundImage}
 use Rattle.gx_operations.specs.Works.{WorksOn, works_on, IsWorkImage}
 use Rattle.gx_operations.specs.Wrong.{StaysWrong, IsWrong, WrongSays, IsDamageLine, finds_wrong}
@@ -361,12 +362,11 @@ module _ (g : Given) (device : List ℕ) (old mid : Content) (l : IsLater old mi
         }) old mid new said_is s (r.unheld (is_stateless is));
   }
 
-  pub ran_later : (new : Content) (s : Status)
-      → RunsOn g device (script_play g mid.script) (IsScriptEnd g.schema mid.script) mid new s
-      → RunsOn g device (script_play g old.script) (IsScriptEnd g.schema old.script) old new s
-  ran_later new s r =
-      subst (λ t. RunsOn g device (script_play g t) (IsScriptEnd g.schema t) old new s) l.script
-      (ran_on (script_play g mid.script) (IsScriptEnd g.schema mid.script) new s r)
+  pub ran_later : (k : ScriptKind) (new : Content) (s : Status) → RunsAs k g device mid new s
+      → RunsAs k g device old new s
+  ran_later k new s r =
+      subst (λ t. RunsOn g device (plays_of k g t) (IsEndOfKind k g.schema t) old new s) l.script
+      (ran_on (plays_of k g mid.script) (IsEndOfKind k g.schema mid.script) new s r)
 
   unsound_says : (s : Status) (whole last : List ℕ) (new : Content)
       → (inspects_unsound g device mid).Says s whole last new

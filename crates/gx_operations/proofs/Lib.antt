@@ -5,6 +5,7 @@ mod CrashLemmas
 mod EndedLemmas
 pub mod GivenLemmas
 pub mod MemoryLemmas
+mod PlayerLemmas
 mod SaidLemmas
 mod AnswerLemmas
 mod MakeLemmas

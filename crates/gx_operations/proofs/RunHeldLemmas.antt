@@ -1,39 +1,32 @@
--- `run`: what is promised of a device that holds a state is kept.
-use Rattle.std.proofs.Common.{◌≡◌, ◌∙◌, inl, inr, ℕ, zero, suc, Bool, true, false, List, [], ◌++◌, take, Some, Result, Ok, Err, refl, sym, ap, subst, append-nil, append_assoc, arith}
+-- `run` and `share`: what is promised of a device that holds a state is kept.
+use Rattle.std.proofs.Common.{◌≡◌, ◌∙◌, inl, inr, ℕ, zero, suc, Bool, true, false, List, [], ◌++◌, take, Some, Result, Ok, Err, refl, sym, ap, subst, append-nil, append_assoc}
 use Rattle.std.specs.Prelude.{◌⊎◌, ◌≢◌, IfErr}
 use Rattle.std.proofs.lemmas.Option.{same_Some}
 use Rattle.gx_device.specs.Content.{Shelf, Content, device_at}
 use Rattle.gx_device.specs.Crash.{Image, IsImage, EachImage, LeavesOnly}
-use Rattle.gx_commands.specs.Lines.{script_lines}
-use Rattle.gx_types.specs.declared.built.Built.{Built}
 use Rattle.gx_model.specs.States.{State}
-use Rattle.gx_model.specs.Play.{Playing, start_at}
 use Rattle.gx_store.specs.Crashes.{IsFirstOf, IsOpeningImage, Opens, Unattached}
 use Rattle.gx_store.specs.Device.{ReadAlike}
 use Rattle.gx_store.specs.Store.{Attaches, OfBlocks}
 use Rattle.gx_store.proofs.ShelfLemmas.{named_at}
-use Rattle.gx_states.specs.Built.{IsBuiltOf}
 use Rattle.gx_play.specs.declared.ending.Ending.{Ending}
 use Rattle.gx_play.specs.declared.ending.Ending.TheVariants as ending
-use Rattle.gx_play.specs.declared.play.Answers.TheVariants as answers
 use Rattle.gx_play.specs.declared.status.Status.{Status}
 use Rattle.gx_play.specs.declared.status.Status.TheVariants as status
 use Rattle.gx_play.specs.Endings.{ending_line, memory_line, status_of, IsPlayEnding, is_fault, is_outside, IsEnded, IsFinished, FinishesThrough, EndsThrough}
-use Rattle.gx_play.specs.Images.{IsPlayImage}
-use Rattle.gx_play.specs.Played.{MayBeFull, MayBeFullAt}
+use Rattle.gx_play.specs.Overs.{IsPlayedOf, IsImageOf}
 use Rattle.gx_play.specs.Player.{Play, EndsWith, MayBeSaid, IsDueOf}
-use Rattle.gx_play.specs.Plays.{IsPlayedAs}
 use Rattle.gx_play.specs.Say.{SameDevices, IsCut}
 use Rattle.gx_operations.specs.Crashes.{CrashesOn, IsLeftOf}
-use Rattle.gx_operations.specs.Given.{Given, HoldState, SettleState, IsHeldOn, IsSettledOn, limit_of}
+use Rattle.gx_operations.specs.Given.{Given, HoldState, SettleState, IsHeldOn, IsSettledOn}
 use Rattle.gx_operations.specs.Promises.{Promise, IsKept, IsSaid, SaysBroken}
-use Rattle.gx_operations.specs.Runs.{IsRunImage, runs_from, script_play}
+use Rattle.gx_operations.specs.Runs.{IsRunImage, runs_from}
 use Rattle.gx_operations.proofs.CrashLemmas.{reads_now, leaves_weaker, leaves_both, says_leaves, ends_leaves, opens_then, opens_reached, first_reached, opening_unsaid, unattached_idle, ends_idle_short}
 use Rattle.gx_operations.proofs.EndedLemmas.{devices_same}
 use Rattle.gx_operations.proofs.GivenLemmas.{hold_alike}
+use Rattle.gx_operations.proofs.PlayerLemmas.{IsLawful}
 use Rattle.gx_operations.proofs.WrongLemmas.{due_or_memory}
 use Rattle.gx_operations.proofs.SaidLemmas.{Answers, answers_of, said_by, line_said, finished_due}
-use Rattle.gx_play.proofs.FullLemmas.{full_by_state}
 
 -- ---- a failed call
 
@@ -90,60 +83,26 @@ opens_shelf name old mid o =
       | inr is ↦ is.shelf
     ]
 
-module _ (g : Given) (device : List ℕ) (start : State) (old : Content)
-    (held : IsHeldOn g device start old) where
-  abbrev pub p : Play Playing
-  p = script_play g old.script (limit_of g held.0) start
-
+module _ {M : Type 0} (p : Play M) (g : Given) (device : List ℕ) (start : State) (old : Content)
+    (held : IsHeldOn g device start old) (law : IsLawful p start) where
   abbrev pub Promised : Promise
   Promised = runs_from g device start p old
 
   -- what holds the state that is kept behind what was said
-  behind_image : (middle : Content) (image : Image) (told : List ℕ) (m : Playing)
-      → MayBeSaid p told m → image.said ≡ old.now.said ++ told → HoldState g m.kept image.blocks
+  behind_image : (middle : Content) (image : Image) (told : List ℕ) (m : M)
+      → MayBeSaid p told m → image.said ≡ old.now.said ++ told
+      → HoldState g (p.kept m) image.blocks
       → IsRunImage g p old middle image
   behind_image middle image told m may said holds = inr (told, m, may, said, holds)
 
-  at_start : p.First [] (start_at start)
-  at_start = record {
-    first = record {
-      ran = [];
-      later = (script_lines old.script).lines;
-      parts = refl;
-      final = start_at start;
-      runs = (refl, refl);
-    };
-    is = refl;
-  }
-
-  front_start : p.Front [] (start_at start)
-  front_start = record {
-    ran = [];
-    later = (script_lines old.script).lines;
-    parts = refl;
-    answers = [];
-    runs = (refl, refl);
-    up_to = record {
-      first = [];
-      last = [];
-      one = omega arith;
-      ran_are = refl;
-      whole = [];
-      cut = [];
-      text_is = refl;
-      middle = start_at start;
-      runs = (refl, refl);
-      count = 0;
-      said = refl;
-    };
-  }
-
-  -- blocks that read as those which hold the state
+  -- blocks that read as those which hold the state hold what is kept at the start of the play
   alike_there : (middle : Content) → device_at old.now device ≡ Some middle.now.blocks
-      → (blocks : List (List ℕ)) → ReadAlike middle.now.blocks blocks → HoldState g start blocks
+      → (blocks : List (List ℕ)) → ReadAlike middle.now.blocks blocks
+      → HoldState g (p.kept law.at) blocks
   alike_there middle was blocks alike =
-      hold_alike g start middle.now.blocks blocks alike
-      (subst (HoldState g start) (same_Some held.0 middle.now.blocks (sym held.1 ∙ was)) held.2)
+      subst (λ (k : State). HoldState g k blocks) (sym law.kept)
+      (hold_alike g start middle.now.blocks blocks alike
+      (subst (HoldState g start) (same_Some held.0 middle.now.blocks (sym held.1 ∙ was)) held.2))
 
   -- while it is opened
   opening_image : (middle : Content) → device_at old.now device ≡ Some middle.now.blocks
@@ -155,7 +114,7 @@ module _ (g : Given) (device : List ℕ) (start : State) (old : Content)
         (0, is.said ∙ before ∙ sym (append-nil old.now.said)),
       )
   opening_image middle was before image (inr is) =
-      behind_image middle image [] (start_at start) (inl front_start)
+      behind_image middle image [] law.at (inl law.front)
       (is.said ∙ before ∙ sym (append-nil old.now.said))
       (alike_there middle was image.blocks is.alike)
 
@@ -170,12 +129,12 @@ module _ (g : Given) (device : List ℕ) (start : State) (old : Content)
         (count, line),
       )
   opening_memory middle was image said count (inr is) line =
-      behind_image middle image (take count memory_line) (start_at start)
+      behind_image middle image (take count memory_line) law.at
       (inr (record {
         meant = status.Memory;
         answers = [];
         line = memory_line;
-        ends = (at_start, refl);
+        ends = (law.first, refl);
         count = count;
         told_is = refl;
       })) line (alike_there middle was image.blocks is.alike)
@@ -226,7 +185,11 @@ module _ (g : Given) (device : List ℕ) (start : State) (old : Content)
         record {
           said = subst (IsSaid Promised old new) (sym out) (inr (record {
             told = [];
-            breaks = (start_at start, front_start, still_held);
+            breaks = (
+              law.at,
+              law.front,
+              subst (λ (k : State). IsHeldOn g device k new) (sym law.kept) still_held,
+            );
             said = ended.words.silent fault ∙ attaches.said ∙ sym (append-nil old.now.said);
           }));
           due = λ d is other. absurd (other out);
@@ -314,17 +277,14 @@ module _ (g : Given) (device : List ℕ) (start : State) (old : Content)
 
   -- what the play leaves, before the line of its end is said
   pub record IsPlayedOn (opened mid : Content) (played : Result (Unit {0}) Ending) : Type 0 where
-    pub built : Built
-    pub trees : IsBuiltOf g.schema g.definitions built
     pub opens : Opens device old opened
     pub first : IsFirstOf opens.middle opened
     pub attaches : Attaches device old opened
-    pub answered : IsPlayedAs g.schema built (Some (limit_of g held.0)) start
+    pub answered : IsPlayedOf p
         (λ k. SettleState g k mid.now.blocks
         × (is_fault played ≡ false → EachImage (λ image. HoldState g k image.blocks) mid.now))
-        opened.script opened.now.said mid.now.said played
-    pub images : LeavesOnly (IsPlayImage g.schema (HoldState g) answers.Said (start_at start)
-        (script_lines opened.script).lines opened.now) opened mid
+        opened.now.said mid.now.said played
+    pub images : LeavesOnly (IsImageOf p (HoldState g) opened.now) opened mid
     pub heard : played ≡ Ok tt → mid.script ≡ []
     pub shelf : mid.now.shelf ≡ opened.now.shelf
 
@@ -340,22 +300,11 @@ module _ (g : Given) (device : List ℕ) (start : State) (old : Content)
 
     -- the answers, from the request on
     abbrev As : Result (Unit {0}) Ending → Type 0
-    As r = IsPlayedAs g.schema run.built (Some (limit_of g held.0)) start Kept old.script
-        old.now.said mid.now.said r
+    As r = IsPlayedOf p Kept old.now.said mid.now.said r
 
     played_as : As played
     played_as =
-        subst (λ (t : List ℕ). IsPlayedAs g.schema run.built (Some (limit_of g held.0)) start Kept t
-        old.now.said mid.now.said played) run.attaches.script
-        (subst (λ (t : List ℕ). IsPlayedAs g.schema run.built (Some (limit_of g held.0)) start Kept
-        opened.script t mid.now.said played) before run.answered)
-
-    full : (answers : List ℕ) (final : Playing)
-        → MayBeFullAt g.schema run.built (Some (limit_of g held.0)) start old.script answers final
-        → MayBeFull g.schema g.definitions (Some (limit_of g held.0)) start old.script answers final
-    full answers final is =
-        full_by_state g.schema g.definitions run.built (Some (limit_of g held.0)) start old.script
-        answers final run.trees is
+        subst (λ (t : List ℕ). IsPlayedOf p Kept t mid.now.said played) before run.answered
 
     there : mid.now.shelf.name ≡ Some device
     there = ap (λ (x : Shelf). x.name) run.shelf ∙ run.opens.named
@@ -365,42 +314,18 @@ module _ (g : Given) (device : List ℕ) (start : State) (old : Content)
         (mid.now.blocks, devices_same mid new same device ∙ named_at mid.now device there, settled)
 
     -- an image while it is played
-    play_image : (image : Image)
-        → IsPlayImage g.schema (HoldState g) answers.Said (start_at start)
-        (script_lines opened.script).lines opened.now image
+    play_image : (image : Image) → IsImageOf p (HoldState g) opened.now image
         → IsLeftOf (IsRunImage g p old) run.opens.middle image
-    play_image image is =
-        let told = is.up_to.whole ++ take is.up_to.count is.up_to.cut in
-        record {
-          is = inr (
-            told,
-            is.final,
-            inl (record {
-              ran = is.ran;
-              later = is.later;
-              parts = ap (λ (t : List ℕ). (script_lines t).lines) (sym run.attaches.script)
-                  ∙ is.parts;
-              answers = is.text;
-              runs = is.runs;
-              up_to = record {
-                first = is.up_to.first;
-                last = is.up_to.last;
-                one = is.up_to.one;
-                ran_are = is.up_to.ran_are;
-                whole = is.up_to.whole;
-                cut = is.up_to.cut;
-                text_is = is.up_to.text_is;
-                middle = is.up_to.middle;
-                runs = is.up_to.runs;
-                count = is.up_to.count;
-                said = refl;
-              };
-            }),
-            is.up_to.said ∙ ap (λ t. t ++ told) before,
-            is.holds,
-          );
-          shelf = is.shelf ∙ opens_shelf device old opened run.opens;
-        }
+    play_image image is = record {
+      is = inr (
+        is.told,
+        is.final,
+        inl is.front,
+        is.said ∙ ap (λ t. t ++ is.told) before,
+        is.holds,
+      );
+      shelf = is.shelf ∙ opens_shelf device old opened run.opens;
+    }
 
     mid_image : (image : Image) → IsImage mid.now image
         → IsLeftOf (IsRunImage g p old) run.opens.middle image
@@ -418,14 +343,12 @@ module _ (g : Given) (device : List ℕ) (start : State) (old : Content)
 
     -- what stands behind the answers
     abbrev Behind : Ending → Type 0
-    Behind w = Answers g.schema g.definitions run.built (Some (limit_of g held.0)) start old.script
-        Kept full old.now.said mid.now.said (status_of w) (ending_line w)
+    Behind w = Answers p start law Kept old.now.said mid.now.said (status_of w) (ending_line w)
 
     -- after an end that is no failed call
     behind_end : (w : Ending) → As (Err w) → is_outside w ≡ false → Behind w
     behind_end w is calm =
-        elim (answers_of g.schema g.definitions run.built (Some (limit_of g held.0)) start old.script
-        Kept full old.now.said mid.now.said w is) [
+        elim (answers_of p start law Kept old.now.said mid.now.said w is) [
           | inl a ↦ a
           | inr f ↦ absurd (no_fault w calm f.0)
         ]
@@ -494,8 +417,7 @@ module _ (g : Given) (device : List ℕ) (start : State) (old : Content)
     played_crash : CrashesOn device (IsRunImage g p old) old new
     played_crash =
         let leaves = leaves_both Left opened mid new
-        (leaves_weaker (IsPlayImage g.schema (HoldState g) answers.Said (start_at start)
-        (script_lines opened.script).lines opened.now) Left play_image opened mid run.images)
+        (leaves_weaker (IsImageOf p (HoldState g) opened.now) Left play_image opened mid run.images)
         (finish_images played refl played_as moments) in
         opens_then (IsRunImage g p old) device old opened new run.opens
         (first_reached run.opens.middle opened new run.first Left leaves)
@@ -506,46 +428,24 @@ module _ (g : Given) (device : List ℕ) (start : State) (old : Content)
     -- after a failed call, what is kept behind what was said
     broken : new.now.said ≡ mid.now.said → SaysBroken Promised old new
     broken silent =
-        let is = reads_now (IsPlayImage g.schema (HoldState g) answers.Said (start_at start)
-        (script_lines opened.script).lines opened.now) opened mid run.images in
-        let told = is.up_to.whole ++ take is.up_to.count is.up_to.cut in
+        let is = reads_now (IsImageOf p (HoldState g) opened.now) opened mid run.images in
         record {
-          told = told;
+          told = is.told;
           breaks = (
             is.final,
-            record {
-              ran = is.ran;
-              later = is.later;
-              parts = ap (λ (t : List ℕ). (script_lines t).lines) (sym run.attaches.script)
-                  ∙ is.parts;
-              answers = is.text;
-              runs = is.runs;
-              up_to = record {
-                first = is.up_to.first;
-                last = is.up_to.last;
-                one = is.up_to.one;
-                ran_are = is.up_to.ran_are;
-                whole = is.up_to.whole;
-                cut = is.up_to.cut;
-                text_is = is.up_to.text_is;
-                middle = is.up_to.middle;
-                runs = is.up_to.runs;
-                count = is.up_to.count;
-                said = refl;
-              };
-            },
+            is.front,
             (
               mid.now.blocks,
               devices_same mid new same device ∙ named_at mid.now device there,
               is.holds,
             ),
           );
-          said = silent ∙ is.up_to.said ∙ ap (λ t. t ++ told) before;
+          said = silent ∙ is.said ∙ ap (λ t. t ++ is.told) before;
         }
 
-    says : (t : Status) (answers line : List ℕ) (m : Playing) → EndsWith p t answers m line
-        → Kept m.kept → Promised.Says t answers line new
-    says t answers line m ends kept = inl (m, ends, settled_on m.kept kept.0)
+    says : (t : Status) (answers line : List ℕ) (m : M) → EndsWith p t answers m line
+        → Kept (p.kept m) → Promised.Says t answers line new
+    says t answers line m ends kept = inl (m, ends, settled_on (p.kept m) kept.0)
 
     play_said : (r : Result (Unit {0}) Ending) → As r → IsFinished r mid new s
         → IsSaid Promised old new s
@@ -555,7 +455,7 @@ module _ (g : Given) (device : List ℕ) (start : State) (old : Content)
           last = [];
           says = says s out.answers [] out.final
               (subst (λ (t : Status). EndsWith p t out.answers out.final []) (sym ends.0)
-              (out.play, refl)) out.holds;
+              (out.stands, refl)) out.holds;
           said = ap (λ (c : Content). c.now.said) ends.1 ∙ out.said
               ∙ ap (λ t. old.now.said ++ t) (sym (append-nil out.answers));
         }) (λ is. absurd (never (sym ends.0 ∙ is)))
@@ -576,8 +476,7 @@ module _ (g : Given) (device : List ℕ) (start : State) (old : Content)
 
     play_due : (d : Status) → IsDueOf p d → s ≢ status.Outside → (s ≡ d) ⊎ (s ≡ status.Memory)
     play_due d is out =
-        finished_due g.schema g.definitions run.built (Some (limit_of g held.0)) start old.script Kept
-        full Promised old mid new says (λ t due. due) played s played_as finished d is out
+        finished_due p start law Kept Promised old mid new says (λ t due. due) played s played_as finished d is out
 
     play_heard : (r : Result (Unit {0}) Ending) → r ≡ played → IfErr r IsPlayEnding
         → IsFinished r mid new s → s ≡ status.Done → new.script ≡ []

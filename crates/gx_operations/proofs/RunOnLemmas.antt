@@ -1,4 +1,4 @@
--- `run`: what is promised is kept, whatever the device holds.
+-- `run` and `share`: what is promised is kept, whatever the device holds.
 use Rattle.std.proofs.Common.{◌≡◌, ◌∙◌, inl, inr, ℕ, ◌<◌, false, List, [], ◌++◌, length, Some, Result, Ok, Err, refl, sym, ap, subst, append-nil, arith}
 use Rattle.std.specs.Prelude.{◌⊎◌, IfErr}
 use Rattle.gx_device.specs.Content.{Content, device_at}
@@ -10,10 +10,9 @@ use Rattle.gx_ports.specs.LeafMaps.{LeafMap, Limits}
 use Rattle.gx_schema.specs.declared.schema.Schema.{Schema}
 use Rattle.gx_schema.specs.Printing.{schema_text}
 use Rattle.gx_equation.specs.Printing.{equation_text}
-use Rattle.gx_commands.specs.Lines.{script_lines}
 use Rattle.gx_types.specs.declared.built.Built.{Built}
 use Rattle.gx_model.specs.States.{State}
-use Rattle.gx_model.specs.Play.{End, start_at}
+use Rattle.gx_model.specs.Play.{End}
 use Rattle.gx_states.specs.Internal.{AreInternal}
 use Rattle.gx_store.specs.Crashes.{IsFirstOf, IsOpeningImage, Opens}
 use Rattle.gx_store.specs.Device.{IsHeadOf, IsSettled, Reopens, ground_on}
@@ -26,24 +25,25 @@ use Rattle.gx_states.specs.Built.{IsBuiltOf}
 use Rattle.gx_play.specs.declared.ending.DeviceWhy.TheVariants as device_why
 use Rattle.gx_play.specs.declared.ending.Ending.{Ending}
 use Rattle.gx_play.specs.declared.ending.Ending.TheVariants as ending
-use Rattle.gx_play.specs.declared.play.Answers.TheVariants as answers
 use Rattle.gx_play.specs.declared.status.Status.{Status}
 use Rattle.gx_play.specs.declared.status.Status.TheVariants as status
 use Rattle.gx_play.specs.Endings.{ending_line, status_of, device_line, is_fault, is_outside, unopened_ending, IsPlayEnding, IsEnded, IsFinished, EndsThrough, FinishesThrough}
-use Rattle.gx_play.specs.Images.{IsPlayImage}
-use Rattle.gx_play.specs.Plays.{IsPlayedAs}
+use Rattle.gx_play.specs.Overs.{IsPlayedOf, IsImageOf}
+use Rattle.gx_play.specs.Player.{Play}
 use Rattle.gx_play.specs.Readings.{EndsAs}
 use Rattle.gx_play.specs.Say.{SameDevices}
-use Rattle.gx_play.proofs.OverLemmas.{held_as}
 use Rattle.gx_operations.specs.Damage.{IsDamageBelow}
 use Rattle.gx_operations.specs.Given.{Given, under, HoldState, SettleState, IsHeldOn, limit_of}
 use Rattle.gx_operations.specs.Held.{StoreState, StaysOn}
+use Rattle.gx_operations.specs.declared.kinds.ScriptKind.{ScriptKind}
+use Rattle.gx_operations.specs.Kinds.{RunsAs, Stand, IsEndOfKind, plays_of, over_play}
 use Rattle.gx_operations.specs.Promises.{IsKept, IsSaid}
-use Rattle.gx_operations.specs.Runs.{RunsOn, runs_unheld, UnheldSays, script_play}
+use Rattle.gx_operations.specs.Runs.{runs_unheld, UnheldSays}
 use Rattle.gx_operations.specs.Settled.{IsSettledIn}
 use Rattle.gx_operations.specs.Wrong.{IsDamageLine}
 use Rattle.gx_operations.proofs.CrashLemmas.{reads_now, leaves_weaker}
 use Rattle.gx_operations.proofs.GivenLemmas.{internal_of, internal_in}
+use Rattle.gx_operations.proofs.PlayerLemmas.{IsFiner, lawful, finer, played_finer}
 use Rattle.gx_operations.proofs.RunHeldLemmas.{IsPlayedOn, run_kept, unopened_failed, unopened_short, outside_or, no_fault, stop_undone}
 use Rattle.gx_operations.proofs.SaidLemmas.{said_by, line_said}
 use Rattle.gx_operations.proofs.WrongLemmas.{IsTried, opened_right, opened_short, wrong_kept}
@@ -154,18 +154,21 @@ held_opened g device old start held = (
   },
 )
 
-pub run_unopened : (g : Given) (device : List ℕ) (Ends : End → Type 0) (old mid new : Content)
+pub run_unopened : (k : ScriptKind) (g : Given) (device : List ℕ) (old mid new : Content)
     (e : Unopened) (s : Status) → IsTried g device old mid e → SameDevices mid new
     → IsEnded (unopened_ending e) mid new s → EndsThrough (unopened_ending e) mid new
-    → RunsOn g device (script_play g old.script) Ends old new s
-run_unopened g device Ends old mid new e s t same ended moments = record {
+    → RunsAs k g device old new s
+run_unopened k g device old mid new e s t same ended moments = record {
   wrong = wrong_kept g device old mid new e s t same ended moments;
-  held = λ start held. elim (opened_short g device old e t.unopened
-      (held_opened g device old start held)) [
-        | inl is ↦ unopened_failed g device start old held mid new s (unopened_ending e) same ended
-            moments t.attaches t.kept t.crash (ap unopened_ending is)
-        | inr is ↦ unopened_short g device start old held mid new s (unopened_ending e) same ended
-            moments t.attaches t.kept t.crash (ap unopened_ending is)
+  held = λ start held.
+      let limit = limit_of g held.0 in
+      let p = plays_of k g old.script limit start in
+      let law = lawful k g old.script limit start in
+      elim (opened_short g device old e t.unopened (held_opened g device old start held)) [
+        | inl is ↦ unopened_failed p g device start old held law mid new s (unopened_ending e) same
+            ended moments t.attaches t.kept t.crash (ap unopened_ending is)
+        | inr is ↦ unopened_short p g device start old held law mid new s (unopened_ending e) same
+            ended moments t.attaches t.kept t.crash (ap unopened_ending is)
       ];
   unheld = λ none. unheld (opened_short g device old e t.unopened none.opened);
 }
@@ -174,10 +177,10 @@ run_unopened g device Ends old mid new e s t same ended moments = record {
     begins = ([], t.attaches.said ∙ sym (append-nil old.now.said))
 
     by : (w : Ending) → unopened_ending e ≡ w → IsPlayEnding w
-        → ((block : ℕ) → w ≡ ending.Device (device_why.Damaged block) → ⊥) → EndsAs Ends (Err w)
-        → IsKept (runs_unheld device Ends old) old new s
+        → ((block : ℕ) → w ≡ ending.Device (device_why.Damaged block) → ⊥) → EndsAs (IsEndOfKind k g.schema old.script) (Err w)
+        → IsKept (runs_unheld device (IsEndOfKind k g.schema old.script) old) old new s
     by w is play undamaged reads =
-        unheld_kept g device Ends old mid new s begins (Err w) play
+        unheld_kept g device (IsEndOfKind k g.schema old.script) old mid new s begins (Err w) play
         (λ block so. absurd (undamaged block (one_error so))) reads (λ so. absurd (never so))
         (subst (λ f. IsEnded f mid new s) is ended)
       where
@@ -188,7 +191,7 @@ run_unopened g device Ends old mid new e s t same ended moments = record {
         one_error f = cc
 
     unheld : (e ≡ unopened.Fault) ⊎ (e ≡ unopened.NoMemory)
-        → IsKept (runs_unheld device Ends old) old new s
+        → IsKept (runs_unheld device (IsEndOfKind k g.schema old.script) old) old new s
     unheld (inl is) = by ending.Fault (ap unopened_ending is) tt (λ block f. cc) tt
     unheld (inr is) = by ending.NoMemory (ap unopened_ending is) tt (λ block f. cc) tt
 
@@ -218,7 +221,7 @@ of_under g schema equation specs of P is =
 
 -- What opening the device gave, and how the script was played on it. It speaks of what was before,
 -- `old`, of the machine with the device, `opened`, and of that after it was closed, `mid`.
-pub record IsRunOn (g : Given) (device : List ℕ) (Ends : End → Type 0) (schema : Schema)
+pub record IsRunOn (kind : ScriptKind) (g : Given) (device : List ℕ) (schema : Schema)
     (built : Built) (schema_text equation_text : List ℕ) (specs : List LeafSpec) (head : Head)
     (limit : Limits) (Holds : List LeafMap → Type 0) (old opened mid : Content)
     (played : Result (Unit {0}) Ending) : Type 0 where
@@ -236,25 +239,25 @@ pub record IsRunOn (g : Given) (device : List ℕ) (Ends : End → Type 0) (sche
   pub holds : (blocks : List (List ℕ)) (maps : List LeafMap) → device_at old.now device ≡ Some blocks
       → Reopens schema_text equation_text specs maps blocks → Holds maps
   pub answered : (s : State) (maps : List LeafMap) → Holds maps → AreInternal schema built maps s
-      → IsPlayedAs schema built (Some limit) s
+      → IsPlayedOf (over_play kind schema built (Some limit) s opened.script)
       (λ k. IsSettledIn schema built schema_text equation_text specs mid.now.blocks k
       × (is_fault played ≡ false
       → EachImage (λ image. StoreState schema built head k image.blocks) mid.now))
-      opened.script opened.now.said mid.now.said played
+      opened.now.said mid.now.said played
   pub images : (s : State) (maps : List LeafMap) → Holds maps → AreInternal schema built maps s
-      → LeavesOnly (IsPlayImage schema (StoreState schema built head) answers.Said (start_at s)
-      (script_lines opened.script).lines opened.now) opened mid
+      → LeavesOnly (IsImageOf (over_play kind schema built (Some limit) s opened.script)
+      (StoreState schema built head) opened.now) opened mid
   pub heard : played ≡ Ok tt → mid.script ≡ []
-  pub reads : EndsAs Ends played
+  pub reads : EndsAs (IsEndOfKind kind g.schema old.script) played
   pub stays : StaysOn opened mid
   pub play : IfErr played IsPlayEnding
   pub damage : IfErr played (IsDamageBelow (length mid.now.blocks))
 
-module _ (g : Given) (device : List ℕ) (Ends : End → Type 0) (schema : Schema)
+module _ (kind : ScriptKind) (g : Given) (device : List ℕ) (schema : Schema)
     (built : Built) (schema_text equation_text : List ℕ) (specs : List LeafSpec) (head : Head)
     (limit : Limits) (Holds : List LeafMap → Type 0) (old opened mid : Content)
     (played : Result (Unit {0}) Ending)
-    (r : IsRunOn g device Ends schema built schema_text equation_text specs head limit Holds old
+    (r : IsRunOn kind g device schema built schema_text equation_text specs head limit Holds old
     opened mid played) where
   -- what the blocks of the store hold is held
   state_held : (s : State) (blocks : List (List ℕ)) → StoreState schema built head s blocks
@@ -279,71 +282,82 @@ module _ (g : Given) (device : List ℕ) (Ends : End → Type 0) (schema : Schem
         (subst (λ (x : Schema). AreInternal x built is.0 s) r.schema_is is.2);
   }
 
-  play_held : (s : State) (image : Image)
-      → IsPlayImage schema (StoreState schema built head) answers.Said (start_at s)
-      (script_lines opened.script).lines opened.now image
-      → IsPlayImage schema (HoldState g) answers.Said (start_at s)
-      (script_lines opened.script).lines opened.now image
-  play_held s image is = record {
-    ran = is.ran;
-    later = is.later;
-    parts = is.parts;
-    text = is.text;
-    final = is.final;
-    runs = is.runs;
-    up_to = is.up_to;
-    holds = state_held is.final.kept image.blocks is.holds;
-    shelf = is.shelf;
-  }
-
   -- where it held a state
-  played_on : (start : State) (held : IsHeldOn g device start old)
-      → IsPlayedOn g device start old held opened mid played
-  played_on start held =
-      let maps = held.2.maps in
-      let holds = r.holds held.0 maps held.1
-      (of_under g schema_text equation_text specs r.of (λ t e k. Reopens t e k maps held.0)
-      held.2.reopens) in
-      let internal = subst (λ (x : Schema). AreInternal x built maps start) (sym r.schema_is)
-      (internal_in g built maps start r.trees held.2.internal) in
-      let images = leaves_weaker (IsPlayImage schema (StoreState schema built head) answers.Said
-      (start_at start) (script_lines opened.script).lines opened.now)
-      (IsPlayImage schema (HoldState g) answers.Said (start_at start)
-      (script_lines opened.script).lines opened.now) (play_held start) opened mid
-      (r.images start maps holds internal) in
-      let answered = held_as schema built (Some limit) start
-      (λ k. IsSettledIn schema built schema_text equation_text specs mid.now.blocks k
-      × (is_fault played ≡ false
-      → EachImage (λ image. StoreState schema built head k image.blocks) mid.now))
-      (λ k. SettleState g k mid.now.blocks
-      × (is_fault played ≡ false → EachImage (λ image. HoldState g k image.blocks) mid.now))
-      opened.script opened.now.said mid.now.said played
-      (λ k is. (
-        state_settled k mid.now.blocks is.0,
-        λ calm image at. state_held k image.blocks (is.1 calm image at),
-      )) (r.answered start maps holds internal) in
-      record {
-        built = built;
-        trees = r.trees;
-        opens = r.opens;
-        first = r.first;
-        attaches = r.attaches;
-        answered =
-            subst (λ (l : Limits). IsPlayedAs g.schema built (Some l) start
-            (λ k. SettleState g k mid.now.blocks
-            × (is_fault played ≡ false → EachImage (λ image. HoldState g k image.blocks) mid.now))
-            opened.script opened.now.said mid.now.said played) (r.limit_is held.0 held.1)
-            (subst (λ (x : Schema). IsPlayedAs x built (Some limit) start
-            (λ k. SettleState g k mid.now.blocks
-            × (is_fault played ≡ false → EachImage (λ image. HoldState g k image.blocks) mid.now))
-            opened.script opened.now.said mid.now.said played) r.schema_is answered);
-        images =
-            subst (λ (x : Schema). LeavesOnly (IsPlayImage x (HoldState g) answers.Said
-            (start_at start) (script_lines opened.script).lines opened.now) opened mid) r.schema_is
-            images;
-        heard = r.heard;
-        shelf = r.stays.shelf;
-      }
+  module _ (start : State) (held : IsHeldOn g device start old) where
+    abbrev Plays : Play (Stand kind)
+    Plays = plays_of kind g old.script (limit_of g held.0) start
+
+    abbrev Over : Schema → Limits → List ℕ → Play (Stand kind)
+    Over x l script = over_play kind x built (Some l) start script
+
+    abbrev Kept : State → Type 0
+    Kept k = SettleState g k mid.now.blocks
+        × (is_fault played ≡ false → EachImage (λ image. HoldState g k image.blocks) mid.now)
+
+    abbrev Stored : State → Type 0
+    Stored k = IsSettledIn schema built schema_text equation_text specs mid.now.blocks k
+        × (is_fault played ≡ false
+        → EachImage (λ image. StoreState schema built head k image.blocks) mid.now)
+
+    fine : IsFiner (Over g.schema (limit_of g held.0) old.script) Plays
+    fine = finer kind g built (limit_of g held.0) start old.script r.trees
+
+    holds : Holds held.2.maps
+    holds = r.holds held.0 held.2.maps held.1
+        (of_under g schema_text equation_text specs r.of (λ t e k. Reopens t e k held.2.maps held.0)
+        held.2.reopens)
+
+    internal : AreInternal schema built held.2.maps start
+    internal = subst (λ (x : Schema). AreInternal x built held.2.maps start) (sym r.schema_is)
+        (internal_in g built held.2.maps start r.trees held.2.internal)
+
+    -- the play over the leaves is that of the request
+    same_over : Over schema limit opened.script ≡ Over g.schema (limit_of g held.0) old.script
+    same_over = λ i. Over (r.schema_is i) (r.limit_is held.0 held.1 i) (r.attaches.script i)
+
+    answered : IsPlayedOf Plays Kept opened.now.said mid.now.said played
+    answered =
+        played_finer (Over g.schema (limit_of g held.0) old.script) Plays fine Stored Kept
+        (λ k is. (
+          state_settled k mid.now.blocks is.0,
+          λ calm image at. state_held k image.blocks (is.1 calm image at),
+        )) opened.now.said mid.now.said played
+        (subst (λ (p : Play (Stand kind)). IsPlayedOf p Stored opened.now.said mid.now.said played)
+        same_over (r.answered start held.2.maps holds internal))
+
+    image_held : (image : Image)
+        → IsImageOf (Over g.schema (limit_of g held.0) old.script) (StoreState schema built head)
+        opened.now image
+        → IsImageOf Plays (HoldState g) opened.now image
+    image_held image is = record {
+      told = is.told;
+      final = is.final;
+      front = fine.front is.told is.final is.front;
+      said = is.said;
+      holds = subst (λ (k : State). HoldState g k image.blocks) (fine.kept is.final)
+          (state_held _ image.blocks is.holds);
+      shelf = is.shelf;
+    }
+
+    images : LeavesOnly (IsImageOf Plays (HoldState g) opened.now) opened mid
+    images =
+        leaves_weaker (IsImageOf (Over g.schema (limit_of g held.0) old.script)
+        (StoreState schema built head) opened.now) (IsImageOf Plays (HoldState g) opened.now)
+        image_held opened mid
+        (subst (λ (p : Play (Stand kind)). LeavesOnly (IsImageOf p (StoreState schema built head)
+        opened.now) opened mid) same_over (r.images start held.2.maps holds internal))
+
+    played_on : IsPlayedOn Plays g device start old held
+        (lawful kind g old.script (limit_of g held.0) start) opened mid played
+    played_on = record {
+      opens = r.opens;
+      first = r.first;
+      attaches = r.attaches;
+      answered = answered;
+      images = images;
+      heard = r.heard;
+      shelf = r.stays.shelf;
+    }
 
   -- it was one that is asked for
   right : OfBlocks device old (under g AreOpened)
@@ -375,12 +389,14 @@ module _ (g : Given) (device : List ℕ) (Ends : End → Type 0) (schema : Schem
 
   pub run_opened : (new : Content) (s : Status) → SameDevices mid new
       → IsFinished played mid new s → FinishesThrough played mid new
-      → RunsOn g device (script_play g old.script) Ends old new s
+      → RunsAs kind g device old new s
   run_opened new s same finished moments = record {
     wrong = λ why w. absurd (opened_right g device old why right w);
-    held = λ start held. run_kept g device start old held opened mid new played s
+    held = λ start held. run_kept (Plays start held) g device start old held
+        (lawful kind g old.script (limit_of g held.0) start) opened mid new played s
         (played_on start held) same finished moments r.play;
-    unheld = λ none. unheld_kept g device Ends old mid new s begins played r.play
+    unheld = λ none. unheld_kept g device (IsEndOfKind kind g.schema old.script) old mid new s begins
+        played r.play
         (λ block is. damage_line block
         (subst (λ (q : Result (Unit {0}) Ending). IfErr q (IsDamageBelow (length mid.now.blocks))) is
         r.damage)) r.reads r.heard finished;

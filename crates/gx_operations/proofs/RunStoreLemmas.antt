@@ -1,11 +1,11 @@
 -- A script that is played on a store: what a crash leaves, and what the play keeps.
-use Rattle.std.proofs.Common.{◌≡◌, ℕ, Bool, false, List, length, Option, Result, Err, subst}
+use Rattle.std.proofs.Common.{◌≡◌, ℕ, Bool, false, List, length, Result, Err, subst}
 use Rattle.gx_device.specs.declared.device.Device as device
 use Rattle.gx_device.specs.Crash.{EachImage, LeavesOnly}
 use Rattle.gx_ports.specs.declared.pages.Place.{Place}
 use Rattle.gx_ports.specs.declared.view.View.{Ghosts}
 use Rattle.gx_ports.specs.Heads.{Head}
-use Rattle.gx_ports.specs.LeafMaps.{LeafMap, Limits}
+use Rattle.gx_ports.specs.LeafMaps.{LeafMap}
 use Rattle.gx_schema.specs.declared.schema.Schema.{Schema}
 use Rattle.gx_journal.specs.declared.journal.Journal.{Journal}
 use Rattle.gx_journal.specs.Journal.{IsCalm, content_of, device_of}
@@ -16,19 +16,17 @@ use Rattle.gx_leaves.specs.Places.{places_of, specs_of}
 use Rattle.gx_leaves.specs.Wholeness.{AreWhole, IsLaid, StandsFor, maps_of}
 use Rattle.gx_types.specs.declared.built.Built.{Built}
 use Rattle.gx_model.specs.States.{State}
-use Rattle.gx_model.specs.Play.{start_at}
 use Rattle.gx_states.specs.Internal.{AreInternal}
 use Rattle.gx_engine.specs.Crashes.{HoldsState}
 use Rattle.gx_play.specs.declared.ending.Ending.{Ending}
-use Rattle.gx_play.specs.declared.play.Answers.TheVariants as answers
 use Rattle.gx_play.specs.Endings.{is_outside, is_fault}
-use Rattle.gx_play.specs.Images.{IsPlayImage, LeavesPlay}
-use Rattle.gx_play.specs.Plays.{IsPlayedAs}
-use Rattle.gx_play.proofs.OverLemmas.{held_as}
+use Rattle.gx_play.specs.Overs.{IsPlayedOf, IsImageOf, LeavesPlayOf}
+use Rattle.gx_play.specs.Player.{Play}
 use Rattle.gx_operations.specs.Damage.{IsDamageOf}
 use Rattle.gx_operations.specs.Held.{StoreState}
 use Rattle.gx_operations.proofs.CrashLemmas.{leaves_weaker}
 use Rattle.gx_operations.proofs.DamageLemmas.{damage_kept}
+use Rattle.gx_operations.proofs.PlayerLemmas.{same_play, played_finer}
 
 -- ---- images
 
@@ -57,28 +55,23 @@ module _ {D : Type 0} {g : device.Ghosts D} where
       }
 
 -- what a crash leaves while it is played, in the words of blocks
-pub play_leaves : {S : Type 0} (g : Ghosts S) (schema : Schema) (built : Built) (s : State)
-    (lines : List (List ℕ)) (failed : Bool) (old new : S)
+pub play_leaves : {S M : Type 0} (g : Ghosts S) (schema : Schema) (built : Built) (p : Play M)
+    (failed : Bool) (old new : S)
     → ((head : Head) (maps : List LeafMap) (blocks : List (List ℕ)) → g.stands head maps blocks
     → StandsFor PagesStandFor head maps blocks)
     → ((head : Head) (blocks : List (List ℕ)) → g.laid head blocks
     → IsLaid PagesStandFor head blocks)
-    → LeavesPlay g schema built answers.Said (start_at s) lines failed old new
-    → LeavesOnly (IsPlayImage schema (StoreState schema built (g.head old)) answers.Said (start_at s)
-    lines (g.content old).now) (g.content old) (g.content new)
-play_leaves g schema built s lines failed old new stands laid leaves =
-    leaves_weaker (IsPlayImage schema (HoldsState g schema built (g.head old)) answers.Said
-    (start_at s) lines (g.content old).now)
-    (IsPlayImage schema (StoreState schema built (g.head old)) answers.Said (start_at s) lines
-    (g.content old).now)
+    → LeavesPlayOf g schema built p failed old new
+    → LeavesOnly (IsImageOf p (StoreState schema built (g.head old)) (g.content old).now)
+    (g.content old) (g.content new)
+play_leaves g schema built p failed old new stands laid leaves =
+    leaves_weaker (IsImageOf p (HoldsState g schema built (g.head old)) (g.content old).now)
+    (IsImageOf p (StoreState schema built (g.head old)) (g.content old).now)
     (λ image is. record {
-      ran = is.ran;
-      later = is.later;
-      parts = is.parts;
-      text = is.text;
+      told = is.told;
       final = is.final;
-      runs = is.runs;
-      up_to = is.up_to;
+      front = is.front;
+      said = is.said;
       holds = record {
         maps = is.holds.maps;
         internal = is.holds.internal;
@@ -91,37 +84,30 @@ play_leaves g schema built s lines failed old new stands laid leaves =
 -- ---- damage
 
 -- where it began with a state no damage was found, so the block of it changes nothing
-pub damage_played : (schema : Schema) (built : Built) (limit : Option Limits) (start : State)
-    (Settled Stored : State → Type 0) (script before now : List ℕ) (why other : Ending)
-    → IsDamageOf why other
-    → IsPlayedAs schema built limit start
-    (λ k. Settled k × (is_outside why ≡ false → Stored k)) script before now (Err why)
-    → IsPlayedAs schema built limit start
-    (λ k. Settled k × (is_outside other ≡ false → Stored k)) script before now (Err other)
-damage_played schema built limit start Settled Stored script before now why other of is =
-    damage_kept (λ w. IsPlayedAs schema built limit start
-    (λ k. Settled k × (is_outside w ≡ false → Stored k)) script before now (Err w))
-    (λ block to found. found) why other of is
+damage_played : {M : Type 0} (p : Play M) (Settled Stored : State → Type 0)
+    (before now : List ℕ) (why other : Ending) → IsDamageOf why other
+    → IsPlayedOf p (λ k. Settled k × (is_outside why ≡ false → Stored k)) before now (Err why)
+    → IsPlayedOf p (λ k. Settled k × (is_outside other ≡ false → Stored k)) before now (Err other)
+damage_played p Settled Stored before now why other of is =
+    damage_kept (λ w. IsPlayedOf p (λ k. Settled k × (is_outside w ≡ false → Stored k)) before now
+    (Err w)) (λ block to found. found) why other of is
 
 -- ---- the end
 
 -- What the play of a script over a store answered, after it was closed: `Settled` and, where no call
 -- failed, `Stored` hold of the state that it keeps.
-module _ (schema : Schema) (built : Built) (limit : Option Limits) (start : State)
-    (Kept Settled Stored : State → Type 0) (script before now : List ℕ)
-    (played : Result (Unit {0}) Ending)
-    (is : IsPlayedAs schema built limit start Kept script before now played)
+module _ {M : Type 0} (p : Play M) (Kept Settled Stored : State → Type 0)
+    (before now : List ℕ) (played : Result (Unit {0}) Ending)
+    (is : IsPlayedOf p Kept before now played)
     (settle : (k : State) → Kept k → Settled k)
     (images : is_fault played ≡ false → (k : State) → Kept k → Stored k) where
   abbrev pub After : Result (Unit {0}) Ending → Type 0
-  After r = IsPlayedAs schema built limit start
-      (λ k. Settled k × (is_fault r ≡ false → Stored k)) script before now r
+  After r = IsPlayedOf p (λ k. Settled k × (is_fault r ≡ false → Stored k)) before now r
 
   after : After played
   after =
-      held_as schema built limit start Kept
-      (λ k. Settled k × (is_fault played ≡ false → Stored k)) script before now played
-      (λ k kept. (settle k kept, λ calm. images calm k kept)) is
+      played_finer p p (same_play p) Kept (λ k. Settled k × (is_fault played ≡ false → Stored k))
+      (λ k kept. (settle k kept, λ calm. images calm k kept)) before now played is
 
   pub store_played : (r : Result (Unit {0}) Ending) → played ≡ r → After r
   store_played r same = subst After same after
@@ -129,5 +115,4 @@ module _ (schema : Schema) (built : Built) (limit : Option Limits) (start : Stat
   pub store_stopped : (why other : Ending) → played ≡ Err why → IsDamageOf why other
       → After (Err other)
   store_stopped why other same of =
-      damage_played schema built limit start Settled Stored script before now why other of
-      (subst After same after)
+      damage_played p Settled Stored before now why other of (subst After same after)

@@ -1,28 +1,20 @@
 -- What was said of a request that ends with a line, and of a script that was played before.
-use Rattle.std.proofs.Common.{◌≡◌, ℕ, List, [], ◌∷◌, ◌++◌, take, Result, Ok, Err, Option, Some, None, refl, sym, subst, ap, ◌∙◌, inl, inr, append_assoc}
+use Rattle.std.proofs.Common.{◌≡◌, ℕ, List, [], ◌++◌, take, Result, Ok, Err, refl, sym, subst, ap, ◌∙◌, inl, inr, append_assoc}
 use Rattle.std.specs.Prelude.{◌⊎◌, ◌≢◌, IfErr}
 use Rattle.std.proofs.lemmas.List.{append-nil}
 use Rattle.gx_device.specs.Content.{Content}
-use Rattle.gx_ports.specs.LeafMaps.{Limits}
-use Rattle.gx_schema.specs.declared.schema.Schema.{Schema}
-use Rattle.gx_commands.specs.declared.command.LineWhy.{LineWhy}
-use Rattle.gx_commands.specs.Lines.{Lines, script_lines}
-use Rattle.gx_equation.specs.Trees.{DefinitionTree}
-use Rattle.gx_types.specs.declared.built.Built.{Built}
 use Rattle.gx_model.specs.States.{State}
-use Rattle.gx_model.specs.Play.{Playing, End, good, stopped, start_at}
-use Rattle.gx_model.specs.Languages.{AreFirstLines}
-use Rattle.gx_play.proofs.AskedLemmas.{play_once}
+use Rattle.gx_model.specs.Play.{stopped}
 use Rattle.gx_play.specs.declared.ending.Ending.{Ending}
 use Rattle.gx_play.specs.declared.ending.Ending.TheVariants as ending
 use Rattle.gx_play.specs.declared.status.Status.{Status}
 use Rattle.gx_play.specs.declared.status.Status.TheVariants as status
 use Rattle.gx_play.specs.Endings.{ending_line, status_of, memory_line, IsStatusFor, IsEnded, IsFinished, IsPlayEnding}
 use Rattle.gx_play.specs.Say.{IsCut}
-use Rattle.gx_play.specs.Played.{IsPlay, MayBeFull, MayBeFullAt}
-use Rattle.gx_play.specs.Plays.{IsPlayedFront, IsPlayedAs}
-use Rattle.gx_play.specs.Player.{Play, EndsWith, IsDueOf, IsSaidFront, line_play}
+use Rattle.gx_play.specs.Overs.{IsPlayedOf, SaysFrontOf}
+use Rattle.gx_play.specs.Player.{Play, EndsWith, IsDueOf}
 use Rattle.gx_operations.specs.Promises.{Promise, IsKept, IsSaid, SaysBoth, SaysPart, SaysBroken}
+use Rattle.gx_operations.proofs.PlayerLemmas.{IsLawful}
 
 -- ---- one line
 
@@ -143,121 +135,45 @@ heard_all mid new s (Err why) ends all e is =
     never_memory : status.Done ≡ status.Memory → ⊥
     never_memory f = cc
 
--- what was said where a call failed amid the play
-pub record IsBrokenOff (schema : Schema) (start : State) (script before now : List ℕ)
-    (m : Playing) : Type 0 where
-  pub told : List ℕ
-  pub front : IsSaidFront schema start script told m
-  pub said : now ≡ before ++ told
-
-pub broken_off : (schema : Schema) (start : State) (Holds : State → Type 0)
-    (script before now : List ℕ) (front : IsPlayedFront schema start Holds script before now)
-    → IsBrokenOff schema start script before now front.first.final
-broken_off schema start Holds script before now front = record {
-  told = front.up_to.whole ++ take front.up_to.count front.up_to.cut;
-  front = record {
-    ran = front.first.ran;
-    later = front.first.later;
-    parts = front.first.parts;
-    answers = front.answers;
-    runs = front.first.runs;
-    up_to = record {
-      first = front.up_to.first;
-      last = front.up_to.last;
-      one = front.up_to.one;
-      ran_are = front.up_to.ran_are;
-      whole = front.up_to.whole;
-      cut = front.up_to.cut;
-      text_is = front.up_to.text_is;
-      middle = front.up_to.middle;
-      runs = front.up_to.runs;
-      count = front.up_to.count;
-      said = refl;
-    };
-  };
-  said = front.up_to.said;
-}
-
--- the answers of a play are those of the first lines that ran
-pub first_parts : (all : Lines) (ran : List (List ℕ)) (next : Result (Option (List ℕ)) LineWhy)
-    → AreFirstLines all ran next → (later : List (List ℕ)) × (all.lines ≡ ran ++ later)
-first_parts all ran (Ok (Some line)) first = (line ∷ first.0, first.1)
-first_parts all ran (Ok None) first = ([], first.0 ∙ sym (append-nil ran))
-first_parts all ran (Err why) first = ([], first.0 ∙ sym (append-nil ran))
-
-module _ (schema : Schema) (ds : List DefinitionTree) (built : Built) (limit : Option Limits)
-    (start : State) (script : List ℕ) (Holds : State → Type 0)
-    (full : (answers : List ℕ) (final : Playing)
-    → MayBeFullAt schema built limit start script answers final
-    → MayBeFull schema ds limit start script answers final) where
-  abbrev P : Play Playing
-  P = line_play schema ds limit start script
-
+-- A play's answers, and the line of its end behind them.
+module _ {M : Type 0} (P : Play M) (start : State) (law : IsLawful P start)
+    (Holds : State → Type 0) where
   -- the answers that stand whole, and what may stand behind them
   pub record Answers (before mid : List ℕ) (s : Status) (line : List ℕ) : Type 0 where
     pub answers : List ℕ
-    pub final : Playing
+    pub final : M
     pub said : mid ≡ before ++ answers
     pub ends : EndsWith P s answers final line
     pub memory : EndsWith P status.Memory answers final memory_line
-    pub holds : Holds final.kept
-
-  out_first : (answers : List ℕ) (final : Playing) (end : End)
-      → IsPlay schema start script answers final end
-      → EndsWith P status.Memory answers final memory_line
-  out_first answers final end play = (
-    record {
-      first = record {
-        ran = play.ran;
-        later = (first_parts (script_lines script) play.ran play.next play.first).0;
-        parts = (first_parts (script_lines script) play.ran play.next play.first).1;
-        final = final;
-        runs = play.runs;
-      };
-      is = refl;
-    },
-    refl,
-  )
+    pub holds : Holds (P.kept final)
 
   -- how the play ended, before the line of the end was said
   pub answers_of : (before mid : List ℕ) (why : Ending)
-      → IsPlayedAs schema built limit start Holds script before mid (Err why)
+      → IsPlayedOf P Holds before mid (Err why)
       → Answers before mid (status_of why) (ending_line why)
-      ⊎ ((why ≡ ending.Fault) × IsPlayedFront schema start Holds script before mid)
+      ⊎ ((why ≡ ending.Fault) × SaysFrontOf P Holds before mid)
   answers_of before mid (ending.Line number why) out = inl (record {
     answers = out.answers;
     final = out.final;
     said = out.said;
-    ends = (number, why, out.play, refl);
-    memory = out_first out.answers out.final (stopped number why) out.play;
+    ends = (number, why, out.stands, refl);
+    memory = (law.ends_first (stopped number why) out.answers out.final out.stands, refl);
     holds = out.holds;
   })
   answers_of before mid ending.NoMemory out = inl (record {
     answers = out.answers;
-    final = out.first.final;
+    final = out.final;
     said = out.said;
-    ends = (record { first = out.first; is = refl }, refl);
-    memory = (record { first = out.first; is = refl }, refl);
+    ends = (out.stands, refl);
+    memory = (out.stands, refl);
     holds = out.holds;
   })
   answers_of before mid ending.Full out = inl (record {
     answers = out.answers;
     final = out.final;
     said = out.said;
-    ends = (full out.answers out.final out.full, refl);
-    memory = (
-      record {
-        first = record {
-          ran = out.full.ran;
-          later = out.full.later;
-          parts = out.full.parts;
-          final = out.final;
-          runs = out.full.runs;
-        };
-        is = refl;
-      },
-      refl,
-    );
+    ends = (out.stands, refl);
+    memory = (law.full_first out.answers out.final out.stands, refl);
     holds = out.holds;
   })
   answers_of before mid ending.Fault out = inr (refl, out)
@@ -272,41 +188,29 @@ module _ (schema : Schema) (ds : List DefinitionTree) (built : Built) (limit : O
   answers_of before mid (ending.Device wrong) out = absurd out
   answers_of before mid (ending.Made blocks pages) out = absurd out
 
-  -- a script has one end
-  not_both : (a b : List ℕ) (m k : Playing) (number : ℕ) (why : LineWhy)
-      → IsPlay schema start script a m good → IsPlay schema start script b k (stopped number why) → ⊥
-  not_both a b m k number why x y =
-      let same : ◌≡◌ {A = End} good (stopped number why) =
-      (play_once schema (start_at start) (script_lines script) a b m k good (stopped number why) x
-      y).2 in
-      differ same
-    where
-      differ : ◌≡◌ {A = End} good (stopped number why) → ⊥
-      differ e = cc
-
-  due_done : (s : Status) (answers line : List ℕ) (m : Playing) → EndsWith P s answers m line
+  due_done : (s : Status) (answers line : List ℕ) (m : M) → EndsWith P s answers m line
       → IsDueOf P status.Done → s ≢ status.Outside → (s ≡ status.Done) ⊎ (s ≡ status.Memory)
   due_done status.Done answers line m ends due out = inl refl
   due_done status.Memory answers line m ends due out = inr refl
   due_done status.Script answers line m ends due out =
-      absurd (not_both due.1 answers due.2 m ends.0 ends.1 due.3 ends.2)
+      absurd (law.one_end due.1 answers due.2 m ends.0 ends.1 due.3 ends.2)
   due_done status.Full answers line m ends due out = absurd (due.0 answers m ends.0)
   due_done status.Refused answers line m ends due out = absurd ends
   due_done status.Device answers line m ends due out = absurd ends
   due_done status.Outside answers line m ends due out = absurd (out refl)
 
-  due_script : (s : Status) (answers line : List ℕ) (m : Playing) → EndsWith P s answers m line
+  due_script : (s : Status) (answers line : List ℕ) (m : M) → EndsWith P s answers m line
       → IsDueOf P status.Script → s ≢ status.Outside → (s ≡ status.Script) ⊎ (s ≡ status.Memory)
   due_script status.Script answers line m ends due out = inl refl
   due_script status.Memory answers line m ends due out = inr refl
   due_script status.Done answers line m ends due out =
-      absurd (not_both answers due.3 m due.4 due.1 due.2 ends.0 due.5)
+      absurd (law.one_end answers due.3 m due.4 due.1 due.2 ends.0 due.5)
   due_script status.Full answers line m ends due out = absurd (due.0 answers m ends.0)
   due_script status.Refused answers line m ends due out = absurd ends
   due_script status.Device answers line m ends due out = absurd ends
   due_script status.Outside answers line m ends due out = absurd (out refl)
 
-  pub due_play : (s d : Status) (answers line : List ℕ) (m : Playing) → EndsWith P s answers m line
+  pub due_play : (s d : Status) (answers line : List ℕ) (m : M) → EndsWith P s answers m line
       → IsDueOf P d → s ≢ status.Outside → (s ≡ d) ⊎ (s ≡ status.Memory)
   due_play s status.Done answers line m ends due out = due_done s answers line m ends due out
   due_play s status.Script answers line m ends due out = due_script s answers line m ends due out
@@ -318,19 +222,19 @@ module _ (schema : Schema) (ds : List DefinitionTree) (built : Built) (limit : O
 
   -- a promise of the play, said with the line of its end
   module _ (p : Promise) (old mid new : Content)
-      (says : (s : Status) (answers line : List ℕ) (m : Playing) → EndsWith P s answers m line
-      → Holds m.kept → p.Says s answers line new)
+      (says : (s : Status) (answers line : List ℕ) (m : M) → EndsWith P s answers m line
+      → Holds (P.kept m) → p.Says s answers line new)
       (due : (d : Status) → p.Due d → IsDueOf P d) where
     pub finished_said : (played : Result (Unit {0}) Ending) (s : Status)
-        → IsPlayedAs schema built limit start Holds script old.now.said mid.now.said played
-        → (IsPlayedFront schema start Holds script old.now.said new.now.said → SaysBroken p old new)
+        → IsPlayedOf P Holds old.now.said mid.now.said played
+        → (SaysFrontOf P Holds old.now.said new.now.said → SaysBroken p old new)
         → IsFinished played mid new s → IsSaid p old new s
     finished_said (Ok x) s out broken (done, same) =
         said_by p old new s (λ other. record {
           whole = out.answers;
           last = [];
           says = says s out.answers [] out.final
-              (subst (λ k. EndsWith P k out.answers out.final []) (sym done) (out.play, refl))
+              (subst (λ k. EndsWith P k out.answers out.final []) (sym done) (out.stands, refl))
               out.holds;
           said = ap (λ (c : Content). c.now.said) same ∙ out.said
               ∙ ap (λ t. old.now.said ++ t) (sym (append-nil out.answers));
@@ -341,8 +245,7 @@ module _ (schema : Schema) (ds : List DefinitionTree) (built : Built) (limit : O
     finished_said (Err why) s out broken e = by_answers (answers_of old.now.said mid.now.said why out)
       where
         by_answers : Answers old.now.said mid.now.said (status_of why) (ending_line why)
-            ⊎ ((why ≡ ending.Fault) × IsPlayedFront schema start Holds script old.now.said
-            mid.now.said) → IsSaid p old new s
+            ⊎ ((why ≡ ending.Fault) × SaysFrontOf P Holds old.now.said mid.now.said) → IsSaid p old new s
         by_answers (inl a) =
             line_said p why old mid new a.answers a.said
             (says (status_of why) a.answers (ending_line why) a.final a.ends a.holds)
@@ -350,21 +253,20 @@ module _ (schema : Schema) (ds : List DefinitionTree) (built : Built) (limit : O
         by_answers (inr (fault, front)) =
             said_by p old new s (λ other. absurd (other (e.due.fault fault)))
             (λ is. inr (broken
-            (subst (λ t. IsPlayedFront schema start Holds script old.now.said t)
+            (subst (λ t. SaysFrontOf P Holds old.now.said t)
             (sym (e.words.silent fault)) front)))
 
     pub finished_due : (played : Result (Unit {0}) Ending) (s : Status)
-        → IsPlayedAs schema built limit start Holds script old.now.said mid.now.said played
+        → IsPlayedOf P Holds old.now.said mid.now.said played
         → IsFinished played mid new s → (d : Status) → p.Due d → s ≢ status.Outside
         → (s ≡ d) ⊎ (s ≡ status.Memory)
     finished_due (Ok x) s out (done, same) d is firm =
         due_play s d out.answers [] out.final
-        (subst (λ k. EndsWith P k out.answers out.final []) (sym done) (out.play, refl)) (due d is) firm
+        (subst (λ k. EndsWith P k out.answers out.final []) (sym done) (out.stands, refl)) (due d is) firm
     finished_due (Err why) s out e d is firm = by_answers (answers_of old.now.said mid.now.said why out)
       where
         by_answers : Answers old.now.said mid.now.said (status_of why) (ending_line why)
-            ⊎ ((why ≡ ending.Fault) × IsPlayedFront schema start Holds script old.now.said
-            mid.now.said) → (s ≡ d) ⊎ (s ≡ status.Memory)
+            ⊎ ((why ≡ ending.Fault) × SaysFrontOf P Holds old.now.said mid.now.said) → (s ≡ d) ⊎ (s ≡ status.Memory)
         by_answers (inl a) =
             by_memory s (λ is. inr is) (λ other. due_play s d a.answers (ending_line why) a.final
             (subst (λ k. EndsWith P k a.answers a.final (ending_line why))

@@ -14,6 +14,7 @@ pub mod Tries
 pub mod Explains
 pub mod Makes
 pub mod Runs
+pub mod Kinds
 pub mod Inspects
 pub mod Works
 pub mod Refuses

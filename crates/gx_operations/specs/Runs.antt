@@ -1,4 +1,5 @@
--- `run`: the play of the script on a device, from the state that it holds. Any play serves.
+-- `run` and `share`: the play of the script on a device, from the state that it holds. Any play
+-- serves.
 use Rattle.std.specs.Prelude.{◌≡◌, ◌⊎◌, ℕ, List, [], ◌++◌, take, Some}
 use Rattle.gx_device.specs.Content.{Content}
 use Rattle.gx_device.specs.Crash.{Image}
@@ -6,6 +7,8 @@ use Rattle.gx_ports.specs.LeafMaps.{Limits}
 use Rattle.gx_commands.specs.declared.command.LineWhy.{LineWhy}
 use Rattle.gx_model.specs.Play.{Playing, End, good, stopped, end_text}
 use Rattle.gx_model.specs.States.{State}
+use Rattle.gx_sharing.specs.Sharing.{Sharing}
+use Rattle.gx_shares.specs.Player.{share_play}
 use Rattle.gx_play.specs.declared.ending.DeviceWhy.{DeviceWhy}
 use Rattle.gx_play.specs.declared.status.Status.{Status}
 use Rattle.gx_play.specs.declared.status.Status.TheVariants as status
@@ -81,6 +84,9 @@ pub record RunsOn {M : Type 0} (g : Given) (device : List ℕ) (plays : Limits �
       → IsKept (runs_from g device start (plays (limit_of g is.0) start) old) old new s
   pub unheld : IsStateless g device old → IsKept (runs_unheld device Ends old) old new s
 
--- the lines of the script
+-- the lines of the script, and its turns
 abbrev pub script_play : Given → List ℕ → Limits → State → Play Playing
 script_play g script limit start = line_play g.schema g.definitions (Some limit) start script
+
+abbrev pub turns_play : Given → List ℕ → Limits → State → Play Sharing
+turns_play g script limit start = share_play g.schema g.definitions (Some limit) start script

@@ -3,7 +3,6 @@ ghost use Rattle.std.specs.Prelude.{◌≡◌, ℕ, List, [], Ok, Err, Some, fal
 ghost use Rattle.gx_device.specs.Crash.{EachImage, LeavesOnly};
 ghost use Rattle.gx_ports.specs.LeafMaps.{LeafMap};
 ghost use Rattle.gx_schema.specs.WellFormed.{IsWellFormed};
-ghost use Rattle.gx_commands.specs.Lines.{script_lines};
 ghost use Rattle.gx_leaves.specs.Wholeness.{limits_of};
 ghost use Rattle.gx_leaves.specs.Paged.{pages_of, places_in, working_of, head_of};
 ghost use Rattle.gx_leaves.specs.Places.{specs_of};
@@ -13,23 +12,21 @@ ghost use Rattle.gx_pages.specs.View.{journal_of};
 ghost use Rattle.gx_store.specs.Device.{IsHeadOf};
 ghost use Rattle.gx_store.specs.Store.{CanAttach, HoldsMaps, machine_of};
 ghost use Rattle.gx_model.specs.States.{State};
-ghost use Rattle.gx_model.specs.Play.{start_at};
 ghost use Rattle.gx_states.specs.Internal.{AreInternal, AreFor};
-ghost use Rattle.gx_play.specs.ScriptEnds.{IsScriptEnd};
 ghost use Rattle.gx_play.specs.Readings.{EndsAs};
 ghost use Rattle.gx_play.specs.Endings.{IsPlayEnding, CountsFault, CountsOutside, is_fault};
-ghost use Rattle.gx_play.specs.Images.{IsPlayImage};
-ghost use Rattle.gx_play.specs.Plays.{IsPlayedAs};
+ghost use Rattle.gx_play.specs.Overs.{IsPlayedOf, IsImageOf};
 ghost use Rattle.gx_requests.specs.Checked.{IsStored};
 ghost use Rattle.gx_operations.specs.Damage.{IsDamageBelow};
 ghost use Rattle.gx_operations.specs.Given.{Given, IsStoredAs, KeepsOthers};
 ghost use Rattle.gx_operations.specs.Held.{StoreState, StaysOn};
-ghost use Rattle.gx_operations.specs.Runs.{RunsOn, script_play};
+ghost use Rattle.gx_operations.specs.Kinds.{RunsAs, IsEndOfKind, over_play};
 ghost use Rattle.gx_operations.specs.Settled.{IsSettledIn};
 
 use crate::damage::damage_on;
+use crate::kinds::{ScriptKind, play_as};
 use gx_device::Machine;
-use gx_play::{Answers, Ending, Status, end, finish, play_over};
+use gx_play::{Ending, Status, end, finish};
 use gx_requests::{Stored, unopened_ending};
 use gx_schema::Schema;
 use gx_store::{Store, close, open};
@@ -44,18 +41,18 @@ use std::alloc::Global;
 /// could have left when the device was attached. A device that is wrong stays as it was, but that
 /// recovery may have settled one of other texts. On one that holds no state damage is told in a
 /// block that it has, and `Done` and `Script` come where the script ends so by its lines alone.
-/// None is made, and the texts and devices of other names stay.
+/// None is made, and the texts and devices of other names stay. The kind tells whether the lines of
+/// the script are commands and paths, or turns of sessions.
 pub fn run<M: Machine + Drop>(
     alloc: Global,
+    kind: ScriptKind,
     stored: Stored,
     device: &str,
     machine: M,
 ) -> (Status, M)
     requires { IsStored stored }
     ensures promised { CanAttach M.tells (M.content machine) → (g : Given) → IsStoredAs g stored →
-        RunsOn g device.now (script_play g (M.content machine).script)
-        (IsScriptEnd g.schema (M.content machine).script) (M.content machine) (M.content result.1)
-        result.0 }
+        RunsAs kind g device.now (M.content machine) (M.content result.1) result.0 }
     ensures keeps { CanAttach M.tells (M.content machine) →
         KeepsOthers device.now (M.content machine) (M.content result.1) }
     ensures failures { CountsOutside (M.faults machine) (M.faults result.1) result.0 }
@@ -75,7 +72,7 @@ pub fn run<M: Machine + Drop>(
         &built.specs.0,
     ) {
         Ok(store) => {
-            let (played, mut machine) = play_stored(alloc, schema, built, store);
+            let (played, mut machine) = play_stored(alloc, kind, schema, built, store);
             let status = finish(alloc, played, &mut machine);
             (status, machine)
         }
@@ -90,6 +87,7 @@ pub fn run<M: Machine + Drop>(
 // settled with the last one that was kept, and the answers are those of the play.
 fn play_stored<'a, M: Machine + Drop>(
     alloc: Global,
+    kind: ScriptKind,
     schema: Schema,
     built: Built,
     store: Store<M>,
@@ -100,29 +98,30 @@ fn play_stored<'a, M: Machine + Drop>(
         HoldsMaps maps store → AreInternal schema built maps s → (texts : List ℕ × List ℕ) →
         IsHeadOf texts.0 texts.1 (specs_of (places_in store)) (head_of store) →
         IsCalm (journal_of (pages_of store)) (content_of (journal_of (pages_of store))) →
-        IsPlayedAs schema built
+        IsPlayedOf (over_play kind schema built
         (Some (limits_of (ground_of (journal_of (pages_of store))) (places_in store))) s
+        (M.content (machine_of store)).script)
         (λ k. IsSettledIn schema built texts.0 texts.1 (specs_of (places_in store))
         (M.content result.1).now.blocks k × (is_fault result.0 ≡ false → EachImage
         (λ image. StoreState schema built (head_of store) k image.blocks) (M.content result.1).now))
-        (M.content (machine_of store)).script (M.content (machine_of store)).now.said
-        (M.content result.1).now.said result.0 }
+        (M.content (machine_of store)).now.said (M.content result.1).now.said result.0 }
     ensures crash { IsTrue M.tells → (s : State) (maps : List LeafMap) → HoldsMaps maps store →
         AreInternal schema built maps s →
         IsCalm (journal_of (pages_of store)) (content_of (journal_of (pages_of store))) →
-        LeavesOnly (IsPlayImage schema (StoreState schema built (head_of store)) Answers.Said
-        (start_at s) (script_lines (M.content (machine_of store)).script).lines
+        LeavesOnly (IsImageOf (over_play kind schema built
+        (Some (limits_of (ground_of (journal_of (pages_of store))) (places_in store))) s
+        (M.content (machine_of store)).script) (StoreState schema built (head_of store))
         (M.content (machine_of store)).now) (M.content (machine_of store)) (M.content result.1) }
     ensures heard { IsTrue M.tells → result.0 ≡ Ok tt → (M.content result.1).script ≡ [] }
     ensures reads { IsTrue M.tells →
-        EndsAs (IsScriptEnd schema (M.content (machine_of store)).script) result.0 }
+        EndsAs (IsEndOfKind kind schema (M.content (machine_of store)).script) result.0 }
     ensures stays { IsTrue M.tells → StaysOn (M.content (machine_of store)) (M.content result.1) }
     ensures ending { IfErr result.0 IsPlayEnding }
     ensures damage { IsTrue M.tells →
         IfErr result.0 (IsDamageBelow (length (M.content result.1).now.blocks)) }
     ensures failures { CountsFault (M.faults (machine_of store)) (M.faults result.1) result.0 }
 {
-    let (played, store) = play_over(alloc, schema, built, store);
+    let (played, store) = play_as(alloc, kind, schema, built, store);
     let machine = close(store);
     match played {
         Ok(()) => (Ok(()), machine),

@@ -7,7 +7,7 @@ use Rattle.gx_device.specs.Content.{Texts}
 use Rattle.gx_tokens.specs.declared.why.Unread.{Unread}
 use Rattle.gx_schema.specs.declared.schema.Schema.{Schema}
 use Rattle.gx_requests.specs.Requests.{IsText, IsThere, IsTooLong, IsSchemaOf, IsEither, IsNamed, IsAsked, text_limit}
-use Rattle.gx_requests.specs.Words.{Action, checking, trying, explaining, making, running, inspecting, working, request_words}
+use Rattle.gx_requests.specs.Words.{Action, checking, trying, explaining, making, running, sharing, inspecting, working, request_words}
 
 -- what some words ask for, by the first letter of the first one, which no two of them share
 asked_by : ℕ → List (List ℕ) → Action
@@ -17,6 +17,7 @@ asked_by letter words =
     else if letter == 101 then explaining
     else if letter == 109 then making (get_or words 3 []) (get_or words 4 [])
     else if letter == 114 then running (get_or words 3 [])
+    else if letter == 115 then sharing (get_or words 3 [])
     else if letter == 105 then inspecting (get_or words 3 [])
     else working (get_or words 2 []) (get_or words 3 []) (get_or words 4 [])
 
@@ -30,6 +31,7 @@ asked trying schema equation = refl
 asked explaining schema equation = refl
 asked (making device blocks) schema equation = refl
 asked (running device) schema equation = refl
+asked (sharing device) schema equation = refl
 asked (inspecting device) schema equation = refl
 asked (working device blocks records) schema equation = refl
 
@@ -49,6 +51,7 @@ again_all trying s e = refl
 again_all explaining s e = refl
 again_all (making device blocks) s e = refl
 again_all (running device) s e = refl
+again_all (sharing device) s e = refl
 again_all (inspecting device) s e = refl
 again_all (working device blocks records) s e = refl
 
@@ -88,6 +91,7 @@ schema_named trying s t e f same names = ap second same
 schema_named explaining s t e f same names = ap second same
 schema_named (making device blocks) s t e f same names = ap second same
 schema_named (running device) s t e f same names = ap second same
+schema_named (sharing device) s t e f same names = ap second same
 schema_named (inspecting device) s t e f same names = ap second same
 schema_named (working device blocks records) s t e f same names = absurd names
 
@@ -98,6 +102,7 @@ equation_named trying s t e f same = ap third same
 equation_named explaining s t e f same = ap third same
 equation_named (making device blocks) s t e f same = ap third same
 equation_named (running device) s t e f same = ap third same
+equation_named (sharing device) s t e f same = ap third same
 equation_named (inspecting device) s t e f same = ap third same
 equation_named (working device blocks records) s t e f same = ap second same
 
@@ -151,6 +156,8 @@ schema_once (making device blocks) texts name other s t same x y =
     text_once texts name other s t (same tt) x.0 y.0
 schema_once (running device) texts name other s t same x y =
     text_once texts name other s t (same tt) x.0 y.0
+schema_once (sharing device) texts name other s t same x y =
+    text_once texts name other s t (same tt) x.0 y.0
 schema_once (inspecting device) texts name other s t same x y =
     text_once texts name other s t (same tt) x.0 y.0
 schema_once (working device blocks records) texts name other s t same x y = x ∙ sym y
@@ -190,6 +197,8 @@ either_there explaining texts name schema other equation s e same x y is =
 either_there (making device blocks) texts name schema other equation s e same x y is =
     one_there texts name schema other equation s e (same tt) x y is
 either_there (running device) texts name schema other equation s e same x y is =
+    one_there texts name schema other equation s e (same tt) x y is
+either_there (sharing device) texts name schema other equation s e same x y is =
     one_there texts name schema other equation s e (same tt) x y is
 either_there (inspecting device) texts name schema other equation s e same x y is =
     one_there texts name schema other equation s e (same tt) x y is

@@ -24,7 +24,7 @@ use Rattle.gx_play.specs.declared.ending.Ending.{Ending}
 use Rattle.gx_play.specs.declared.ending.Ending.TheVariants as ending
 use Rattle.gx_requests.specs.Lengths.{text_length}
 use Rattle.gx_requests.specs.Requests.{IsThere, IsTooLong, IsSchemaOf, IsEither, IsNamed, IsAsked, AreRead, IsAccepted, IsRefused, equation_of, text_limit}
-use Rattle.gx_requests.specs.Words.{Action, checking, trying, explaining, making, running, inspecting, working, request_words, IsCount, IsRecordCount, IsCounted}
+use Rattle.gx_requests.specs.Words.{Action, checking, trying, explaining, making, running, sharing, inspecting, working, request_words, IsCount, IsRecordCount, IsCounted}
 use Rattle.gx_work.specs.Schema.{schema_lines}
 use Rattle.gx_requests.proofs.AskedLemmas.{asked_of, asked, schema_in, equation_in, again}
 
@@ -113,6 +113,7 @@ all_counted trying = inl tt
 all_counted explaining = inl tt
 all_counted (making device blocks) = counted blocks
 all_counted (running device) = inl tt
+all_counted (sharing device) = inl tt
 all_counted (inspecting device) = inl tt
 all_counted (working device blocks records) = by_both (counted blocks) (records_counted records)
   where
@@ -194,7 +195,9 @@ schema_had (making device blocks) texts name (inl there) = inl there
 schema_had (making device blocks) texts name (inr not) = inr (not, λ e. inl refl)
 schema_had (running device) texts name (inl there) = inl there
 schema_had (running device) texts name (inr not) = inr (not, λ e. inl refl)
+schema_had (sharing device) texts name (inl there) = inl there
 schema_had (inspecting device) texts name (inl there) = inl there
+schema_had (sharing device) texts name (inr not) = inr (not, λ e. inl refl)
 schema_had (inspecting device) texts name (inr not) = inr (not, λ e. inl refl)
 
 -- where the schema is there the equation is the next
@@ -206,6 +209,7 @@ equation_next trying texts schema equation s there = inr ((s, there), refl)
 equation_next explaining texts schema equation s there = inr ((s, there), refl)
 equation_next (making device blocks) texts schema equation s there = inr ((s, there), refl)
 equation_next (running device) texts schema equation s there = inr ((s, there), refl)
+equation_next (sharing device) texts schema equation s there = inr ((s, there), refl)
 equation_next (inspecting device) texts schema equation s there = inr ((s, there), refl)
 
 -- reading never answers want of memory

@@ -20,7 +20,7 @@ use Rattle.gx_play.specs.declared.ending.Ending.TheVariants as ending
 use Rattle.gx_requests.specs.Lengths.{text_length}
 use Rattle.gx_play.specs.Endings.{ending_line}
 use Rattle.gx_requests.specs.Requests.{IsThere, IsEither, IsNamed, IsAsked, AreRead, AreUnaccepted, IsRefused, equation_of, text_limit}
-use Rattle.gx_requests.specs.Words.{Action, checking, trying, explaining, making, running, inspecting, working, request_words, IsCounted}
+use Rattle.gx_requests.specs.Words.{Action, checking, trying, explaining, making, running, sharing, inspecting, working, request_words, IsCounted}
 use Rattle.gx_requests.proofs.AskedLemmas.{NamesSchema, same_words, one_request, named, not_missing, not_long}
 use Rattle.gx_requests.proofs.AcceptedLemmas.{equation_read}
 
@@ -183,6 +183,8 @@ either_once explaining texts name other schema same equation is lost missed p q 
 either_once (making device blocks) texts name other schema same equation is lost missed p q =
     lost_once texts name other schema same equation (is tt) lost missed p q
 either_once (running device) texts name other schema same equation is lost missed p q =
+    lost_once texts name other schema same equation (is tt) lost missed p q
+either_once (sharing device) texts name other schema same equation is lost missed p q =
     lost_once texts name other schema same equation (is tt) lost missed p q
 either_once (inspecting device) texts name other schema same equation is lost missed p q =
     lost_once texts name other schema same equation (is tt) lost missed p q

@@ -22,7 +22,7 @@ use Rattle.gx_requests.specs.Fetched.{Prepares}
 use Rattle.gx_requests.specs.Requests.{IsText, IsThere, IsTooLong, IsUnfetched, IsSchemaOf}
 use Rattle.gx_requests.specs.Requests.{IsAsked, IsEither, IsNamed, IsAccepted, AreAccepted}
 use Rattle.gx_requests.specs.Requests.{AreUnchecked, IsUnprepared}
-use Rattle.gx_requests.specs.Words.{Action, checking, trying, explaining, making, running, inspecting, working, IsCounted, IsCountedOfTwo, IsCountedOfOne, AskOfTwo, AskOfOne}
+use Rattle.gx_requests.specs.Words.{Action, checking, trying, explaining, making, running, sharing, inspecting, working, IsCounted, IsCountedOfTwo, IsCountedOfOne, AskOfTwo, AskOfOne}
 use Rattle.gx_work.specs.Schema.{schema_lines}
 
 -- ---- a request that names both texts
@@ -33,6 +33,7 @@ two_counted trying is = is
 two_counted explaining is = is
 two_counted (making device blocks) is = is
 two_counted (running device) is = is
+two_counted (sharing device) is = is
 two_counted (inspecting device) is = is
 two_counted (working device blocks records) is = absurd is
 
@@ -43,6 +44,7 @@ two_there trying texts name text two is = is
 two_there explaining texts name text two is = is
 two_there (making device blocks) texts name text two is = is
 two_there (running device) texts name text two is = is
+two_there (sharing device) texts name text two is = is
 two_there (inspecting device) texts name text two is = is
 two_there (working device blocks records) texts name text two is = absurd two
 
@@ -55,6 +57,7 @@ one_counted trying is = absurd is
 one_counted explaining is = absurd is
 one_counted (making device blocks) is = absurd is
 one_counted (running device) is = absurd is
+one_counted (sharing device) is = absurd is
 one_counted (inspecting device) is = absurd is
 
 one_there : (a : Action) (texts : Texts) (name : List ℕ) → IsCountedOfOne a
@@ -65,6 +68,7 @@ one_there trying texts name is = absurd is
 one_there explaining texts name is = absurd is
 one_there (making device blocks) texts name is = absurd is
 one_there (running device) texts name is = absurd is
+one_there (sharing device) texts name is = absurd is
 one_there (inspecting device) texts name is = absurd is
 
 -- ---- a text that is named
@@ -77,6 +81,7 @@ two_first trying texts schema equation is = inl refl
 two_first explaining texts schema equation is = inl refl
 two_first (making device blocks) texts schema equation is = inl refl
 two_first (running device) texts schema equation is = inl refl
+two_first (sharing device) texts schema equation is = inl refl
 two_first (inspecting device) texts schema equation is = inl refl
 two_first (working device blocks records) texts schema equation is = absurd is
 
@@ -88,6 +93,7 @@ two_second trying texts schema equation is there = inr (there, refl)
 two_second explaining texts schema equation is there = inr (there, refl)
 two_second (making device blocks) texts schema equation is there = inr (there, refl)
 two_second (running device) texts schema equation is there = inr (there, refl)
+two_second (sharing device) texts schema equation is there = inr (there, refl)
 two_second (inspecting device) texts schema equation is there = inr (there, refl)
 two_second (working device blocks records) texts schema equation is there = absurd is
 
@@ -100,6 +106,7 @@ one_first trying texts equation is = absurd is
 one_first explaining texts equation is = absurd is
 one_first (making device blocks) texts equation is = absurd is
 one_first (running device) texts equation is = absurd is
+one_first (sharing device) texts equation is = absurd is
 one_first (inspecting device) texts equation is = absurd is
 
 -- the schema of a request that names both texts is named

@@ -3,7 +3,7 @@ use Rattle.std.proofs.Common.{◌≡◌, ℕ, ◌<◌, ◌≤◌, ◌^◌, List,
 use Rattle.std.specs.Prelude.{IfSome, ◌≢◌, nat_lt, neg_ℤ, if◌then◌else◌, String, string_bytes}
 use Rattle.std.proofs.lemmas.Bool.Decides.{nat_tests}
 use Rattle.gx_tokens.specs.Numbers.{are_digits, digits_value, is_number, number_value, signed_in_range, signed_number}
-use Rattle.gx_requests.specs.Words.{Action, checking, trying, explaining, making, running, inspecting, working, request_words, has_sign, IsCount, IsRecordCount, NoCounts, IsCounted}
+use Rattle.gx_requests.specs.Words.{Action, checking, trying, explaining, making, running, sharing, inspecting, working, request_words, has_sign, IsCount, IsRecordCount, NoCounts, IsCounted}
 
 abbrev number_by : Bool → ℕ → List ℕ → ℤ
 number_by minus b bs = if minus then neg_ℤ (pos (digits_value bs)) else pos (digits_value (b ∷ bs))
@@ -109,6 +109,9 @@ no_five ws first second third fourth fifth are none explaining schema equation c
     let many : 5 ≡ 3 = ap (λ (l : List (List ℕ)). length l) (sym are ∙ is) in
     absurd (omega (arith, many))
 no_five ws first second third fourth fifth are none (running device) schema equation counted is =
+    let many : 5 ≡ 4 = ap (λ (l : List (List ℕ)). length l) (sym are ∙ is) in
+    absurd (omega (arith, many))
+no_five ws first second third fourth fifth are none (sharing device) schema equation counted is =
     let many : 5 ≡ 4 = ap (λ (l : List (List ℕ)). length l) (sym are ∙ is) in
     absurd (omega (arith, many))
 no_five ws first second third fourth fifth are none (inspecting device) schema equation counted is =

@@ -9,14 +9,16 @@ abbrev pub texts_of : {Z : Type 0} → List (String Z) → List (List ℕ)
 texts_of = map (λ word. string_bytes word)
 
 -- what is asked of two texts: to be checked, or that the script is played or explained under them;
--- on a device that is made, whose blocks a word counts, or that is there and is played on or
--- inspected; or that so many records of the workload are played on a device that is made
+-- on a device that is made, whose blocks a word counts, or that is there and is played on, with
+-- lines or with turns of several sessions, or inspected; or that so many records of the workload are
+-- played on a device that is made
 pub data Action : Type 0 where
   checking : Action
   trying : Action
   explaining : Action
   making : List ℕ → List ℕ → Action
   running : List ℕ → Action
+  sharing : List ℕ → Action
   inspecting : List ℕ → Action
   working : List ℕ → List ℕ → List ℕ → Action
 
@@ -26,6 +28,7 @@ word_of trying = codes "try"
 word_of explaining = codes "explain"
 word_of (making device blocks) = codes "make"
 word_of (running device) = codes "run"
+word_of (sharing device) = codes "share"
 word_of (inspecting device) = codes "inspect"
 word_of (working device blocks records) = codes "work"
 
@@ -41,12 +44,13 @@ more_words trying = []
 more_words explaining = []
 more_words (making device blocks) = device ∷ blocks ∷ []
 more_words (running device) = device ∷ []
+more_words (sharing device) = device ∷ []
 more_words (inspecting device) = device ∷ []
 more_words (working device blocks records) = device ∷ blocks ∷ records ∷ []
 
 -- `check SCHEMA EQUATION`, `try SCHEMA EQUATION`, `explain SCHEMA EQUATION`, `make SCHEMA EQUATION
--- DEVICE BLOCKS`, `run SCHEMA EQUATION DEVICE`, `inspect SCHEMA EQUATION DEVICE` or `work EQUATION
--- DEVICE BLOCKS RECORDS`
+-- DEVICE BLOCKS`, `run SCHEMA EQUATION DEVICE`, `share SCHEMA EQUATION DEVICE`, `inspect SCHEMA
+-- EQUATION DEVICE` or `work EQUATION DEVICE BLOCKS RECORDS`
 abbrev pub request_words : Action → List ℕ → List ℕ → List (List ℕ)
 request_words a schema equation = word_of a ∷ with_schema a schema (equation ∷ more_words a)
 
@@ -73,6 +77,7 @@ IsCounted trying = Unit {0}
 IsCounted explaining = Unit {0}
 IsCounted (making device blocks) = (n : ℕ) × IsCount blocks n
 IsCounted (running device) = Unit {0}
+IsCounted (sharing device) = Unit {0}
 IsCounted (inspecting device) = Unit {0}
 IsCounted (working device blocks records) =
     ((n : ℕ) × IsCount blocks n) × ((n : ℕ) × IsRecordCount records n)
@@ -116,6 +121,8 @@ IsRequest words (request.Make schema equation device blocks) =
     × (words ≡ request_words (making device.now digits) schema.now equation.now)
 IsRequest words (request.Run schema equation device) =
     words ≡ request_words (running device.now) schema.now equation.now
+IsRequest words (request.Share schema equation device) =
+    words ≡ request_words (sharing device.now) schema.now equation.now
 IsRequest words (request.Inspect schema equation device) =
     words ≡ request_words (inspecting device.now) schema.now equation.now
 IsRequest words (request.Work equation device blocks records) =

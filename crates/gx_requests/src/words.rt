@@ -36,6 +36,12 @@ pub enum Request<'a> {
         equation: &'a str,
         device: &'a str,
     },
+    /// To recover the device of that name, and to play the script of turns on it.
+    Share {
+        schema: &'a str,
+        equation: &'a str,
+        device: &'a str,
+    },
     /// To recover the device of that name, and to examine what it holds.
     Inspect {
         schema: &'a str,
@@ -57,8 +63,8 @@ const MOST_DIGITS: usize = 10;
 
 /// The request that the words mean: `check SCHEMA EQUATION`, `try SCHEMA EQUATION`,
 /// `explain SCHEMA EQUATION`, `make SCHEMA EQUATION DEVICE BLOCKS`, `run SCHEMA EQUATION DEVICE`,
-/// `inspect SCHEMA EQUATION DEVICE` or `work EQUATION DEVICE BLOCKS RECORDS`; nothing where they
-/// are others.
+/// `share SCHEMA EQUATION DEVICE`, `inspect SCHEMA EQUATION DEVICE` or `work EQUATION DEVICE BLOCKS
+/// RECORDS`; nothing where they are others.
 pub fn read_words(words: &[String]) -> Option<Request<'_>>
     ensures some { IfSome result (IsRequest (texts_of words.now)) }
     ensures none { IsNone result → (a : Action) (schema equation : List ℕ) → IsCounted a →
@@ -107,10 +113,16 @@ fn request_on_device<'a>(
 ) -> Option<Request<'a>>
     ensures some { IfSome result
         (IsRequest (word.now ∷ schema.now ∷ equation.now ∷ device.now ∷ [])) }
-    ensures none { IsNone result → (word.now ≢ codes "run") × (word.now ≢ codes "inspect") }
+    ensures none { IsNone result → (word.now ≢ codes "run") × (word.now ≢ codes "share") ×
+        (word.now ≢ codes "inspect") }
 {
     match word {
         "run" => Some(Request::Run {
+            schema,
+            equation,
+            device,
+        }),
+        "share" => Some(Request::Share {
             schema,
             equation,
             device,

@@ -5,7 +5,7 @@ mod HeardLemmas
 mod StandLemmas
 mod KeepLemmas
 mod CarryLemmas
-mod LineLemmas
+pub mod LineLemmas
 mod GoingLemmas
 mod ReadLemmas
 pub mod FullLemmas

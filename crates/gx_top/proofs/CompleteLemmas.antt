@@ -26,7 +26,7 @@ use Rattle.gx_play.specs.Player.{IsDueOf, line_play}
 use Rattle.gx_play.specs.ScriptEnds.{AreGood}
 use Rattle.gx_play.specs.declared.status.Status.{Status}
 use Rattle.gx_play.specs.declared.status.Status.TheVariants as status
-use Rattle.gx_requests.specs.Words.{Action, checking, trying, explaining, making, running, inspecting, working}
+use Rattle.gx_requests.specs.Words.{Action, checking, trying, explaining, making, running, sharing, inspecting, working}
 use Rattle.gx_operations.specs.Given.{Given, limit_of}
 use Rattle.gx_operations.specs.Settled.{limits_on}
 use Rattle.gx_operations.proofs.ExplainedLemmas.{good_explained}
@@ -34,6 +34,8 @@ use Rattle.gx_top.specs.Complete.{HasGoodLines, IsReady, IsUnhindered, IsDoneOrM
 use Rattle.gx_top.specs.Promised.{IsGiven, CarriesOut}
 use Rattle.gx_play.proofs.AskedLemmas.{step_of, command_play}
 use Rattle.gx_top.proofs.PlayedLemmas.{some_text}
+use Rattle.gx_shares.specs.Player.{texts_of}
+use Rattle.gx_top.proofs.GoodTurnLemmas.{good_share}
 use Rattle.gx_top.proofs.NeedLemmas.{never_full}
 
 -- ---- good lines run
@@ -169,6 +171,10 @@ carried words old new s (running device) g given ready done out =
     (λ answers m. never_full g.schema g.definitions limit start old.script answers m
     ready.1.enough)
     (good_plays g.schema start old.script ready.0)) out
+carried words old new s (sharing device) g given ready done out =
+    let kept = done.held ready.1.start ready.1.held in
+    let play = good_share g.schema ready.1.start old.script ready.0 in
+    kept.due status.Done (ready.1.roomy, texts_of play.0, play.1, (play.0, play.2, refl)) out
 carried words old new s (inspecting device) g given ready done out =
     let kept = done.sound ready.0 ready.1 in
     kept.due status.Done refl out

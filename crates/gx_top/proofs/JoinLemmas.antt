@@ -6,6 +6,7 @@ use Rattle.gx_schema.specs.declared.schema.Schema.{Schema}
 use Rattle.gx_equation.specs.Trees.{DefinitionTree}
 use Rattle.gx_typing.specs.declared.typing.Typing.{Typing}
 use Rattle.gx_play.specs.ScriptEnds.{IsScriptEnd}
+use Rattle.gx_shares.specs.Ends.{IsShareEnd}
 use Rattle.gx_play.specs.declared.ending.Ending.{Ending}
 use Rattle.gx_play.specs.declared.ending.Ending.TheVariants as ending
 use Rattle.gx_play.specs.declared.status.Status.{Status}
@@ -14,13 +15,13 @@ use Rattle.gx_play.specs.Endings.{status_of, IsOutside}
 use Rattle.gx_requests.specs.declared.opened.Stored.{Stored}
 use Rattle.gx_requests.specs.Checked.{IsStoredFor}
 use Rattle.gx_requests.specs.Requests.{IsRefused, IsUnprepared}
-use Rattle.gx_requests.specs.Words.{Action, checking, trying, explaining, making, running, inspecting, working, IsCount, IsRecordCount}
+use Rattle.gx_requests.specs.Words.{Action, checking, trying, explaining, making, running, sharing, inspecting, working, IsCount, IsRecordCount}
 use Rattle.gx_operations.specs.Given.{Given, IsStoredAs, KeepsBut, KeepsAll}
 use Rattle.gx_operations.specs.GivenUp.{GivesUp}
 use Rattle.gx_operations.specs.Makes.{MakesOn}
 use Rattle.gx_operations.specs.Promises.{IsKept, says_line}
 use Rattle.gx_operations.specs.Refuses.{refuses}
-use Rattle.gx_operations.specs.Runs.{script_play}
+use Rattle.gx_operations.specs.Runs.{script_play, turns_play}
 use Rattle.gx_operations.specs.Works.{WorksOn}
 use Rattle.gx_operations.proofs.MemoryLemmas.{refusal_given_up, check_given_up, try_given_up, explain_given_up, make_given_up, run_given_up, inspect_given_up, work_given_up}
 use Rattle.gx_top.specs.Promised.{IsGiven, CarriesOut, IsPromised, NameDevice}
@@ -80,6 +81,8 @@ carried_given_up g old new s x (making device digits) =
     λ blocks is. make_given_up g old new s x device blocks
 carried_given_up g old new s x (running device) =
     run_given_up g old new s x device (script_play g old.script) (IsScriptEnd g.schema old.script)
+carried_given_up g old new s x (sharing device) =
+    run_given_up g old new s x device (turns_play g old.script) (IsShareEnd g.schema old.script)
 carried_given_up g old new s x (inspecting device) = inspect_given_up g old new s x device
 carried_given_up g old new s x (working device digits number) =
     λ blocks records is few. work_given_up g old new s x device blocks records

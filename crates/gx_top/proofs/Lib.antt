@@ -12,4 +12,6 @@ mod FormedLemmas
 mod SortLemmas
 mod AnsweredLemmas
 mod PlayedLemmas
+mod SharedLemmas
+mod GoodTurnLemmas
 mod CompleteLemmas

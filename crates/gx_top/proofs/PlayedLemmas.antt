@@ -22,18 +22,18 @@ use Rattle.gx_script.specs.Paths.{is_path, path_reading, IsPathReading}
 use Rattle.gx_script.proofs.PathLaws.{path_line_found}
 use Rattle.gx_commands.specs.declared.path.PathQuery.{PathQuery}
 use Rattle.gx_model.specs.Play.{Playing, End, stopped, end_at, is_inside, seen_state}
-use Rattle.gx_model.specs.Languages.{AreFirstLines}
-use Rattle.gx_model.specs.Paths.{PathOr, path_text}
+use Rattle.gx_model.specs.Languages.{Language, RunsIn, IsEndIn, IsPlayIn, AreFirstLines}
+use Rattle.gx_model.specs.Paths.{PathOr, path_text, with_paths}
 use Rattle.gx_model.specs.Runs.{IsBadLine as IsBadCommandLine}
 use Rattle.gx_play.specs.declared.lines.Asked.{Asked}
 use Rattle.gx_play.specs.declared.lines.Asked.TheVariants as asked
-use Rattle.gx_play.specs.Asked.{IsAsked, IsAnsweredTo, IsBadLine, Runs, IsEnd, IsPlayFrom, after_asked}
+use Rattle.gx_play.specs.Asked.{IsAsked, IsAnsweredTo, IsBadLine, IsPlayFrom, after_asked}
 use Rattle.gx_play.proofs.AskedLemmas.{step_of}
 use Rattle.gx_top.proofs.AnsweredLemmas.{some_answer}
 
 -- ---- a line is words, or it isn't
 
-abbrev AreWordsOrNot : List ℕ → Type 0
+abbrev pub AreWordsOrNot : List ℕ → Type 0
 AreWordsOrNot line = HasWords line ⊎ (¬ HasWords line)
 
 blank_or : (line bytes : List ℕ) → past_blanks line ≡ bytes → first_word line ≡ None
@@ -52,7 +52,7 @@ words_from line (Some x) is later =
       | inr none ↦ inr (λ has. none (words_after line x is has))
     ]
 
-words_within : (n : ℕ) (line : List ℕ) → length line ≤ n → AreWordsOrNot line
+pub words_within : (n : ℕ) (line : List ℕ) → length line ≤ n → AreWordsOrNot line
 words_within zero line le =
     words_from line (first_word line) refl (λ rest less. absurd (omega arith))
 words_within (suc n) line le =
@@ -60,10 +60,10 @@ words_within (suc n) line le =
 
 -- ---- a line has a reading
 
-abbrev HasReading : Schema → List ℕ → Type 0
+abbrev pub HasReading : Schema → List ℕ → Type 0
 HasReading schema line = (r : Result Command LineWhy) × IsReading schema line r
 
-some_reading : (schema : Schema) (line : List ℕ) → HasReading schema line
+pub some_reading : (schema : Schema) (line : List ℕ) → HasReading schema line
 some_reading schema line = elim (cases_Bool (is_comment line)) as (λ _. HasReading schema line) [
   | inl comment ↦ (Ok command.Nothing, inl (comment, refl))
   | inr none ↦ elim (cases_Bool (list_all is_character line)) as (λ _. HasReading schema line) [
@@ -164,95 +164,110 @@ first_of_more line all ran (Ok None) is =
 first_of_more line all ran (Err why) is =
     (ap (λ (ls : List (List ℕ)). line ∷ ls) is.0, is.1)
 
--- a play of lines, where so many ran before them
-record HasPlay (schema : Schema) (p : Playing) (last : ℕ) (all : Lines) : Type 0 where
-  answers : List ℕ
-  final : Playing
-  end : End
-  ran : List (List ℕ)
-  next : Result (Option (List ℕ)) LineWhy
-  first : AreFirstLines all ran next
-  runs : Runs schema p ran answers final
-  ends : IsEnd schema final (last + length ran) next end
+module _ {M A : Type 0} (l : Language M A) where
+  -- a line goes on there, or it is bad
+  abbrev pub GoesOrNot : M → List ℕ → Type 0
+  GoesOrNot p line = ((answers : List A) × (next : M) × l.Goes p line answers next)
+      ⊎ ((why : LineWhy) × l.IsBad p line why)
 
-play_of_more : (schema : Schema) (p : Playing) (last : ℕ) (line : List ℕ) (all : Lines)
-    → IsGoodOrBad schema (is_inside p) line
-    → ((q : Playing) → HasPlay schema q (last + 1) all)
-    → HasPlay schema p last (record { lines = line ∷ all.lines; stop = all.stop })
-play_of_more schema p last line all (inr (why, bad)) later = record {
-  answers = [];
-  final = p;
-  end = stopped (last + length {A = List ℕ} [] + 1) why;
-  ran = [];
-  next = Ok (Some line);
-  first = (all.lines, refl);
-  runs = (refl, refl);
-  ends = (why, bad, refl);
-}
-play_of_more schema p last line all (inl (a, means)) later =
-    let answer = some_text schema p a in
-    let rest = later (after_asked schema p a) in
-    let many : last + 1 + length rest.ran ≡ last + length (line ∷ rest.ran) = omega arith in
-    record {
-      answers = answer.0 ++ rest.answers;
-      final = rest.final;
-      end = rest.end;
-      ran = line ∷ rest.ran;
-      next = rest.next;
-      first = first_of_more line all rest.ran rest.next rest.first;
-      runs = (
-        answer.0,
-        rest.answers,
-        after_asked schema p a,
-        step_of schema p line answer.0 a means answer.1,
-        rest.runs,
-        refl,
-      );
-      ends = subst (λ n. IsEnd schema rest.final n rest.next rest.end) many rest.ends;
-    }
+  -- a play of lines, where so many ran before them
+  record HasPlay (p : M) (last : ℕ) (all : Lines) : Type 0 where
+    answers : List A
+    final : M
+    end : End
+    ran : List (List ℕ)
+    next : Result (Option (List ℕ)) LineWhy
+    first : AreFirstLines all ran next
+    runs : RunsIn l p ran answers final
+    ends : IsEndIn l final (last + length ran) next end
 
-play_on : (schema : Schema) → IsWellFormed schema → (lines : List (List ℕ)) (stop : Option LineWhy)
-    (p : Playing) (last : ℕ)
-    → HasPlay schema p last (record { lines = lines; stop = stop })
-play_on schema whole [] None p last = record {
-  answers = [];
-  final = p;
-  end = end_at (last + length {A = List ℕ} []) (is_inside p);
-  ran = [];
-  next = Ok None;
-  first = (refl, refl);
-  runs = (refl, refl);
-  ends = refl;
-}
-play_on schema whole [] (Some why) p last = record {
-  answers = [];
-  final = p;
-  end = stopped (last + length {A = List ℕ} [] + 1) why;
-  ran = [];
-  next = Err why;
-  first = (refl, refl);
-  runs = (refl, refl);
-  ends = refl;
-}
-play_on schema whole (line ∷ lines) stop p last =
-    play_of_more schema p last line (record { lines = lines; stop = stop })
-    (good_or_bad schema (is_inside p) line whole)
-    (λ q. play_on schema whole lines stop q (last + 1))
+  play_of_more : (p : M) (last : ℕ) (line : List ℕ) (all : Lines) → GoesOrNot p line
+      → ((q : M) → HasPlay q (last + 1) all)
+      → HasPlay p last (record { lines = line ∷ all.lines; stop = all.stop })
+  play_of_more p last line all (inr (why, bad)) later = record {
+    answers = [];
+    final = p;
+    end = stopped (last + length {A = List ℕ} [] + 1) why;
+    ran = [];
+    next = Ok (Some line);
+    first = (all.lines, refl);
+    runs = (refl, refl);
+    ends = (why, bad, refl);
+  }
+  play_of_more p last line all (inl (answer, behind, goes)) later =
+      let rest = later behind in
+      let many : last + 1 + length rest.ran ≡ last + length (line ∷ rest.ran) = omega arith in
+      record {
+        answers = answer ++ rest.answers;
+        final = rest.final;
+        end = rest.end;
+        ran = line ∷ rest.ran;
+        next = rest.next;
+        first = first_of_more line all rest.ran rest.next rest.first;
+        runs = (answer, rest.answers, behind, goes, rest.runs, refl);
+        ends = subst (λ n. IsEndIn l rest.final n rest.next rest.end) many rest.ends;
+      }
+
+  play_on : ((p : M) (line : List ℕ) → GoesOrNot p line)
+      → (lines : List (List ℕ)) (stop : Option LineWhy) (p : M) (last : ℕ)
+      → HasPlay p last (record { lines = lines; stop = stop })
+  play_on each [] None p last = record {
+    answers = [];
+    final = p;
+    end = end_at (last + length {A = List ℕ} []) (l.is_open p);
+    ran = [];
+    next = Ok None;
+    first = (refl, refl);
+    runs = (refl, refl);
+    ends = refl;
+  }
+  play_on each [] (Some why) p last = record {
+    answers = [];
+    final = p;
+    end = stopped (last + length {A = List ℕ} [] + 1) why;
+    ran = [];
+    next = Err why;
+    first = (refl, refl);
+    runs = (refl, refl);
+    ends = refl;
+  }
+  play_on each (line ∷ lines) stop p last =
+      play_of_more p last line (record { lines = lines; stop = stop }) (each p line)
+      (λ q. play_on each lines stop q (last + 1))
+
+  -- where each line goes on or is bad, all lines have a play
+  pub some_play_in : ((p : M) (line : List ℕ) → GoesOrNot p line) → (start : M) (all : Lines)
+      → (answers : List A) × (final : M) × (end : End) × IsPlayIn l start all answers final end
+  some_play_in each start all =
+      let play = play_on each all.lines all.stop start 0 in
+      let many : 0 + length play.ran ≡ length play.ran = omega arith in (
+        play.answers,
+        play.final,
+        play.end,
+        record {
+          ran = play.ran;
+          next = play.next;
+          first = play.first;
+          runs = play.runs;
+          ends = subst (λ n. IsEndIn l play.final n play.next play.end) many play.ends;
+        },
+      )
+
+line_goes : (schema : Schema) → IsWellFormed schema → (p : Playing) (line : List ℕ)
+    → GoesOrNot (with_paths schema) p line
+line_goes schema whole p line = elim (good_or_bad schema (is_inside p) line whole) as
+    (λ _. GoesOrNot (with_paths schema) p line) [
+      | inl good ↦
+          let answer = some_text schema p good.0 in
+          inl (
+            answer.0,
+            after_asked schema p good.0,
+            step_of schema p line answer.0 good.0 good.1 answer.1,
+          )
+      | inr bad ↦ inr bad
+    ]
 
 pub some_play : (schema : Schema) → IsWellFormed schema → (start : Playing) (all : Lines)
     → (answers : List ℕ) × (final : Playing) × (end : End)
     × IsPlayFrom schema start all answers final end
-some_play schema whole start all =
-    let play = play_on schema whole all.lines all.stop start 0 in
-    let many : 0 + length play.ran ≡ length play.ran = omega arith in (
-      play.answers,
-      play.final,
-      play.end,
-      record {
-        ran = play.ran;
-        next = play.next;
-        first = play.first;
-        runs = play.runs;
-        ends = subst (λ n. IsEnd schema play.final n play.next play.end) many play.ends;
-      },
-    )
+some_play schema whole = some_play_in (with_paths schema) (line_goes schema whole)

@@ -2,10 +2,12 @@
 use Rattle.std.proofs.Common.{◌≡◌, ℕ, List, Option, Some, None, refl, sym, subst, inl, inr}
 use Rattle.std.specs.Prelude.{◌⊎◌, ◌≢◌, IsSome}
 use Rattle.gx_device.specs.Content.{Content, Texts, device_at}
-use Rattle.gx_model.specs.Play.{Playing}
+use Rattle.gx_model.specs.Play.{End}
 use Rattle.gx_model.specs.States.{State}
 use Rattle.gx_store.specs.Device.{IsSize}
+use Rattle.gx_ports.specs.LeafMaps.{Limits}
 use Rattle.gx_play.specs.ScriptEnds.{IsScriptEnd}
+use Rattle.gx_shares.specs.Ends.{IsShareEnd}
 use Rattle.gx_play.specs.Player.{Play}
 use Rattle.gx_store.specs.Opening.{AreOpened}
 use Rattle.gx_store.specs.Store.{OfBlocks}
@@ -14,14 +16,14 @@ use Rattle.gx_play.specs.declared.ending.DeviceWhy.TheVariants as device_why
 use Rattle.gx_play.specs.declared.ending.Ending.{Ending}
 use Rattle.gx_play.specs.declared.status.Status.{Status}
 use Rattle.gx_play.specs.declared.status.Status.TheVariants as status
-use Rattle.gx_requests.specs.Words.{Action, checking, trying, explaining, making, running, inspecting, working}
+use Rattle.gx_requests.specs.Words.{Action, checking, trying, explaining, making, running, sharing, inspecting, working}
 use Rattle.gx_operations.specs.Given.{Given, under, limit_of}
 use Rattle.gx_operations.specs.GivenUp.{GaveUp, GivesUp}
 use Rattle.gx_operations.specs.Inspects.{InspectsOn}
 use Rattle.gx_operations.specs.Makes.{MakesOn}
 use Rattle.gx_operations.specs.Promises.{IsKept}
 use Rattle.gx_operations.specs.Refuses.{refuses}
-use Rattle.gx_operations.specs.Runs.{RunsOn, RunSays, script_play}
+use Rattle.gx_operations.specs.Runs.{RunsOn, RunSays, script_play, turns_play}
 use Rattle.gx_operations.specs.Works.{WorksOn}
 use Rattle.gx_operations.specs.Wrong.{IsWrong}
 use Rattle.gx_top.specs.Promised.{IsGiven, CarriesOut}
@@ -65,22 +67,21 @@ module _ (g : Given) (old new : Content) where
       by_size (inl size) = by_device (device_at old.now device) refl size
       by_size (inr none) = (m.unmakable device_why.Size none).said.says
 
-  unrun : (device : List ℕ) (start : State) (p : Play Playing) (answers line : List ℕ)
+  unrun : {M : Type 0} (device : List ℕ) (start : State) (p : Play M) (answers line : List ℕ)
       → RunSays g device start p status.Refused answers line new → ⊥
   unrun device start p answers line (inl is) = is.1
   unrun device start p answers line (inr is) = memory_not_refused is.0
 
-  run_not : (device : List ℕ)
-      → RunsOn g device (script_play g old.script) (IsScriptEnd g.schema old.script) old new
-      status.Refused → ⊥
-  run_not device r = by_case (are_cases g device old).some
+  run_not : {M : Type 0} (device : List ℕ) (plays : Limits → State → Play M)
+      (Ends : End → Type 0) → RunsOn g device plays Ends old new status.Refused → ⊥
+  run_not device plays Ends r = by_case (are_cases g device old).some
     where
       by_case : Cases g device old → ⊥
       by_case (inl wrong) = (r.wrong wrong.0 wrong.1).said.says
       by_case (inr opened) =
           let none = (are_cases g device old).none opened (λ s held.
           let k = r.held s held in
-          unrun device s (script_play g old.script (limit_of g held.0) s) k.said.whole k.said.last
+          unrun device s (plays (limit_of g held.0) s) k.said.whole k.said.last
           k.said.says) in
           (r.unheld none).said.says
 
@@ -101,7 +102,10 @@ module _ (g : Given) (old new : Content) where
   carried_not_refused words texts (making device digits) given k =
       let n = given.2.counted in
       make_not device n.0 (k n.0 n.1)
-  carried_not_refused words texts (running device) given k = run_not device k
+  carried_not_refused words texts (running device) given k =
+      run_not device (script_play g old.script) (IsScriptEnd g.schema old.script) k
+  carried_not_refused words texts (sharing device) given k =
+      run_not device (turns_play g old.script) (IsShareEnd g.schema old.script) k
   carried_not_refused words texts (inspecting device) given k = inspect_not device k
   carried_not_refused words texts (working device digits number) given k =
       let n = given.2.counted in

@@ -13,7 +13,7 @@ use Rattle.gx_play.specs.Played.{IsPlayText}
 use Rattle.gx_operations.specs.Given.{Given}
 use Rattle.gx_top.specs.Promised.{IsGiven}
 use Rattle.gx_top.specs.Laws.{IsToPlay, IsWholeText, IsUnder, PlayOneScript}
-use Rattle.gx_requests.specs.Words.{Action, checking, trying, explaining, making, running, inspecting, working}
+use Rattle.gx_requests.specs.Words.{Action, checking, trying, explaining, making, running, sharing, inspecting, working}
 use Rattle.gx_requests.proofs.AskedLemmas.{NamesSchema, same_words, text_once}
 
 -- the schema that is played on is that of the schema text
@@ -23,6 +23,7 @@ played_named trying is = tt
 played_named explaining is = absurd is
 played_named (making device blocks) is = absurd is
 played_named (running device) is = tt
+played_named (sharing device) is = absurd is
 played_named (inspecting device) is = absurd is
 played_named (working device blocks records) is = absurd is
 
@@ -33,6 +34,7 @@ played_there (running device) texts name text plays is = is
 played_there checking texts name text plays is = absurd plays
 played_there explaining texts name text plays is = absurd plays
 played_there (making device blocks) texts name text plays is = absurd plays
+played_there (sharing device) texts name text plays is = absurd plays
 played_there (inspecting device) texts name text plays is = absurd plays
 played_there (working device blocks records) texts name text plays is = absurd plays
 

@@ -4,16 +4,18 @@ use Rattle.gx_device.specs.Content.{Content}
 use Rattle.gx_model.specs.Play.{Playing, End}
 use Rattle.gx_model.specs.States.{State}
 use Rattle.gx_play.specs.ScriptEnds.{IsScriptEnd}
+use Rattle.gx_shares.specs.Ends.{IsShareEnd}
+use Rattle.gx_sharing.specs.Sharing.{Sharing}
 use Rattle.gx_play.specs.Player.{Play}
 use Rattle.gx_play.specs.declared.ending.DeviceWhy.{DeviceWhy}
 use Rattle.gx_play.specs.declared.status.Status.TheVariants as status
-use Rattle.gx_requests.specs.Words.{checking, trying, explaining, making, running, inspecting, working}
+use Rattle.gx_requests.specs.Words.{checking, trying, explaining, making, running, sharing, inspecting, working}
 use Rattle.gx_operations.specs.Given.{Given}
 use Rattle.gx_operations.specs.Checks.{checks}
 use Rattle.gx_operations.specs.Tries.{tries}
 use Rattle.gx_operations.specs.Explains.{explains}
 use Rattle.gx_operations.specs.Makes.{makes_none, makes_one}
-use Rattle.gx_operations.specs.Runs.{RunSays, runs_from, runs_unheld, script_play}
+use Rattle.gx_operations.specs.Runs.{RunSays, runs_from, runs_unheld, script_play, turns_play}
 use Rattle.gx_operations.specs.Inspects.{inspects_sound, inspects_unsound}
 use Rattle.gx_operations.specs.Works.{works_on}
 use Rattle.gx_operations.specs.Wrong.{finds_wrong}
@@ -105,6 +107,45 @@ module _ (g : Given) (device : List ℕ) (old new : Content) where
   unheld_ends ends status.Memory k = refl
   unheld_ends ends status.Outside k = refl
 
+  wrong_shared : (why : DeviceWhy)
+      → EndsBy (sharing device) (finds_wrong g why device old) old new
+  wrong_shared why status.Done k = refl
+  wrong_shared why status.Script k = refl
+  wrong_shared why status.Refused k = absurd k.said.says
+  wrong_shared why status.Full k = refl
+  wrong_shared why status.Device k = refl
+  wrong_shared why status.Memory k = refl
+  wrong_shared why status.Outside k = refl
+
+  unshared : (start : State) (p : Play Sharing) (answers line : List ℕ)
+      → RunSays g device start p status.Refused answers line new
+      → may_end (sharing device) status.Refused ≡ true
+  unshared start p answers line (inl is) = absurd is.1
+  unshared start p answers line (inr is) = absurd (differ is.0)
+    where
+      differ : status.Refused ≡ status.Memory → ⊥
+      differ e = cc
+
+  shared_ends : (start : State) (p : Play Sharing)
+      → EndsBy (sharing device) (runs_from g device start p old) old new
+  shared_ends start p status.Done k = refl
+  shared_ends start p status.Script k = refl
+  shared_ends start p status.Refused k = unshared start p k.said.whole k.said.last k.said.says
+  shared_ends start p status.Full k = refl
+  shared_ends start p status.Device k = refl
+  shared_ends start p status.Memory k = refl
+  shared_ends start p status.Outside k = refl
+
+  unheld_shared : (Ends : End → Type 0)
+      → EndsBy (sharing device) (runs_unheld device Ends old) old new
+  unheld_shared ends status.Done k = refl
+  unheld_shared ends status.Script k = refl
+  unheld_shared ends status.Refused k = absurd k.said.says
+  unheld_shared ends status.Full k = refl
+  unheld_shared ends status.Device k = refl
+  unheld_shared ends status.Memory k = refl
+  unheld_shared ends status.Outside k = refl
+
   wrong_inspected : (why : DeviceWhy)
       → EndsBy (inspecting device) (finds_wrong g why device old) old new
   wrong_inspected why status.Done k = refl
@@ -164,6 +205,9 @@ module _ (g : Given) (device : List ℕ) (old new : Content) where
     run_wrong = wrong_ends;
     ran = λ start limit script. ran_ends start (script_play g script limit start);
     unheld = λ script. unheld_ends (IsScriptEnd g.schema script);
+    share_wrong = wrong_shared;
+    shared = λ start limit script. shared_ends start (turns_play g script limit start);
+    share_unheld = λ script. unheld_shared (IsShareEnd g.schema script);
     inspect_wrong = wrong_inspected;
     sound = sound_ends;
     unsound = unsound_ends;

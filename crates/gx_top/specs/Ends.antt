@@ -4,6 +4,7 @@ use Rattle.gx_device.specs.Content.{Content}
 use Rattle.gx_model.specs.States.{State}
 use Rattle.gx_ports.specs.LeafMaps.{Limits}
 use Rattle.gx_play.specs.ScriptEnds.{IsScriptEnd}
+use Rattle.gx_shares.specs.Ends.{IsShareEnd}
 use Rattle.gx_play.specs.declared.ending.DeviceWhy.{DeviceWhy}
 use Rattle.gx_operations.specs.Given.{Given}
 use Rattle.gx_operations.specs.Promises.{Promise, IsKept}
@@ -11,23 +12,25 @@ use Rattle.gx_operations.specs.Checks.{checks}
 use Rattle.gx_operations.specs.Tries.{tries}
 use Rattle.gx_operations.specs.Explains.{explains}
 use Rattle.gx_operations.specs.Makes.{makes_none, makes_one}
-use Rattle.gx_operations.specs.Runs.{runs_from, runs_unheld, script_play}
+use Rattle.gx_operations.specs.Runs.{runs_from, runs_unheld, script_play, turns_play}
 use Rattle.gx_operations.specs.Inspects.{inspects_sound, inspects_unsound}
 use Rattle.gx_operations.specs.Works.{works_on}
 use Rattle.gx_operations.specs.Wrong.{finds_wrong}
 use Rattle.gx_play.specs.declared.status.Status.{Status}
 use Rattle.gx_play.specs.declared.status.Status.TheVariants as status
-use Rattle.gx_requests.specs.Words.{Action, checking, trying, explaining, making, running, inspecting, working}
+use Rattle.gx_requests.specs.Words.{Action, checking, trying, explaining, making, running, sharing, inspecting, working}
 
 -- a script is played or explained, its pages are limited, it names a device
 abbrev pub has_script : Action → Bool
 has_script trying = true
 has_script explaining = true
 has_script (running device) = true
+has_script (sharing device) = true
 has_script other = false
 
 abbrev pub has_limit : Action → Bool
 has_limit (running device) = true
+has_limit (sharing device) = true
 has_limit (working device blocks records) = true
 has_limit other = false
 
@@ -66,6 +69,13 @@ pub record AreEnds (g : Given) (device : List ℕ) (old new : Content) : Type 0 
       new
   pub unheld : (script : List ℕ)
       → EndsBy (running device) (runs_unheld device (IsScriptEnd g.schema script) old) old new
+  pub share_wrong : (why : DeviceWhy)
+      → EndsBy (sharing device) (finds_wrong g why device old) old new
+  pub shared : (start : State) (limit : Limits) (script : List ℕ)
+      → EndsBy (sharing device) (runs_from g device start (turns_play g script limit start) old) old
+      new
+  pub share_unheld : (script : List ℕ)
+      → EndsBy (sharing device) (runs_unheld device (IsShareEnd g.schema script) old) old new
   pub inspect_wrong : (why : DeviceWhy)
       → EndsBy (inspecting device) (finds_wrong g why device old) old new
   pub sound : (s : State) → EndsBy (inspecting device) (inspects_sound g device s old) old new

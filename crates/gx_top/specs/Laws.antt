@@ -5,7 +5,13 @@ use Rattle.gx_device.specs.Content.{Content, Texts}
 use Rattle.gx_schema.specs.declared.schema.Schema.{Schema}
 use Rattle.gx_schema.specs.Grammar.{IsSchemaText}
 use Rattle.gx_model.specs.States.{State, empty_state}
-use Rattle.gx_model.specs.Play.{End}
+use Rattle.gx_model.specs.Play.{End, end_text}
+use Rattle.gx_model.specs.Languages.{IsPlayIn}
+use Rattle.gx_commands.specs.Lines.{script_lines}
+use Rattle.gx_sharing.specs.Sharing.{Sharing, share_start}
+use Rattle.gx_sharing.specs.Texts.{turns}
+use Rattle.gx_sharing.specs.Turns.{Turn}
+use Rattle.gx_shares.specs.Player.{texts_of}
 use Rattle.gx_store.specs.Opening.{AreOpened}
 use Rattle.gx_store.specs.Store.{OfBlocks}
 use Rattle.gx_play.specs.Played.{IsPlayText}
@@ -13,7 +19,7 @@ use Rattle.gx_play.specs.declared.ending.DeviceWhy.{DeviceWhy}
 use Rattle.gx_play.specs.declared.ending.Ending.{Ending}
 use Rattle.gx_play.specs.declared.status.Status.{Status}
 use Rattle.gx_play.specs.declared.status.Status.TheVariants as status
-use Rattle.gx_requests.specs.Words.{Action, trying, making, running, inspecting, request_words}
+use Rattle.gx_requests.specs.Words.{Action, trying, making, running, sharing, inspecting, request_words}
 use Rattle.gx_requests.specs.Requests.{IsRefused}
 use Rattle.gx_operations.specs.Given.{Given, under, IsHeldOn, IsStateless}
 use Rattle.gx_operations.specs.Wrong.{IsWrong}
@@ -65,7 +71,7 @@ pub record PlayOneScript (words others : List (List ℕ)) (before other : Conten
 -- ---- of requests that follow each other on one machine
 
 -- Words that were accepted before are accepted then, with the same meaning, and the device holds
--- the state. So much `run` and `inspect` are promised for.
+-- the state. So much `run`, `share` and `inspect` are promised for.
 pub record IsHeldFor (g : Given) (device : List ℕ) (s : State) (old new : Content) : Type 0 where
   pub given : (words : List (List ℕ)) (a : Action) (h : Given)
       → IsGiven words old.aside.texts a h → IsGiven words new.aside.texts a h
@@ -81,8 +87,15 @@ SaysPlay schema start old new kept =
     (end : End) × (text : List ℕ) × IsPlayText schema start old.script end text kept
     × (new.now.said ≡ old.now.said ++ text)
 
--- What a request that ended so leaves for the next one: `make` the empty state; `run`, to the
--- script's end or a line of it, the last kept state; and `inspect` the state that it found.
+-- the same of its turns
+abbrev pub SaysShare : Schema → State → Content → Content → State → Type 0
+SaysShare schema start old new kept =
+    (end : End) × (ts : List Turn) × (final : Sharing)
+    × IsPlayIn (turns schema) (share_start start) (script_lines old.script) ts final end
+    × (new.now.said ≡ old.now.said ++ (texts_of ts ++ end_text end)) × (kept ≡ final.kept)
+
+-- What a request that ended so leaves for the next one: `make` the empty state; `run` and `share`,
+-- to the script's end or a line of it, the last kept state; and `inspect` the state that it found.
 pub record Follows (words : List (List ℕ)) (g : Given) (device : List ℕ)
     (old new : Content) : Type 0 where
   pub made : (digits : List ℕ) → IsGiven words old.aside.texts (making device digits) g
@@ -92,6 +105,10 @@ pub record Follows (words : List (List ℕ)) (g : Given) (device : List ℕ)
       → IsHeldOn g device start old → (s : Status) → (s ≡ status.Done) ⊎ (s ≡ status.Script)
       → IsPromised words old new s
       → NextFinds g device old new (SaysPlay g.schema start old new)
+  pub shared : IsGiven words old.aside.texts (sharing device) g → (start : State)
+      → IsHeldOn g device start old → (s : Status) → (s ≡ status.Done) ⊎ (s ≡ status.Script)
+      → IsPromised words old new s
+      → NextFinds g device old new (SaysShare g.schema start old new)
   pub inspected : IsGiven words old.aside.texts (inspecting device) g → (state : State)
       → IsHeldOn g device state old → (s : Status) → IsPromised words old new s
       → NextFinds g device old new (λ s. s ≡ state)

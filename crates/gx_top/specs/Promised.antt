@@ -4,7 +4,7 @@ use Rattle.gx_device.specs.Content.{Content, Texts}
 use Rattle.gx_play.specs.declared.ending.Ending.{Ending}
 use Rattle.gx_play.specs.declared.status.Status.{Status}
 use Rattle.gx_play.specs.declared.status.Status.TheVariants as status
-use Rattle.gx_requests.specs.Words.{Action, checking, trying, explaining, making, running, inspecting, working, request_words, IsCount, IsRecordCount}
+use Rattle.gx_requests.specs.Words.{Action, checking, trying, explaining, making, running, sharing, inspecting, working, request_words, IsCount, IsRecordCount}
 use Rattle.gx_requests.specs.Requests.{IsRefused, IsAccepted}
 use Rattle.gx_operations.specs.Given.{Given, KeepsBut}
 use Rattle.gx_operations.specs.Promises.{IsKept}
@@ -13,10 +13,11 @@ use Rattle.gx_operations.specs.Checks.{checks}
 use Rattle.gx_operations.specs.Tries.{tries}
 use Rattle.gx_operations.specs.Explains.{explains}
 use Rattle.gx_operations.specs.Makes.{MakesOn}
-use Rattle.gx_operations.specs.Runs.{RunsOn, script_play}
+use Rattle.gx_operations.specs.Runs.{RunsOn, script_play, turns_play}
 use Rattle.gx_operations.specs.Inspects.{InspectsOn}
 use Rattle.gx_operations.specs.Works.{WorksOn}
 use Rattle.gx_play.specs.ScriptEnds.{IsScriptEnd}
+use Rattle.gx_shares.specs.Ends.{IsShareEnd}
 
 -- the words ask for this, and the texts that they name are accepted and mean these
 abbrev pub IsGiven : List (List ℕ) → Texts → Action → Given → Type 0
@@ -26,6 +27,7 @@ IsGiven words texts a g = IsAccepted words texts a g.schema g.definitions g.typi
 abbrev pub device_of : Action → Option (List ℕ)
 device_of (making device digits) = Some device
 device_of (running device) = Some device
+device_of (sharing device) = Some device
 device_of (inspecting device) = Some device
 device_of (working device digits number) = Some device
 device_of other = None
@@ -39,6 +41,8 @@ CarriesOut (making device digits) g old new s = (blocks : ℕ) → IsCount digit
     → MakesOn g device blocks old new s
 CarriesOut (running device) g old new s =
     RunsOn g device (script_play g old.script) (IsScriptEnd g.schema old.script) old new s
+CarriesOut (sharing device) g old new s =
+    RunsOn g device (turns_play g old.script) (IsShareEnd g.schema old.script) old new s
 CarriesOut (inspecting device) g old new s = InspectsOn g device old new s
 CarriesOut (working device digits number) g old new s = (blocks records : ℕ)
     → IsCount digits blocks → IsRecordCount number records → WorksOn g device blocks records old new s

@@ -8,6 +8,11 @@ ghost use Rattle.gx_schema.specs.declared.schema.Schema.{Schema as TheSchema};
 ghost use Rattle.gx_equation.specs.Trees.{DefinitionTree};
 ghost use Rattle.gx_model.specs.Play.{Playing, End};
 ghost use Rattle.gx_model.specs.States.{State};
+ghost use Rattle.gx_model.specs.Languages.{IsPlayIn};
+ghost use Rattle.gx_commands.specs.Lines.{script_lines};
+ghost use Rattle.gx_sharing.specs.Sharing.{Sharing, share_start};
+ghost use Rattle.gx_sharing.specs.Texts.{turns};
+ghost use Rattle.gx_sharing.specs.Turns.{Turn as TheTurn};
 ghost use Rattle.gx_states.specs.Terms.{state_size};
 ghost use Rattle.gx_store.specs.Device.{Reopens};
 ghost use Rattle.gx_store.specs.Store.{OfBlocks};
@@ -65,9 +70,9 @@ pub fn one_state(device: &str, stored: &Stored)
 {}
 
 /// What a request on a device leaves for the next one on the machine that `top` hands back: the
-/// texts are accepted as before, and `run` and `inspect` find the empty state after `make` that
-/// ended with `Done`, the last kept state after `run` that ended with `Done` or `Script`, and the
-/// state that was found after `inspect`. It does nothing.
+/// texts are accepted as before, and `run`, `share` and `inspect` find the empty state after `make`
+/// that ended with `Done`, the last kept state after `run` or `share` that ended with `Done` or
+/// `Script`, and the state that was found after `inspect`. It does nothing.
 pub fn requests_follow(words: &[String], device: &str)
     ensures { (g : Given) (old new : Content) → Follows (texts_of words.now) g device.now old new }
 {}
@@ -99,11 +104,21 @@ pub fn each_script_is_played(words: &[String])
         × IsPlay g.schema start script answers final end }
 {}
 
+/// Each script of turns has a play from each state, under each schema that is accepted. It does
+/// nothing.
+pub fn each_share_is_played(words: &[String])
+    ensures { (texts : Texts) (a : Action) (g : Given) (start : State) (script : List ℕ)
+        → IsGiven (texts_of words.now) texts a g
+        → (ts : List TheTurn) × (final : Sharing) × (end : End)
+        × IsPlayIn (turns g.schema) (share_start start) (script_lines script) ts final end }
+{}
+
 /// A request of any kind is carried out, or there was no memory, where its texts are accepted, no
 /// call of the machine fails, and there is what the request needs: for `try` and `run` a script of
-/// good lines that leaves no transaction open, for `explain` good lines, for `run` and `inspect` a
-/// device that holds a state, for `make` and `work` a name that is free and a size that is allowed,
-/// and for `run` and `work` pages that are enough at each command. It does nothing.
+/// good lines that leaves no transaction open, for `share` turns so, for `explain` good lines, for
+/// `run`, `share` and `inspect` a device that holds a state, for `make` and `work` a name that is
+/// free and a size that is allowed, and for `run`, `share` and `work` pages that are enough at each
+/// command. It does nothing.
 pub fn done_or_memory(words: &[String])
     ensures { (old new : Content) (before now : ℕ) (s : Status)
         → IsUnhindered (texts_of words.now) old new before now s → IsDoneOrMemory s }

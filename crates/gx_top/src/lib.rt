@@ -10,6 +10,7 @@ mod make;
 mod ready;
 mod request;
 mod run_script;
+mod share_script;
 mod try_script;
 mod work;
 

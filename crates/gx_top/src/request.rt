@@ -9,6 +9,7 @@ use crate::explain::explain;
 use crate::inspect::inspect;
 use crate::make::make;
 use crate::run_script::run_script;
+use crate::share_script::share_script;
 use crate::try_script::try_script;
 use crate::work::work;
 use gx_device::Machine;
@@ -20,8 +21,9 @@ use std::alloc::Global;
 /// Carries out what the words ask for, says its answers on the machine, and hands the machine back.
 /// The words are `check SCHEMA EQUATION`, `try SCHEMA EQUATION`, `explain SCHEMA EQUATION`,
 /// `make SCHEMA EQUATION DEVICE BLOCKS`, `run SCHEMA EQUATION DEVICE`,
-/// `inspect SCHEMA EQUATION DEVICE` or `work EQUATION DEVICE BLOCKS RECORDS`. On a machine that
-/// tells its content:
+/// `share SCHEMA EQUATION DEVICE`, `inspect SCHEMA EQUATION DEVICE` or
+/// `work EQUATION DEVICE BLOCKS RECORDS`. `share` is as `run`, with the turns of up to eight
+/// sessions in the place of the lines of a script. On a machine that tells its content:
 ///
 /// - `Done`: of `check`, exactly the line of the accepted equation's leaves was said; of `make`,
 ///   exactly the line of the device that was made. Of `try`, and of `run` on a device that holds a
@@ -39,15 +41,17 @@ use std::alloc::Global;
 ///   the schema, the equation, its types, and the length of the texts. The line of that reason was
 ///   said, and nothing else.
 /// - `Full`: the pages may be too few for the command of a line, which changes records or links,
-///   isn't refused and is no `delete`, or is a `reorganize`. Exactly the answers of the lines
-///   before it were said, of `run` on a device that holds a state, and then `stopped: full`; of
-///   `work` that line alone.
+///   isn't refused and is no `delete`, or is a `reorganize`; of `share`, for one of the commands of
+///   the session's transaction, carried out in order on the last kept state, with that of the turn.
+///   Exactly the answers of the lines before it were said, of `run` on a device that holds a
+///   state, and then `stopped: full`; of `work` that line alone.
 /// - `Device`: the device isn't what was asked for. Its line was said, and nothing else; that of
 ///   damage, which names a block that the device has, was said last, behind what was said before.
 ///   Damage comes only of a device that is there, with its size, a database and the same texts, and
 ///   that holds no state. `inspect` finds it exactly there.
 /// - `Memory`: there was no memory. Exactly the answers of the script's first lines, or their plans
-///   and directions, were said, perhaps of none, of `run` on a device that holds a state, and then `stopped: memory`.
+///   and directions, were said, perhaps of none, of `run` on a device that holds a state, and then
+///   `stopped: memory`.
 /// - `Outside`: a call of the machine failed. All answers of one of the others were said and a
 ///   front of its line, or first answers, but perhaps an end of the last one.
 ///
@@ -87,6 +91,13 @@ pub fn top<M: Machine + Drop>(alloc: Global, words: &[String], machine: M) -> (S
                 device,
             },
         ) => run_script(alloc, schema, equation, device, machine),
+        Some(
+            Request::Share {
+                schema,
+                equation,
+                device,
+            },
+        ) => share_script(alloc, schema, equation, device, machine),
         Some(
             Request::Inspect {
                 schema,

@@ -6,7 +6,7 @@ ghost use Rattle.gx_top.specs.Promised.{IsPromised};
 
 use crate::ready::ready_stored;
 use gx_device::Machine;
-use gx_operations::refuse;
+use gx_operations::{ScriptKind, refuse};
 use gx_play::Status;
 use std::alloc::Global;
 
@@ -26,7 +26,7 @@ pub fn run_script<M: Machine + Drop>(
 {
     let mut machine = machine;
     match ready_stored(alloc, schema, equation, &mut machine) {
-        Ok(stored) => gx_operations::run(alloc, stored, device, machine),
+        Ok(stored) => gx_operations::run(alloc, ScriptKind::Lines, stored, device, machine),
         Err(ending) => refuse(alloc, ending, machine),
     }
 }

@@ -11,3 +11,5 @@ mod paths;
 mod requests;
 #[cfg(test)]
 mod row;
+#[cfg(test)]
+mod shares;

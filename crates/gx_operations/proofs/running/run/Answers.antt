@@ -11,11 +11,11 @@ use Rattle.gx_store.specs.Device.{IsHeadOf}
 use Rattle.gx_store.specs.Opening.{IsUnopened, HaveDatabase}
 use Rattle.gx_store.specs.Store.{HoldsMaps, machine_of}
 use Rattle.gx_model.specs.States.{State}
-use Rattle.gx_play.specs.ScriptEnds.{IsScriptEnd}
 use Rattle.gx_play.specs.Readings.{EndsAs}
 use Rattle.gx_play.specs.Endings.{IsEnded, EndsThrough, is_fault}
-use Rattle.gx_play.specs.Plays.{IsPlayedAs}
+use Rattle.gx_play.specs.Overs.{IsPlayedOf}
 use Rattle.gx_operations.specs.Held.{StoreState}
+use Rattle.gx_operations.specs.Kinds.{IsEndOfKind, over_play}
 use Rattle.gx_operations.specs.Settled.{IsSettledIn, limits_on}
 use Rattle.gx_operations.proofs.EndedLemmas.{keeps_opened, keeps_attached}
 use Rattle.gx_operations.proofs.RunOnLemmas.{AreOf, under_of, run_opened, run_unopened}
@@ -41,7 +41,7 @@ returns-in-Ok-clause-promised g c = λ can given of.
     let limit = limits_of base (places_in store) in
     let built : specs ≡ x.built.specs = first_of (search rules, cc) in
     let specs_are : specs ≡ given.typing.specs = built ∙ of.specs in
-    run_opened given device (IsScriptEnd given.schema old.script) x.schema x.built schema equation specs
+    run_opened c.args.kind given device x.schema x.built schema equation specs
     (head_of store) limit (λ (maps : List LeafMap). HoldsMaps maps store) old opened mid played
     (record {
       schema_is = of.schema;
@@ -62,10 +62,10 @@ returns-in-Ok-clause-promised g c = λ can given of.
           ∙ ap (λ (k : List LeafSpec). limits_on k (length blocks)) specs_are;
       holds = λ blocks maps there reopens. c.in-Ok.ensures.holds can blocks maps there reopens;
       answered = λ s maps reaches internal.
-          subst (λ k. IsPlayedAs x.schema x.built (Some limit) s
+          subst (λ k. IsPlayedOf (over_play c.args.kind x.schema x.built (Some limit) s opened.script)
           (λ (kept : State). IsSettledIn x.schema x.built schema equation k mid.now.blocks kept
           × (is_fault played ≡ false → EachImage (λ image. StoreState x.schema x.built (head_of store)
-          kept image.blocks) mid.now)) opened.script opened.now.said mid.now.said played)
+          kept image.blocks) mid.now)) opened.now.said mid.now.said played)
           c.in-Ok.ensures.specs
           (c.play_stored-machine.ensures.answered can.told s maps reaches internal
           (schema, equation)
@@ -75,8 +75,8 @@ returns-in-Ok-clause-promised g c = λ can given of.
           internal o.is.calm;
       heard = c.play_stored-machine.ensures.heard can.told;
       reads =
-          subst (λ (k : Schema). EndsAs (IsScriptEnd k old.script) played) of.schema
-          (subst (λ (t : List ℕ). EndsAs (IsScriptEnd x.schema t) played) attaches.script
+          subst (λ (k : Schema). EndsAs (IsEndOfKind c.args.kind k old.script) played) of.schema
+          (subst (λ (t : List ℕ). EndsAs (IsEndOfKind c.args.kind x.schema t) played) attaches.script
           (c.play_stored-machine.ensures.reads can.told));
       stays = c.play_stored-machine.ensures.stays can.told;
       play = c.play_stored-machine.ensures.ending;
@@ -104,7 +104,7 @@ returns-in-Err-clause-promised g c = λ can given of.
       equation_is = c.as_slice-2.ensures ∙ of.equation_text;
       specs_are = specs_are;
     } in
-    run_unopened given device (IsScriptEnd given.schema old.script) old mid new why c.end-status.result
+    run_unopened c.args.kind given device old mid new why c.end-status.result
     (record {
       unopened = under_of given schema equation specs told (λ t e k. IsUnopened device t e k old why)
           (c.in-Err.ensures.unopened can);

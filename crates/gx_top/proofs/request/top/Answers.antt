@@ -46,6 +46,14 @@ returns-in-Some-Run-clause-promised g c = λ told.
     (g.M.Device.content c.run_script.result.1) c.run_script.result.0) (sym is)
     (c.run_script.ensures.promised told)
 
+pub returns-in-Some-Share-clause-promised : goal.returns-in-Some-Share-clause-promised
+returns-in-Some-Share-clause-promised g c = λ told.
+    let is = subst (IsRequest (texts_of c.args.words.now)) c.in-Some-Share.field-0-is
+    c.in-Some-Share.ensures.some in
+    subst (λ w. IsPromised w (g.M.Device.content c.args.machine)
+    (g.M.Device.content c.share_script.result.1) c.share_script.result.0) (sym is)
+    (c.share_script.ensures.promised told)
+
 pub returns-in-Some-Inspect-clause-promised : goal.returns-in-Some-Inspect-clause-promised
 returns-in-Some-Inspect-clause-promised g c = λ told.
     let is = subst (IsRequest (texts_of c.args.words.now)) c.in-Some-Inspect.field-0-is

@@ -1,6 +1,7 @@
 use Rattle.std.proofs.Common.{refl, inr}
 use Rattle.gx_store.specs.Store.{CanAttach}
 use Rattle.gx_requests.specs.Words.{running, request_words}
+use Rattle.gx_operations.specs.declared.kinds.ScriptKind.TheVariants as script_kind
 use Rattle.gx_top.proofs.JoinLemmas.{joined, unprepared, given_by, stored_as}
 use Rattle.gx_top.proofs.KeepLemmas.{keeps_named}
 use Rattle.gx_operations.proofs.LaterLemmas.{ran_later}
@@ -22,7 +23,7 @@ returns-in-Ok-clause-promised g c = λ told.
     let r = c.in-Ok.ensures.readies in
     let can : CanAttach g.M.Device.tells mid = record { told = told; may = inr (r.ready told) } in
     joined words old new s a given is.accepted
-    (ran_later given c.args.device.now old mid r.later new s
+    (ran_later given c.args.device.now old mid r.later script_kind.Lines new s
     (c.run.ensures.promised can given (stored_as words old.aside.texts a x is)))
     (keeps_named a c.args.schema.now c.args.equation.now c.args.device.now refl old mid new r.later
     (c.run.ensures.keeps can))
