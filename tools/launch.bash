@@ -19,6 +19,7 @@ genesis: usage
     $1 explain SCHEMA EQUATION < SCRIPT       tells how each find looks for its records
     $1 make  SCHEMA EQUATION DEVICE BLOCKS    makes an empty database in a new file
     $1 run   SCHEMA EQUATION DEVICE < SCRIPT  plays the script on the database in that file
+    $1 share SCHEMA EQUATION DEVICE < SCRIPT  plays turns of up to eight sessions on it
     $1 inspect SCHEMA EQUATION DEVICE         examines the database in that file
     $1 work  EQUATION DEVICE BLOCKS N         plays a workload of N records on a new file
     $1 --which                                tells which file the program is
@@ -30,7 +31,7 @@ END
 is_request() {
     case $1 in
     check | try | explain) [[ $# = 3 ]] ;;
-    run | inspect) [[ $# = 4 ]] ;;
+    run | share | inspect) [[ $# = 4 ]] ;;
     make | work) [[ $# = 5 ]] ;;
     *) false ;;
     esac
@@ -66,7 +67,7 @@ is_full() {
 causes() {
     local request=$1 texts=("${@:2:2}") device='' name folder
     case $request in
-    make | run | inspect) device=$4 ;;
+    make | run | share | inspect) device=$4 ;;
     work) texts=("$2") device=$3 ;;
     esac
     for name in "${texts[@]}"; do
