@@ -37,9 +37,14 @@ is_request() {
     esac
 }
 
+# Whether the request hears a script.
+hears_script() {
+    [[ $1 = @(try|explain|run|share) ]]
+}
+
 # Says what a person may not expect. It changes neither what is said nor the status.
 hint() {
-    [[ ($1 = try || $1 = explain || $1 = run) && -t 0 ]] &&
+    hears_script "$1" && [[ -t 0 ]] &&
         say 'the script is read from this terminal, and each line is answered where it ends; Ctrl-D ends the script'
 }
 
@@ -74,13 +79,13 @@ causes() {
         [[ ! -e $name || -r $name ]] || echo "can't read $name"
     done
     case $request in
-    run | inspect)
+    run | share | inspect)
         if [[ -f $device ]]; then
             [[ -r $device && -w $device ]] || echo "can't read and write $device"
             ! is_locked "$device" ||
                 echo "another program has $device, or one that was killed hasn't let go of it yet:" \
                     "flock $device true waits for that"
-            [[ $request != run ]] || ! is_full "$device" || echo "the disk of $device has no room"
+            [[ $request = inspect ]] || ! is_full "$device" || echo "the disk of $device has no room"
         fi
         ;;
     make | work)
@@ -97,7 +102,7 @@ causes() {
         [[ ! -f $device ]] || echo "a part of $device may have been made: remove it"
         ;;
     esac
-    if [[ $request = try || $request = explain || $request = run ]]; then
+    if hears_script "$request"; then
         [[ $has_input ]] || echo 'standard input is closed'
         [[ ! -d /dev/fd/0 ]] || echo 'standard input is a folder'
     fi
