@@ -8,6 +8,7 @@ endif
 syntax match   genesisComment "#.*$"
 syntax region  genesisText    start=+"+ skip=+""+ end=+"+ oneline
 syntax match   genesisNumber  "\<-\=\d\+\>"
+syntax match   genesisSession "^\s*[1-8]\ze\%(\s\|$\)"
 syntax keyword genesisItem    file link
 syntax keyword genesisKind    int text
 syntax keyword genesisLeaf    heap hash isam bplus
@@ -20,6 +21,7 @@ syntax keyword genesisClause  where and of order desc down up
 highlight default link genesisComment Comment
 highlight default link genesisText    String
 highlight default link genesisNumber  Number
+highlight default link genesisSession Label
 highlight default link genesisItem    Structure
 highlight default link genesisKind    Type
 highlight default link genesisLeaf    Function

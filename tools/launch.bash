@@ -19,6 +19,7 @@ genesis: usage
     $1 explain SCHEMA EQUATION < SCRIPT       tells how each find looks for its records
     $1 make  SCHEMA EQUATION DEVICE BLOCKS    makes an empty database in a new file
     $1 run   SCHEMA EQUATION DEVICE < SCRIPT  plays the script on the database in that file
+    $1 share SCHEMA EQUATION DEVICE < SCRIPT  plays turns of up to eight sessions on it
     $1 inspect SCHEMA EQUATION DEVICE         examines the database in that file
     $1 work  EQUATION DEVICE BLOCKS N         plays a workload of N records on a new file
     $1 --which                                tells which file the program is
@@ -30,15 +31,20 @@ END
 is_request() {
     case $1 in
     check | try | explain) [[ $# = 3 ]] ;;
-    run | inspect) [[ $# = 4 ]] ;;
+    run | share | inspect) [[ $# = 4 ]] ;;
     make | work) [[ $# = 5 ]] ;;
     *) false ;;
     esac
 }
 
+# Whether the request hears a script.
+hears_script() {
+    [[ $1 = @(try|explain|run|share) ]]
+}
+
 # Says what a person may not expect. It changes neither what is said nor the status.
 hint() {
-    [[ ($1 = try || $1 = explain || $1 = run) && -t 0 ]] &&
+    hears_script "$1" && [[ -t 0 ]] &&
         say 'the script is read from this terminal, and each line is answered where it ends; Ctrl-D ends the script'
 }
 
@@ -66,20 +72,20 @@ is_full() {
 causes() {
     local request=$1 texts=("${@:2:2}") device='' name folder
     case $request in
-    make | run | inspect) device=$4 ;;
+    make | run | share | inspect) device=$4 ;;
     work) texts=("$2") device=$3 ;;
     esac
     for name in "${texts[@]}"; do
         [[ ! -e $name || -r $name ]] || echo "can't read $name"
     done
     case $request in
-    run | inspect)
+    run | share | inspect)
         if [[ -f $device ]]; then
             [[ -r $device && -w $device ]] || echo "can't read and write $device"
             ! is_locked "$device" ||
                 echo "another program has $device, or one that was killed hasn't let go of it yet:" \
                     "flock $device true waits for that"
-            [[ $request != run ]] || ! is_full "$device" || echo "the disk of $device has no room"
+            [[ $request = inspect ]] || ! is_full "$device" || echo "the disk of $device has no room"
         fi
         ;;
     make | work)
@@ -96,7 +102,7 @@ causes() {
         [[ ! -f $device ]] || echo "a part of $device may have been made: remove it"
         ;;
     esac
-    if [[ $request = try || $request = explain || $request = run ]]; then
+    if hears_script "$request"; then
         [[ $has_input ]] || echo 'standard input is closed'
         [[ ! -d /dev/fd/0 ]] || echo 'standard input is a folder'
     fi
