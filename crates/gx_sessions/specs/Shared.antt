@@ -1,5 +1,5 @@
 -- What an engine stands for between the turns of sessions.
-use Rattle.std.specs.Prelude.{◌≡◌, ℕ, ◌+◌, List, ◌∷◌, ◌++◌, length, Bool, true, false, Option, Some, None, Result, Err, OnOk, OnErr}
+use Rattle.std.specs.Prelude.{◌≡◌, ℕ, ◌+◌, List, [], ◌∷◌, ◌++◌, length, Bool, true, false, Option, Some, None, Result, Err, OnOk, OnErr}
 use Rattle.gx_device.specs.Content.{Silent}
 use Rattle.gx_device.specs.Crash.{LeavesOnly}
 use Rattle.gx_device.specs.Quiet.{IsOldOrNew}
@@ -22,9 +22,9 @@ use Rattle.gx_states.specs.Internal.{state_entries}
 use Rattle.gx_engine.specs.Steps.{schema_of, built_of, leaves_of, stop_of, IsReady, IsAt, IsSound, is_commit}
 use Rattle.gx_engine.specs.Crashes.{HoldsFor}
 use Rattle.gx_sharing.specs.Kept.{IsClearOf}
-use Rattle.gx_sharing.specs.Sharing.{Sharing, answered, view_in, holds, played, play_of, session_after, after_turn}
+use Rattle.gx_sharing.specs.Sharing.{Sharing, answered, view_in, holds, outcome_of, played, play_of, session_after, after_turn}
 use Rattle.gx_sessions.specs.declared.session.SessionState.{SessionState}
-use Rattle.gx_sessions.specs.Standings.{IsSession}
+use Rattle.gx_sessions.specs.Standings.{IsSession, commands_of}
 
 -- the play of all sessions, with this working state
 abbrev pub seeing : Sharing → Option State → Playing
@@ -74,6 +74,13 @@ pub record IsShortAmong (schema : Schema) (built : Built) (limit : Option Limits
   pub stands : AreInternal schema built maps (played schema p.kept before)
   pub short : IsCrowdedBy limit (entry_count maps
       + state_entries built (next_state schema (played schema p.kept before) command))
+
+-- The turn of a session with this command is answered, and the pages may be too few for one of the
+-- commands of its transaction, this one with them.
+abbrev pub IsShortFor : Schema → Built → Option Limits → Sharing → ℕ → Command → Type 0
+IsShortFor schema built limit p n c =
+    (outcome_of schema p n c ≡ answered)
+    × IsShortAmong schema built limit p (commands_of (p.session n) ++ c ∷ [])
 
 -- What steps leave that commit nothing, one after another, and how they end: what was last
 -- committed stays, and the engine stands for a moment where it did.

@@ -128,7 +128,7 @@ rests c turn.Answer = is_some (answer_at_once c)
 
 abbrev pub rests_in : {E : Type 0} → Command → Result Turn E → Bool
 rests_in c (Ok t) = rests c t
-rests_in c (Err e) = false
+rests_in c (Err e) = is_some (answer_at_once c)
 
 -- the command changes nothing that the session sees: it begins or ends a transaction, or there is
 -- none, or the session's transaction was ended

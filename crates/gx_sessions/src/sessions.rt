@@ -50,7 +50,7 @@ impl<B: Leaves + Drop> Sessions<B> {
     ghost use Rattle.gx_sharing.specs.Kept.{IsClearOf};
     ghost use Rattle.gx_sharing.specs.Sharing.{Sharing, share_start, is_in, holds, outcome_of, after_turn, answered, with_session, session_after};
     ghost use Rattle.gx_sessions.specs.Standings.{commands_of, stands_in, is_within, bare};
-    ghost use Rattle.gx_sessions.specs.Shared.{AreClear, IsShortAmong, LeavesTurn};
+    ghost use Rattle.gx_sessions.specs.Shared.{AreClear, IsShortAmong, IsShortFor, LeavesTurn};
     ghost use Rattle.gx_sessions.specs.Turns.{engine_of, schema_of, leaves_of, stop_of, standing_at, is_in_at, IsNumber, MovesTo, IsReady, IsDue, AreShared, turn_of, IsIdle, ComesOut, IsTurned, EndsTurn, EndsTaken, RestsOn, IsSame, rests, without_turn};
 
     /// Sessions that are all outside, over an engine without an open transaction and without a
@@ -108,13 +108,14 @@ impl<B: Leaves + Drop> Sessions<B> {
     /// `Now` gives this call up and is kept: `out` is as before, and each later call answers
     /// `Stopped` with it and does nothing. Where it isn't `Now(Fault)`, the state of the last
     /// commit stays. `Now(Fault)`: the count of faults rose; with any other answer it stays.
-    /// `Now(Full)`: the pages may be too few for one of the commands of the session's transaction
-    /// since `begin`, this one with them, which are carried out in order on the last kept state.
+    /// `Now(Full)`: the turn isn't skipped or ended, and the pages may be too few for one of the
+    /// commands of the session's transaction since `begin`, this one with them, which are carried
+    /// out in order on the last kept state.
     /// `Now(Damaged)`: the leaves stood for no state, which is said of block 0 where the stored
     /// form of each is whole. `Now(NoMemory)`: there was no memory.
     ///
-    /// `Begin`, `Abort` and a line without a command reach no leaf. Each command but `Commit`
-    /// leaves what was last committed as it is.
+    /// `Begin`, `Abort` and a line without a command reach no leaf, whatever the answer is. Each
+    /// command but `Commit` leaves what was last committed as it is.
     pub fn turn(
         &mut self,
         alloc: Global,
@@ -129,8 +130,8 @@ impl<B: Leaves + Drop> Sessions<B> {
             (λ turn. IsTurned B.View p session command turn self.old self.new out.old out.new) }
         ensures full { (p : Sharing) → AreShared B.View p self.old →
             result ≡ Err (StepStop.Now Stop.Full) →
-            IsShortAmong (schema_of self.old) (built_of (engine_of self.old))
-            (B.limit (leaves_of self.old)) p (commands_of (p.session session) ++ command ∷ []) }
+            IsShortFor (schema_of self.old) (built_of (engine_of self.old))
+            (B.limit (leaves_of self.old)) p session command }
         ensures images { (p : Sharing) → AreShared B.View p self.old → (start : Content) →
             B.calm (leaves_of self.old) start →
             LeavesTurn B.View p (after_turn (schema_of self.old) p session command
@@ -201,8 +202,8 @@ impl<B: Leaves + Drop> Sessions<B> {
             (ComesOut B.View p session command (outcome_of (schema_of self.old) p session command)
             self.old self.new out.old out.new) }
         ensures full { (p : Sharing) → AreShared B.View p self.old → result ≡ Err Stop.Full →
-            IsShortAmong (schema_of self.old) (built_of (engine_of self.old))
-            (B.limit (leaves_of self.old)) p (commands_of (p.session session) ++ command ∷ []) }
+            IsShortFor (schema_of self.old) (built_of (engine_of self.old))
+            (B.limit (leaves_of self.old)) p session command }
         ensures images { (p : Sharing) → AreShared B.View p self.old → (start : Content) →
             B.calm (leaves_of self.old) start →
             LeavesTurn B.View p (after_turn (schema_of self.old) p session command

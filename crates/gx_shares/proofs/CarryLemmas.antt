@@ -34,7 +34,7 @@ use Rattle.gx_sharing.proofs.Replays.{ended_by_holder}
 use Rattle.gx_sessions.specs.declared.sessions.Sessions.{Sessions}
 use Rattle.gx_sessions.specs.declared.sessions.Turn.{Turn as TheTurn}
 use Rattle.gx_sessions.specs.Standings.{commands_of}
-use Rattle.gx_sessions.specs.Shared.{seeing, IsShortAmong, LeavesTurn}
+use Rattle.gx_sessions.specs.Shared.{seeing, IsShortFor, LeavesTurn}
 use Rattle.gx_sessions.specs.Turns.{engine_of, schema_of, leaves_of, stop_of, AreShared, IsSame, IsTextOf, IsTurned, EndsTurn, turn_of, without_turn}
 use Rattle.gx_play.proofs.TextLemmas.{cancel, front_of}
 use Rattle.gx_shares.specs.Shares.{said_of, IsNamed, SaysTurn}
@@ -57,8 +57,7 @@ pub turn_step : {S : Type 0} (g : Ghosts S) (n : ℕ) (c : Command) (old new : S
     (out now : List ℕ) (r : Result TheTurn StepStop) → stop_of old ≡ None
     → ((p : Sharing) → AreShared g p old → IfOk r (λ t. IsTurned g p n c t old new out now))
     → ((p : Sharing) → AreShared g p old → r ≡ Err (Now stop.Full)
-    → IsShortAmong (schema_of old) (engine_built (engine_of old)) (g.limit (leaves_of old)) p
-    (commands_of (p.session n) ++ c ∷ []))
+    → IsShortFor (schema_of old) (engine_built (engine_of old)) (g.limit (leaves_of old)) p n c)
     → ((p : Sharing) → AreShared g p old → (start : Content) → g.calm (leaves_of old) start
     → LeavesTurn g p (after_turn (schema_of old) p n c (outcome_of (schema_of old) p n c))
     (engine_of old) (engine_of new) (is_fault_now (without_turn r)))
@@ -241,8 +240,8 @@ pub turn_cut : {S : Type 0} (g : Ghosts S) (Goes : List Turn → Sharing → Typ
     (n : ℕ) (c : Command) (old new : Sessions S) (out now : List ℕ) (why : Stop)
     → AreShared g p old → IsTurnStep g old new n c out now (Err why)
     → IsStepCut g Goes (is_commit c ≡ true)
-    (IsShortAmong (schema_of old) (engine_built (engine_of old)) (g.limit (leaves_of old)) p
-    (commands_of (p.session n) ++ c ∷ [])) old new why
+    (IsShortFor (schema_of old) (engine_built (engine_of old)) (g.limit (leaves_of old)) p n c) old
+    new why
 turn_cut g Goes p n c old new out now why at step = record {
   unsaid = λ other. step.silent.said;
   kept = λ other. step.kept (no_fault why other);

@@ -58,6 +58,7 @@ module _ (schema : Schema) (ds : List DefinitionTree) (built : Built) (limit : O
             command = line.command;
             means = line.means;
             placed = line.placed;
+            is_answered = line.is_answered;
             short = short_by_state final _ line.short;
           },
         );

@@ -158,13 +158,14 @@ commit_of schema line n rest is_turn means = (n, rest, is_turn, means)
 pub short_of : (schema : Schema) (Short : Sharing → List Command → Type 0) (p : Sharing)
     (line : List ℕ) (n : ℕ) (rest : List ℕ) → IsTurn line (Ok (Some (n, rest)))
     → IsShortTurn schema Short p n rest → IsShortLine schema Short p line
-short_of schema Short p line n rest is_turn (c, means, placed, short) = record {
+short_of schema Short p line n rest is_turn (c, means, placed, is_answered, short) = record {
   session = n;
   rest = rest;
   is_turn = is_turn;
   command = c;
   means = means;
   placed = placed;
+  is_answered = is_answered;
   short = short;
 }
 

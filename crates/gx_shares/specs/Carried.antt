@@ -9,7 +9,7 @@ use Rattle.gx_ports.specs.declared.stop.Stop.{Stop}
 use Rattle.gx_ports.specs.declared.view.View.{Ghosts}
 use Rattle.gx_model.specs.Runs.{IsBadLine}
 use Rattle.gx_engine.specs.Steps.{built_of as engine_built, is_commit}
-use Rattle.gx_sharing.specs.Sharing.{Sharing}
+use Rattle.gx_sharing.specs.Sharing.{Sharing, answered, outcome_of}
 use Rattle.gx_sharing.specs.Turns.{Turn}
 use Rattle.gx_sharing.specs.Texts.{IsLinePlayed}
 use Rattle.gx_sessions.specs.declared.sessions.Sessions.{Sessions}
@@ -70,7 +70,8 @@ abbrev pub IsCommandStep : {S : Type 0} → Ghosts S → Sessions S → Sessions
     → Result (Unit {0}) LineEnd → Type 0
 IsCommandStep g old new n c line =
     IsStep g (λ p. IsTurnOf (schema_of old) p n line c) (is_commit c ≡ true)
-    (λ p. IsShortOn g old p (commands_of (p.session n) ++ c ∷ [])) old new
+    (λ p. (outcome_of (schema_of old) p n c ≡ answered)
+    × IsShortOn g old p (commands_of (p.session n) ++ c ∷ [])) old new
 
 -- the same with the command of this line
 abbrev pub IsTurnLineStep : {S : Type 0} → Ghosts S → Sessions S → Sessions S → ℕ → List ℕ

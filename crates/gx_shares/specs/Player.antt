@@ -16,7 +16,7 @@ use Rattle.gx_model.specs.States.{State}
 use Rattle.gx_model.specs.Commands.{next_state}
 use Rattle.gx_model.specs.Languages.{RunsIn, IsPlayIn}
 use Rattle.gx_engine.specs.Moments.{MayWantRoom}
-use Rattle.gx_sharing.specs.Sharing.{Sharing, share_start, played, is_in}
+use Rattle.gx_sharing.specs.Sharing.{Sharing, answered, share_start, played, is_in, outcome_of}
 use Rattle.gx_sharing.specs.Turns.{Turn}
 use Rattle.gx_sharing.specs.Texts.{turns, turn_text}
 use Rattle.gx_sessions.specs.Standings.{commands_of}
@@ -60,8 +60,8 @@ abbrev pub IsCommitNext : Schema → List (List ℕ) → Type 0
 IsCommitNext schema lines =
     (line : List ℕ) × (later : List (List ℕ)) × (lines ≡ line ∷ later) × IsCommitOf schema line
 
--- The line is a turn with a command that may stand where its session is. The pages may be too few
--- for one of the commands of the session's transaction, this one with them.
+-- The line is a turn with a command that may stand where its session is, and it is answered. The
+-- pages may be too few for one of the commands of the session's transaction, this one with them.
 pub record IsShortLine (schema : Schema) (Short : Sharing → List Command → Type 0) (p : Sharing)
     (line : List ℕ) : Type 0 where
   pub session : ℕ
@@ -70,6 +70,7 @@ pub record IsShortLine (schema : Schema) (Short : Sharing → List Command → T
   pub command : Command
   pub means : IsLineOf schema rest command
   pub placed : place_reason (is_in (p.session session)) command ≡ None
+  pub is_answered : outcome_of schema p session command ≡ answered
   pub short : Short p (commands_of (p.session session) ++ command ∷ [])
 
 -- the first of these lines is so

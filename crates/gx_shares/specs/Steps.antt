@@ -17,12 +17,12 @@ use Rattle.gx_engine.specs.declared.engine.StepStop.TheVariants.{Now, Stopped}
 use Rattle.gx_engine.specs.Crashes.{HoldsFor}
 use Rattle.gx_engine.specs.Steps.{built_of as engine_built, is_commit}
 use Rattle.gx_model.specs.States.{State}
-use Rattle.gx_sharing.specs.Sharing.{Sharing, is_in, outcome_of, after_turn, IsSaid}
+use Rattle.gx_sharing.specs.Sharing.{Sharing, answered, is_in, outcome_of, after_turn, IsSaid}
 use Rattle.gx_sharing.specs.Turns.{Turn}
 use Rattle.gx_sessions.specs.declared.sessions.Sessions.{Sessions}
 use Rattle.gx_sessions.specs.declared.sessions.Turn.{Turn as TheTurn}
 use Rattle.gx_sessions.specs.Standings.{commands_of}
-use Rattle.gx_sessions.specs.Shared.{IsShortAmong, LeavesTurn}
+use Rattle.gx_sessions.specs.Shared.{IsShortFor, LeavesTurn}
 use Rattle.gx_sessions.specs.Turns.{engine_of, schema_of, leaves_of, stop_of, AreShared, IsReady, IsSound, IsTurned}
 use Rattle.gx_shares.specs.Player.{texts_of}
 
@@ -39,8 +39,7 @@ pub record IsTurnStep {S : Type 0} (g : Ghosts S) (old new : Sessions S) (n : �
   pub turned : (p : Sharing) → AreShared g p old
       → IfOk result (λ t. IsTurned g p n c t old new out now)
   pub full : (p : Sharing) → AreShared g p old → result ≡ Err stop.Full
-      → IsShortAmong (schema_of old) (engine_built (engine_of old)) (g.limit (leaves_of old)) p
-      (commands_of (p.session n) ++ c ∷ [])
+      → IsShortFor (schema_of old) (engine_built (engine_of old)) (g.limit (leaves_of old)) p n c
   pub images : (p : Sharing) → AreShared g p old → (start : Content) → g.calm (leaves_of old) start
       → LeavesTurn g p (after_turn (schema_of old) p n c (outcome_of (schema_of old) p n c))
       (engine_of old) (engine_of new) (is_fault result)
@@ -72,12 +71,12 @@ IsTurnLine schema p n line ts next =
     (c : Command) × IsLineOf schema line c × (place_reason (is_in (p.session n)) c ≡ None)
     × IsTurnOf schema p n line c ts next
 
--- The pages may be too few for one of the commands of the session's transaction, the one of this
--- line with them.
+-- The turn is answered, and the pages may be too few for one of the commands of the session's
+-- transaction, the one of this line with them.
 abbrev pub IsShortTurn : Schema → (Sharing → List Command → Type 0) → Sharing → ℕ → List ℕ → Type 0
 IsShortTurn schema Short p n line =
     (c : Command) × IsLineOf schema line c × (place_reason (is_in (p.session n)) c ≡ None)
-    × Short p (commands_of (p.session n) ++ c ∷ [])
+    × (outcome_of schema p n c ≡ answered) × Short p (commands_of (p.session n) ++ c ∷ [])
 
 -- the step was carried out and what it says was said, and the sessions stand for what comes after
 -- it

@@ -16,6 +16,12 @@ returns-in-Answer-clause-images g c = λ p are start calm.
     (sym (answer_is o (sym c.in-Answer.is ∙ c.requires.turn p are)))
     (c.answer.ensures.images p are start calm)
 
+pub returns-in-Answer-clause-full : goal.returns-in-Answer-clause-full
+returns-in-Answer-clause-full g c = λ p are full.
+    let old = c.args.self.now in
+    let o = outcome_of (schema_of old) p c.args.session c.args.command in
+    (answer_is o (sym c.in-Answer.is ∙ c.requires.turn p are), c.answer.ensures.full p are full)
+
 pub returns-in-Skipped-clause-comes : goal.returns-in-Skipped-clause-comes
 returns-in-Skipped-clause-comes g c = λ p are.
     let old = c.args.self.now in
