@@ -220,7 +220,7 @@ module _ {S : Type 0} (g : Ghosts S) where
       step_as _ _ _ _ _ _ old new r
       (λ p at ts next. turn_goes (schema_of old) p n line c means (placed_at p at) ts next)
       (commit_line (schema_of old) line c means)
-      (λ p at short. (c, means, placed_at p at, short))
+      (λ p at short. (c, means, placed_at p at, short.0, short.1))
     where
       placed_at : (p : Sharing) → AreShared g p old → place_reason (is_in (p.session n)) c ≡ None
       placed_at p at =
