@@ -203,7 +203,8 @@ pub line_finer : (schema : Schema) (ds : List DefinitionTree) (built : Built)
     → ((answers : List ℕ) (m : Playing)
     → (line_over_play schema built limit start script).Full answers m
     → MayBeFull schema ds limit start script answers m)
-    → IsFiner (line_over_play schema built limit start script) (line_play schema ds limit start script)
+    → IsFiner (line_over_play schema built limit start script)
+    (line_play schema ds limit start script)
 line_finer schema ds built limit start script full = record {
   kept = λ m. refl;
   ends = λ end answers m is. is;
@@ -216,7 +217,8 @@ line_finer schema ds built limit start script full = record {
 -- over nodes that the definitions mean, the one by the entries of leaves and the one by the states
 pub finer : (k : ScriptKind) (g : Given) (built : Built) (limit : Limits) (start : State)
     (script : List ℕ) → IsBuiltOf g.schema g.definitions built
-    → IsFiner (over_play k g.schema built (Some limit) start script) (plays_of k g script limit start)
+    → IsFiner (over_play k g.schema built (Some limit) start script)
+    (plays_of k g script limit start)
 finer script_kind.Lines g built limit start script trees =
     line_finer g.schema g.definitions built (Some limit) start script
     (λ answers m is. full_by_state g.schema g.definitions built (Some limit) start script answers m

@@ -476,7 +476,8 @@ module _ {M : Type 0} (p : Play M) (g : Given) (device : List ℕ) (start : Stat
 
     play_due : (d : Status) → IsDueOf p d → s ≢ status.Outside → (s ≡ d) ⊎ (s ≡ status.Memory)
     play_due d is out =
-        finished_due p start law Kept Promised old mid new says (λ t due. due) played s played_as finished d is out
+        finished_due p start law Kept Promised old mid new says (λ t due. due) played s played_as
+        finished d is out
 
     play_heard : (r : Result (Unit {0}) Ending) → r ≡ played → IfErr r IsPlayEnding
         → IsFinished r mid new s → s ≡ status.Done → new.script ≡ []

@@ -177,7 +177,8 @@ run_unopened k g device old mid new e s t same ended moments = record {
     begins = ([], t.attaches.said ∙ sym (append-nil old.now.said))
 
     by : (w : Ending) → unopened_ending e ≡ w → IsPlayEnding w
-        → ((block : ℕ) → w ≡ ending.Device (device_why.Damaged block) → ⊥) → EndsAs (IsEndOfKind k g.schema old.script) (Err w)
+        → ((block : ℕ) → w ≡ ending.Device (device_why.Damaged block) → ⊥)
+        → EndsAs (IsEndOfKind k g.schema old.script) (Err w)
         → IsKept (runs_unheld device (IsEndOfKind k g.schema old.script) old) old new s
     by w is play undamaged reads =
         unheld_kept g device (IsEndOfKind k g.schema old.script) old mid new s begins (Err w) play
@@ -395,8 +396,8 @@ module _ (kind : ScriptKind) (g : Given) (device : List ℕ) (schema : Schema)
     held = λ start held. run_kept (Plays start held) g device start old held
         (lawful kind g old.script (limit_of g held.0) start) opened mid new played s
         (played_on start held) same finished moments r.play;
-    unheld = λ none. unheld_kept g device (IsEndOfKind kind g.schema old.script) old mid new s begins
-        played r.play
+    unheld = λ none. unheld_kept g device (IsEndOfKind kind g.schema old.script) old mid new s
+        begins played r.play
         (λ block is. damage_line block
         (subst (λ (q : Result (Unit {0}) Ending). IfErr q (IsDamageBelow (length mid.now.blocks))) is
         r.damage)) r.reads r.heard finished;

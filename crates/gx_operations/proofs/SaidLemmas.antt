@@ -245,7 +245,8 @@ module _ {M : Type 0} (P : Play M) (start : State) (law : IsLawful P start)
     finished_said (Err why) s out broken e = by_answers (answers_of old.now.said mid.now.said why out)
       where
         by_answers : Answers old.now.said mid.now.said (status_of why) (ending_line why)
-            ⊎ ((why ≡ ending.Fault) × SaysFrontOf P Holds old.now.said mid.now.said) → IsSaid p old new s
+            ⊎ ((why ≡ ending.Fault) × SaysFrontOf P Holds old.now.said mid.now.said)
+            → IsSaid p old new s
         by_answers (inl a) =
             line_said p why old mid new a.answers a.said
             (says (status_of why) a.answers (ending_line why) a.final a.ends a.holds)
@@ -262,11 +263,13 @@ module _ {M : Type 0} (P : Play M) (start : State) (law : IsLawful P start)
         → (s ≡ d) ⊎ (s ≡ status.Memory)
     finished_due (Ok x) s out (done, same) d is firm =
         due_play s d out.answers [] out.final
-        (subst (λ k. EndsWith P k out.answers out.final []) (sym done) (out.stands, refl)) (due d is) firm
+        (subst (λ k. EndsWith P k out.answers out.final []) (sym done) (out.stands, refl))
+        (due d is) firm
     finished_due (Err why) s out e d is firm = by_answers (answers_of old.now.said mid.now.said why out)
       where
         by_answers : Answers old.now.said mid.now.said (status_of why) (ending_line why)
-            ⊎ ((why ≡ ending.Fault) × SaysFrontOf P Holds old.now.said mid.now.said) → (s ≡ d) ⊎ (s ≡ status.Memory)
+            ⊎ ((why ≡ ending.Fault) × SaysFrontOf P Holds old.now.said mid.now.said)
+            → (s ≡ d) ⊎ (s ≡ status.Memory)
         by_answers (inl a) =
             by_memory s (λ is. inr is) (λ other. due_play s d a.answers (ending_line why) a.final
             (subst (λ k. EndsWith P k a.answers a.final (ending_line why))

@@ -1,6 +1,6 @@
 -- What the requests share: what accepted texts mean, and what a device holds of them.
 use Rattle.std.specs.Prelude.{◌≡◌, ℕ, List, length, None}
-use Rattle.gx_device.specs.Content.{Content, Texts, device_at}
+use Rattle.gx_device.specs.Content.{Content, device_at}
 use Rattle.gx_ports.specs.declared.kinds.LeafSpec.{LeafSpec}
 use Rattle.gx_ports.specs.LeafMaps.{LeafMap, Limits}
 use Rattle.gx_schema.specs.declared.schema.Schema.{Schema}
@@ -11,7 +11,7 @@ use Rattle.gx_typing.specs.declared.typing.Typing.{Typing}
 use Rattle.gx_states.specs.Built.{IsBuiltOf}
 use Rattle.gx_model.specs.States.{State}
 use Rattle.gx_states.specs.Terms.{IsInternalForm}
-use Rattle.gx_store.specs.Device.{Reopens, IsSettled, IsNoneOrEmpty}
+use Rattle.gx_store.specs.Device.{Reopens, IsSettled}
 use Rattle.gx_store.specs.Opening.{AreOpened}
 use Rattle.gx_store.specs.Store.{OfBlocks}
 use Rattle.gx_requests.specs.declared.opened.Stored.{Stored}

@@ -1,5 +1,5 @@
 -- `inspect`: what a device holds, examined whole.
-use Rattle.std.specs.Prelude.{◌≡◌, ◌⊎◌, ℕ, List, [], Some}
+use Rattle.std.specs.Prelude.{◌≡◌, ◌⊎◌, ℕ, List, Some}
 use Rattle.gx_device.specs.Content.{Content, device_at}
 use Rattle.gx_device.specs.Crash.{Image}
 use Rattle.gx_ports.specs.LeafMaps.{LeafMap}

@@ -10,8 +10,8 @@ texts_of = map (λ word. string_bytes word)
 
 -- what is asked of two texts: to be checked, or that the script is played or explained under them;
 -- on a device that is made, whose blocks a word counts, or that is there and is played on, with
--- lines or with turns of several sessions, or inspected; or that so many records of the workload are
--- played on a device that is made
+-- lines or with turns of several sessions, or inspected; or that so many records of the workload
+-- are played on a device that is made
 pub data Action : Type 0 where
   checking : Action
   trying : Action

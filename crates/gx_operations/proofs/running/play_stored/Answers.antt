@@ -49,7 +49,8 @@ returns-in-Ok-clause-answered g c = λ told s maps reaches internal texts head c
     old.now.said now.now.said c.play_as-store.result.0
     (subst (λ m. IsPlayedOf play
     (λ (k : State). AreInternal schema built (kept_of left) k × WasWhole left)
-    old.now.said (content m).now.said c.play_as-store.result.0) (sym c.close-machine.ensures.machine)
+    old.now.said (content m).now.said c.play_as-store.result.0)
+    (sym c.close-machine.ensures.machine)
     (c.play_as-store.ensures.answered told s holding))
     (λ k held. settled_from schema built texts.0 texts.1 (head_of c.args.store) (head_of left)
     (kept_of left) now.now.blocks k c.play_as-store.ensures.keeps.head head
@@ -127,7 +128,8 @@ returns-in-Err-clause-answered g c = λ told s maps reaches internal texts head 
     old.now.said now.now.said c.play_as-store.result.0
     (subst (λ m. IsPlayedOf play
     (λ (k : State). AreInternal schema built (kept_of left) k × WasWhole left)
-    old.now.said (content m).now.said c.play_as-store.result.0) (sym c.close-machine.ensures.machine)
+    old.now.said (content m).now.said c.play_as-store.result.0)
+    (sym c.close-machine.ensures.machine)
     (c.play_as-store.ensures.answered told s holding))
     (λ k held. settled_from schema built texts.0 texts.1 (head_of c.args.store) (head_of left)
     (kept_of left) now.now.blocks k c.play_as-store.ensures.keeps.head head
@@ -187,7 +189,8 @@ returns-in-Ok-clause-reads g c = λ told.
 
 pub returns-in-Err-clause-reads : goal.returns-in-Err-clause-reads
 returns-in-Err-clause-reads g c = λ told.
-    let ends = IsEndOfKind c.args.kind c.args.schema (g.M.Device.content (machine_of c.args.store)).script in
+    let ends = IsEndOfKind c.args.kind c.args.schema
+    (g.M.Device.content (machine_of c.args.store)).script in
     damage_kept (λ w. EndsAs ends (Err w)) (λ block other is. tt) _ c.damage_on-why.result
     c.damage_on-why.ensures.same
     (subst (EndsAs ends) c.in-Err.is (c.play_as-store.ensures.reads told))

@@ -62,7 +62,8 @@ returns-in-Ok-clause-promised g c = λ can given of.
           ∙ ap (λ (k : List LeafSpec). limits_on k (length blocks)) specs_are;
       holds = λ blocks maps there reopens. c.in-Ok.ensures.holds can blocks maps there reopens;
       answered = λ s maps reaches internal.
-          subst (λ k. IsPlayedOf (over_play c.args.kind x.schema x.built (Some limit) s opened.script)
+          subst (λ k. IsPlayedOf
+          (over_play c.args.kind x.schema x.built (Some limit) s opened.script)
           (λ (kept : State). IsSettledIn x.schema x.built schema equation k mid.now.blocks kept
           × (is_fault played ≡ false → EachImage (λ image. StoreState x.schema x.built (head_of store)
           kept image.blocks) mid.now)) opened.now.said mid.now.said played)
@@ -76,7 +77,8 @@ returns-in-Ok-clause-promised g c = λ can given of.
       heard = c.play_stored-machine.ensures.heard can.told;
       reads =
           subst (λ (k : Schema). EndsAs (IsEndOfKind c.args.kind k old.script) played) of.schema
-          (subst (λ (t : List ℕ). EndsAs (IsEndOfKind c.args.kind x.schema t) played) attaches.script
+          (subst (λ (t : List ℕ). EndsAs (IsEndOfKind c.args.kind x.schema t) played)
+          attaches.script
           (c.play_stored-machine.ensures.reads can.told));
       stays = c.play_stored-machine.ensures.stays can.told;
       play = c.play_stored-machine.ensures.ending;
