@@ -194,3 +194,20 @@ def answer_of(model, command, of, rest):
         return getattr(model, command)(of, *rest)
     except Refused as it:
         return [f"refused: {it}"]
+
+
+def in_order(turns):
+    """The turns that were answered in transactions that committed, one transaction after the other in
+    the order of their commits, and those that were answered outside of one, where they stand."""
+    going, found = {}, []
+    for turn in turns:
+        if turn.outcome == "ended":
+            going.pop(turn.session, None)
+        elif turn.outcome == "answered" and (turn.is_inside or turn.command == "begin"):
+            going.setdefault(turn.session, []).append(turn)
+            if turn.command in ENDS:
+                mine = going.pop(turn.session)
+                found += mine if turn.command == "commit" else []
+        elif turn.outcome == "answered":
+            found.append(turn)
+    return found
