@@ -108,7 +108,7 @@ turn_step g n c old new out now (Err (Stopped why)) none turned full images ends
 
 -- ---- what it says
 
-named : (m : ℕ) → In m sessions → m < 10
+pub named : (m : ℕ) → In m sessions → m < 10
 named m (inl e) = omega (arith, e)
 named m (inr (inl e)) = omega (arith, e)
 named m (inr (inr (inl e))) = omega (arith, e)

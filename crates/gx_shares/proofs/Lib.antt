@@ -13,3 +13,5 @@ mod StepLemmas
 mod PlayLemmas
 mod OverLemmas
 mod HearLemmas
+mod CommitLemmas
+mod AckedLemmas

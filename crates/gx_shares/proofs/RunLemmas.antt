@@ -7,7 +7,7 @@ use Rattle.gx_reader.specs.declared.reader.LineReader.{LineReader}
 use Rattle.gx_reader.specs.Reader.{meant, number_of}
 use Rattle.gx_model.specs.Play.{End, stopped, end_at}
 use Rattle.gx_model.specs.Languages.{Language, RunsIn, IsEndIn, AreFirstLines, IsPlayIn}
-use Rattle.gx_model.proofs.LanguageLemmas.{go_on}
+use Rattle.gx_model.proofs.LanguageLemmas.{IsDefinite, go_on}
 use Rattle.gx_shares.specs.Going.{RunsTo}
 
 module _ {M A : Type 0} (l : Language M A) (start : M) where
@@ -88,3 +88,29 @@ module _ {M A : Type 0} (l : Language M A) (start : M) where
       ended all before number (Ok (Some line)) answers now (stopped n reason) so
       (left.lines, so.lines_are ∙ ap (λ (ls : Lines). so.ran ++ ls.lines) before_is)
       (reason, bad, ap (λ k. stopped k reason) n_is)
+
+-- lines run in one way in a language that is definite
+pub runs_once : {M A : Type 0} (l : Language M A) → IsDefinite l → (p q r : M)
+    (ran : List (List ℕ)) (a b : List A) → RunsIn l p ran a q → RunsIn l p ran b r
+    → (a ≡ b) × (q ≡ r)
+runs_once l one p q r [] a b x y = (x.0 ∙ sym y.0, x.1 ∙ sym y.1)
+runs_once {M = M} l one p q r (line ∷ ran) a b x y =
+    let first = one.goes_once p line x.0 y.0 x.2 y.2 x.3 y.3 in
+    let rest = runs_once l one y.2 q r ran x.1 y.1
+    (subst (λ (s : M). RunsIn l s ran x.1 q) first.1 x.4) y.4 in
+    (x.5 ∙ (λ i. first.0 i ++ rest.0 i) ∙ sym y.5, rest.1)
+
+-- lines that run are first ones that run, and others that run behind them
+pub run_parts : {M A : Type 0} (l : Language M A) (p r : M) (a b : List (List ℕ)) (t : List A)
+    → RunsIn l p (a ++ b) t r
+    → (u : List A) × (v : List A) × (q : M) × RunsIn l p a u q × RunsIn l q b v r × (t ≡ u ++ v)
+run_parts l p r [] b t run = ([], t, p, (refl, refl), run, refl)
+run_parts {A = A} l p r (line ∷ a) b t run =
+    let x = run_parts l run.2 r a b run.1 run.4 in (
+      run.0 ++ x.0,
+      x.1,
+      x.2,
+      (run.0, x.0, run.2, run.3, x.3, refl),
+      x.4,
+      run.5 ∙ ap (λ (us : List A). run.0 ++ us) x.5 ∙ sym (append_assoc run.0 x.0 x.1),
+    )

@@ -5,3 +5,4 @@ pub mod Steps
 pub mod Going
 pub mod Carried
 pub mod Reads
+pub mod Acknowledged
