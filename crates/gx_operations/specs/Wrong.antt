@@ -1,4 +1,4 @@
--- A device that isn't what was asked for, of `run` and `inspect`.
+-- A device that isn't what was asked for, of `run`, `share` and `inspect`.
 use Rattle.std.specs.Prelude.{◌≡◌, ◌<◌, ℕ, List, [], Some, None, length, false, get_or, slice_index_or}
 use Rattle.gx_device.specs.Content.{Content, NonePending, device_at}
 use Rattle.gx_layout.specs.Head.{HasMagic, DifferFirst, text_at, text_area}

@@ -41,9 +41,9 @@ use std::alloc::Global;
 ///   the schema, the equation, its types, and the length of the texts. The line of that reason was
 ///   said, and nothing else.
 /// - `Full`: the pages may be too few for the command of a line, which changes records or links,
-///   isn't refused and is no `delete`, or is a `reorganize`; of `share`, for one of the commands of
-///   the session's transaction, carried out in order on the last kept state, with that of the turn.
-///   Exactly the answers of the lines before it were said, of `run` on a device that holds a
+///   isn't refused and is no `delete`, or is a `reorganize`; of `share`, at a turn that is answered,
+///   for one of the commands of its session's transaction, carried out in order on the last kept
+///   state, with that of the turn. Exactly the answers of the lines before it were said, of `run` on a device that holds a
 ///   state, and then `stopped: full`; of `work` that line alone.
 /// - `Device`: the device isn't what was asked for. Its line was said, and nothing else; that of
 ///   damage, which names a block that the device has, was said last, behind what was said before.
@@ -55,8 +55,8 @@ use std::alloc::Global;
 /// - `Outside`: a call of the machine failed. All answers of one of the others were said and a
 ///   front of its line, or first answers, but perhaps an end of the last one.
 ///
-/// On a device that holds no state `run` says of a line that it is bad only where it is, and ends
-/// with `Done` only where none is.
+/// On a device that holds no state `run` and `share` say of a line that it is bad only where it is,
+/// and end with `Done` only where none is.
 ///
 /// `Refused` comes only where there is a reason, and every other status but `Memory` and `Outside`
 /// only where the texts are accepted. Which status is due, what is left of the device whatever the

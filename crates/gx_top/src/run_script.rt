@@ -10,8 +10,9 @@ use gx_operations::{ScriptKind, refuse};
 use gx_play::Status;
 use std::alloc::Global;
 
-/// Plays the script on the device of that name, under the texts of these names, and says its answers;
-/// or says the reason where the request is refused or the device is another than was asked for.
+/// Plays the script on the device of that name, under the texts of these names, and says its
+/// answers; or says the reason where the request is refused or the device is another than was asked
+/// for.
 pub fn run_script<M: Machine + Drop>(
     alloc: Global,
     schema: &str,
