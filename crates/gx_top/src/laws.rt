@@ -6,13 +6,14 @@ ghost use Rattle.gx_ports.specs.declared.kinds.LeafSpec.{LeafSpec as Spec};
 ghost use Rattle.gx_ports.specs.LeafMaps.{LeafMap, Limits, entry_count};
 ghost use Rattle.gx_schema.specs.declared.schema.Schema.{Schema as TheSchema};
 ghost use Rattle.gx_equation.specs.Trees.{DefinitionTree};
-ghost use Rattle.gx_model.specs.Play.{Playing, End};
+ghost use Rattle.gx_model.specs.Play.{Playing, End, start_at};
 ghost use Rattle.gx_model.specs.States.{State};
 ghost use Rattle.gx_model.specs.Languages.{IsPlayIn};
 ghost use Rattle.gx_commands.specs.Lines.{script_lines};
 ghost use Rattle.gx_sharing.specs.Sharing.{Sharing, share_start};
 ghost use Rattle.gx_sharing.specs.Texts.{turns};
-ghost use Rattle.gx_sharing.specs.Turns.{Turn as TheTurn};
+ghost use Rattle.gx_sharing.specs.Turns.{Turn as TheTurn, ArePlayed, committed_of, lines_of, answers_of, resting};
+ghost use Rattle.gx_model.specs.Runs.{Runs};
 ghost use Rattle.gx_states.specs.Terms.{state_size};
 ghost use Rattle.gx_store.specs.Device.{Reopens};
 ghost use Rattle.gx_store.specs.Store.{OfBlocks};
@@ -102,6 +103,26 @@ pub fn each_script_is_played(words: &[String])
         → IsGiven (texts_of words.now) texts a g
         → (answers : List ℕ) × (final : Playing) × (end : End)
         × IsPlay g.schema start script answers final end }
+{}
+
+/// What the turns of a script committed, played on a device that holds a state: the lines of the
+/// transactions that committed, one transaction after another in the order of their commits, are a
+/// play from that state; the answer at each line is that of its turn, and the kept states are those
+/// of the turns. It does nothing.
+pub fn committed_turns_are_a_play()
+    // Each of them has at its line the answer of its own turn.
+    ensures each { (g : Given) (device : List ℕ) (c : Content) (start : State)
+        (ts : List TheTurn) (final : Sharing) (end : End)
+        → IsHeldOn g device start c
+        → IsPlayIn (turns g.schema) (share_start start) (script_lines c.script) ts final end
+        → ArePlayed g.schema (start_at start) (committed_of ts) (resting final) }
+    // So the text of all their answers is that of a play of their lines.
+    ensures text { (g : Given) (device : List ℕ) (c : Content) (start : State)
+        (ts : List TheTurn) (final : Sharing) (end : End)
+        → IsHeldOn g device start c
+        → IsPlayIn (turns g.schema) (share_start start) (script_lines c.script) ts final end
+        → Runs g.schema (start_at start) (lines_of (committed_of ts))
+        (answers_of (committed_of ts)) (resting final) }
 {}
 
 /// Each script of turns has a play from each state, under each schema that is accepted. It does

@@ -43,8 +43,9 @@ use std::alloc::Global;
 /// - `Full`: the pages may be too few for the command of a line, which changes records or links,
 ///   isn't refused and is no `delete`, or is a `reorganize`; of `share`, at a turn that is answered,
 ///   for one of the commands of its session's transaction, carried out in order on the last kept
-///   state, with that of the turn. Exactly the answers of the lines before it were said, of `run` on a device that holds a
-///   state, and then `stopped: full`; of `work` that line alone.
+///   state, with that of the turn. Exactly the answers of the lines before it were said, of `run`
+///   and of `share` on a device that holds a state, and then `stopped: full`; of `work` that line
+///   alone.
 /// - `Device`: the device isn't what was asked for. Its line was said, and nothing else; that of
 ///   damage, which names a block that the device has, was said last, behind what was said before.
 ///   Damage comes only of a device that is there, with its size, a database and the same texts, and
