@@ -5,4 +5,5 @@ pub mod Views
 pub mod Whole
 pub mod Held
 pub mod Leaves
-pub mod Layers
+pub mod Sets
+pub mod Forms

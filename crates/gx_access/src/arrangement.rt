@@ -1,6 +1,7 @@
 // What a layer does with the data of a record.
 ghost use Rattle.std.specs.Prelude.{◌≡◌, IfOk};
 ghost use Rattle.gx_access.specs.Arrangements.{IsArranged, HasDataChildren};
+ghost use Rattle.gx_access.specs.Forms.{HasForms};
 
 use gx_mapping::Mapping;
 use gx_partition::Where;
@@ -57,4 +58,7 @@ pub trait Arranged: Mapping {
 
     /// The data children are those of the arrangement.
     ghost data_children: { (m : Self) → HasDataChildren (Self.rule m) (arranged m) };
+
+    /// The forms of the data children are those of the arrangement.
+    ghost formed: { (m : Self) → HasForms (Self.rule m) (arranged m) };
 }

@@ -277,21 +277,19 @@ fn cut_access<M: Arranged>(
 /// `actual`; a code on a code; a division of anything but a leaf; more than 65,535 layers `actual`
 /// above a leaf; or a layer that doesn't tell what it does. `NoMemory`: there was none for it.
 pub fn access_of<M: Arranged>(alloc: Global, node: &Node<M>) -> Result<Option<Access>, NoMemory>
-    requires { IsValid M.rule (tree_of node.now) }
-
     // Of each record exactly one alternative has exactly its data entries.
-    ensures access { IfOk result (λ found. IfSome found
+    ensures access { IsValid M.rule (tree_of node.now) → IfOk result (λ found. IfSome found
         (λ access. IsAccess M.rule (tree_of node.now) (choice_of access))) }
 
     // What leaves hold for records are these.
     ensures held { (R : List Record) (maps : List LeafMap) →
-        IsSet (tree_form M.rule (tree_of node.now)) R →
+        IsValid M.rule (tree_of node.now) → IsSet (tree_form M.rule (tree_of node.now)) R →
         IsInternal M.rule (tree_of node.now) R maps →
         IfOk result (λ found. IfSome found
         (λ access. IsHeldBy M.rule (tree_of node.now) (choice_of access) R maps)) }
 
     // The fragments are in the data leaves, one in each.
-    ensures leaves { IfOk result (λ found. IfSome found
+    ensures leaves { IsValid M.rule (tree_of node.now) → IfOk result (λ found. IfSome found
         (λ access. choice_leaves (choice_of access) ≡ data_leaves M.rule (tree_of node.now))) }
 
     // It is the one of the definition.

@@ -6,7 +6,6 @@ mod arrangement;
 mod compile;
 mod fragments;
 mod laws;
-mod layers;
 mod views;
 
 pub use access::{Access, Chooser, Fragment, Fragments, Group, NestedGroups, Slots, Tested, View};

@@ -29,7 +29,7 @@ use Rattle.gx_access.proofs.Induction.{access_is, data_is}
 use Rattle.gx_access.proofs.LeafLemmas.{access_leaves, fewer_data}
 use Rattle.gx_access.proofs.SpanLemmas.{held_inside}
 use Rattle.gx_gets.specs.AtKey.{IsOneInside, NoneInside}
-use Rattle.gx_gets.specs.Forms.{HasForms}
+use Rattle.gx_access.specs.Forms.{HasForms}
 use Rattle.gx_gets.specs.Whole.{IsRead, IsReader, AreReaders, HaveNone, IsHeldAt, asked, ReadsOne, IsKeyAlone, ReadsAtKey}
 use Rattle.gx_gets.proofs.AtKey.{at_key, at_no_key}
 use Rattle.gx_gets.proofs.HeldSteps.{inside_cases, others_none, held_at, total_at, total_none, fewer_leaves}

@@ -39,7 +39,7 @@ use Rattle.gx_access.specs.Access.{Choice, Choices, Only, By, no_choices, choice
 use Rattle.gx_access.specs.Views.{room_below, coded_view, group_views, chooser_of}
 use Rattle.gx_access.specs.Whole.{Below, only_fragments, joined, first_of, column_fragments, kid_choices, access_row, access_below, kids_below, access_of}
 use Rattle.gx_access.proofs.Induction.{none_is, from_flat, from_both, from_then, from_room, from_coded, from_groups, from_map, from_only}
-use Rattle.gx_gets.specs.Forms.{HasForms}
+use Rattle.gx_access.specs.Forms.{HasForms}
 use Rattle.gx_gets.specs.Whole.{AreDefaults, IsRead, IsCovered, IsLed, AreRead, choice_count, IsReadBy, AreReadBy, IsReader}
 use Rattle.gx_gets.proofs.ViewLemmas.{chosen_map, tested_default, chosen_tested, changed_picked, whole_values}
 use Rattle.gx_gets.proofs.SlotSteps.{slots_changed, changed_there, changed_from, storable_changed, slots_chosen, storable_chosen, chosen_from, chosen_either, slots_default, leaf_bare, cut_bare, pieces_few, whole_slots, whole_storable}

@@ -1,4 +1,3 @@
 pub mod Restored
 pub mod AtKey
-pub mod Forms
 pub mod Whole

@@ -12,10 +12,6 @@ ghost use Rattle.gx_access.specs.declared.access.Fragment.{Fragment as TheFragme
 ghost use Rattle.gx_access.specs.Access.{Choice, fragments_of, fragment_entries, seen};
 ghost use Rattle.gx_access.specs.Held.{leaf_pair};
 ghost use Rattle.gx_access.specs.Whole.{access_of, data_leaves};
-ghost use Rattle.gx_access.specs.Layers.{any_arranged};
-ghost use Rattle.gx_types.specs.Any.{any_rule};
-ghost use Rattle.gx_types.specs.declared.any.AnyMapping.{AnyMapping as TheMapping};
-ghost use Rattle.gx_gets.specs.Forms.{HasForms};
 ghost use Rattle.gx_gets.specs.AtKey.{IsOneInside, NoneInside, AreFew};
 
 use gx_access::Arranged;
@@ -42,9 +38,4 @@ pub fn entries_at_key<M: Arranged>(node: &Node<M>)
         IsKeySpan (tree_form M.rule (tree_of node.now)) span →
         NoneInside span R → In n (data_leaves M.rule (tree_of node.now)) →
         selected span.lo span.hi (map_at maps n) ≡ [] }
-{}
-
-/// Each mapping of the layers has the forms of its arrangement. It does nothing.
-pub fn layers_have_forms()
-    ensures { (m : TheMapping) → HasForms (any_rule m) (any_arranged m) }
 {}

@@ -7,6 +7,6 @@ mod read;
 mod values;
 mod whole;
 
-pub use laws::{entries_at_key, layers_have_forms};
+pub use laws::entries_at_key;
 pub use read::read_fragment;
 pub use whole::read_at;

@@ -20,7 +20,6 @@ ghost use Rattle.gx_access.specs.Held.{leaf_pair};
 ghost use Rattle.gx_access.specs.Leaves.{fragment_leaves, choice_leaves, choices_leaves};
 ghost use Rattle.gx_access.specs.Seen.{choice_of, choices_from};
 ghost use Rattle.gx_access.specs.Whole.{access_of};
-ghost use Rattle.gx_gets.specs.Forms.{HasForms};
 ghost use Rattle.gx_gets.specs.Restored.{put_fragment, IsReadable, IsOfOne};
 ghost use Rattle.gx_gets.specs.Whole.{put_fragments, IsReader, AreReaders, AreHeld, IsHeldAt, IsHeldIn, asked, ReadsOne, IsKeyAlone, ReadsAtKey};
 
@@ -51,7 +50,6 @@ pub fn read_at<M: Arranged, B: Leaves>(
     requires valid { IsValid M.rule (tree_of node.now) }
     requires access { access_of M.rule M.arranged (tree_of node.now)
         ≡ Some (choice_of access.now) }
-    requires formed { (m : M) → HasForms (M.rule m) (M.arranged m) }
     requires keyed { AreKeyFields (tree_form M.rule (tree_of node.now)).fields }
     requires short { AreShort (tree_form M.rule (tree_of node.now)).fields }
     requires below { (n : ℕ) → In n (leaves_of (tree_of node.now)) →

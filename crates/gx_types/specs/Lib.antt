@@ -1,4 +1,6 @@
 pub mod Any
+pub mod Arranged
+pub mod Accesses
 pub mod FileForms
 pub mod HeadRules
 pub mod Links

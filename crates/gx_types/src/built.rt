@@ -1,12 +1,67 @@
 // What stores the records of a schema's files, and its links.
+ghost use Rattle.std.specs.Prelude.{◌≡◌, Some, None, IsNone, IfOk, IfSome};
+ghost use Rattle.gx_access.specs.Sets.{found_set};
+ghost use Rattle.gx_types.specs.Accesses.{IsAccessOf};
+
 use crate::any::AnyMapping;
+use gx_access::{Access, access_of};
 use gx_stack::Node;
 use gx_typing::{Owners, Specs};
+use gx_values::NoMemory;
+use std::alloc::Global;
 use std::marker::Model;
 
-/// Nodes, seen as a list.
+/// The node of a file with its access, where it has one; seen as the node.
 #[derive(Drop)]
-pub struct Trees(pub Vec<Node<AnyMapping>>);
+pub struct FileNode {
+    node: Node<AnyMapping>,
+    access: Option<Access>,
+    ghost kept: { IsAccessOf node access } by { found_set _ _ },
+}
+
+impl Model for FileNode {
+    ghost use Rattle.gx_stack.specs.declared.node.Node.{Node as TheNode};
+    ghost use Rattle.gx_stack.specs.contracts.node.Node as of_node;
+    ghost use Rattle.gx_types.specs.declared.any.AnyMapping.{AnyMapping as TheMapping};
+    ghost use Rattle.gx_types.specs.contracts.any.AnyMapping as mapping;
+    ghost use Rattle.std.specs.Coded.{codes};
+
+    ghost Value = { TheNode TheMapping };
+
+    ghost coded = { Prim.hlevel (codes, (of_node.the_row mapping.the_row).coded) };
+
+    ghost view = { λ f. f.node };
+}
+
+impl FileNode {
+    /// The node with the access that it has. `NoMemory`: there was none for this.
+    pub fn new(alloc: Global, node: Node<AnyMapping>) -> Result<FileNode, NoMemory>
+        ensures { IfOk result (λ made. made ≡ node) }
+    {
+        let access = access_of(alloc, &node)?;
+        Ok(FileNode { node, access })
+    }
+
+    /// The node.
+    pub fn node(&self) -> &Node<AnyMapping>
+        ensures { result.now ≡ self.now }
+    {
+        &self.node
+    }
+
+    /// Which leaves have which data fields of each record, where the node is of a shape that has an
+    /// access.
+    pub fn access(&self) -> Option<&Access>
+        ensures some { IfSome result (λ access. IsAccessOf self.now (Some access.now)) }
+        ensures none { IsNone result → IsAccessOf self.now None }
+    {
+        self.access.as_ref()
+    }
+}
+
+/// Nodes of files, seen as a list.
+#[derive(Drop)]
+pub struct Trees(pub Vec<FileNode>);
 
 impl Model for Trees {
     ghost use Rattle.std.specs.Prelude.{List};

@@ -3,6 +3,7 @@
 #![tactic(auto)]
 
 mod any;
+mod arranged;
 mod building;
 mod built;
 mod links;
@@ -11,4 +12,4 @@ mod nodes;
 
 pub use any::{AnyMapping, Passing};
 pub use building::build;
-pub use built::{Built, LinkTree, LinkTrees, Trees};
+pub use built::{Built, FileNode, LinkTree, LinkTrees, Trees};

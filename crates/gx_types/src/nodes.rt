@@ -11,6 +11,7 @@ ghost use Rattle.gx_typing.specs.Typing.{count};
 ghost use Rattle.gx_ports.specs.declared.kinds.TheConstants.{MAX_LEAVES};
 
 use crate::any::AnyMapping;
+use crate::built::FileNode;
 use crate::mappings::mapping_of;
 use gx_equation::{Definition, Side, Term};
 use gx_mapping::Mapping;
@@ -142,7 +143,7 @@ pub fn nodes_of_files(
     files: &[FileDef],
     definitions: &[Definition],
     next: &mut u32,
-) -> Result<Vec<Node<AnyMapping>>, NoMemory>
+) -> Result<Vec<FileNode>, NoMemory>
     requires { AreReadyFiles next.old files.now (definitions_of definitions.now) }
     ensures trees { IfOk result
         (λ nodes. AreTreesOfFiles next.old files.now (definitions_of definitions.now) nodes.items) }
@@ -156,7 +157,8 @@ pub fn nodes_of_files(
         let [definition, after @ ..] = rest else {
             unreachable!()
         };
-        nodes.push(node_of_file(alloc, file, &definition.side, next)?)?;
+        let node = node_of_file(alloc, file, &definition.side, next)?;
+        nodes.push(FileNode::new(alloc, node)?)?;
         left = others;
         rest = after;
     }

@@ -24,28 +24,28 @@ returns-clause-found g c =
     c.access_below.ensures
 
 pub returns-clause-access : goal.returns-clause-access
-returns-clause-access g c =
+returns-clause-access g c valid =
     ok_weaker c.access_below.result _ _
     (λ found is. if_found choice_of found _ _ is
     (λ access at. access_is g.M.Mapping.rule g.M.Arranged.arranged g.met.M.Arranged.arranges
-    (tree_of c.args.node.now) (choice_of access) c.requires at))
+    (tree_of c.args.node.now) (choice_of access) valid at))
     (returns-clause-found g c)
 
 pub returns-clause-held : goal.returns-clause-held
-returns-clause-held g c = λ R maps set internal.
+returns-clause-held g c = λ R maps valid set internal.
     let rule = g.M.Mapping.rule in
     let t = tree_of c.args.node.now in
     ok_weaker c.access_below.result _ _
     (λ found is. if_found choice_of found _ _ is
     (λ access at. held_by rule t (choice_of access) R maps
-    (access_is rule g.M.Arranged.arranged g.met.M.Arranged.arranges t (choice_of access) c.requires
+    (access_is rule g.M.Arranged.arranged g.met.M.Arranged.arranges t (choice_of access) valid
     at) set (union_from_internal rule t R maps internal)))
     (returns-clause-found g c)
 
 pub returns-clause-leaves : goal.returns-clause-leaves
-returns-clause-leaves g c =
+returns-clause-leaves g c valid =
     ok_weaker c.access_below.result _ _
     (λ found is. if_found choice_of found _ _ is
     (λ access at. access_leaves g.M.Mapping.rule g.M.Arranged.arranged
-    g.met.M.Arranged.data_children (tree_of c.args.node.now) (choice_of access) c.requires at))
+    g.met.M.Arranged.data_children (tree_of c.args.node.now) (choice_of access) valid at))
     (returns-clause-found g c)

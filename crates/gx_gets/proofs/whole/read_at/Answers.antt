@@ -14,7 +14,7 @@ read_access-requires-clause-reader g c =
     let ch = choice_of c.args.access.now in
     subst (λ (form : Form). IsReader form ch) (sym c.form.ensures)
     (reader g.M.Mapping.rule g.M.Arranged.arranged g.met.M.Mapping.laws g.met.M.Arranged.arranges
-    g.met.M.Arranged.data_children c.requires.formed (tree_of c.args.node.now) ch c.requires.valid
+    g.met.M.Arranged.data_children g.met.M.Arranged.formed (tree_of c.args.node.now) ch c.requires.valid
     c.requires.keyed c.requires.access)
 
 pub read_access-requires-clause-below : goal.read_access-requires-clause-below
@@ -22,7 +22,7 @@ read_access-requires-clause-below g c = λ n h.
     let rule = g.M.Mapping.rule in
     let t = tree_of c.args.node.now in
     let same = leaves rule g.M.Arranged.arranged g.met.M.Mapping.laws g.met.M.Arranged.arranges
-    g.met.M.Arranged.data_children c.requires.formed t (choice_of c.args.access.now) c.requires.valid
+    g.met.M.Arranged.data_children g.met.M.Arranged.formed t (choice_of c.args.access.now) c.requires.valid
     c.requires.keyed c.requires.access in
     c.requires.below n (leaf_there rule t n (subst (In n) same h))
 
@@ -35,7 +35,7 @@ returns g c =
     let result = c.read_access.result in
     let ch = choice_of c.args.access.now in
     read_at_key g.M.Mapping.rule g.M.Arranged.arranged g.met.M.Mapping.laws
-    g.met.M.Arranged.arranges g.met.M.Arranged.data_children c.requires.formed
+    g.met.M.Arranged.arranges g.met.M.Arranged.data_children g.met.M.Arranged.formed
     (tree_of c.args.node.now) ch c.requires.valid c.requires.keyed c.requires.access g.B.View key
     span c.requires.alone old new result
     (subst (λ (form : Form). ByChoice g.B.View form key span ch old new result) c.form.ensures

@@ -18,6 +18,7 @@ use Rattle.gx_values.specs.declared.records.Form.{Form}
 use Rattle.gx_values.specs.declared.values.Code.{Code}
 use Rattle.gx_values.specs.declared.values.Value.{Value}
 use Rattle.gx_access.specs.Arrangements.{IsArranged, HasDataChildren}
+use Rattle.gx_access.specs.Forms.{HasForms}
 use Rattle.gx_access.specs.declared.arrangement.Arrangement.TheVariants.{Same, ByValue, Body, Coded, Groups, Columns, Cut}
 use Rattle.gx_access.specs.declared.arrangement.Arrangement.{Arrangement}
 
@@ -104,3 +105,12 @@ any_children (any.Transpose m) = transpose_holds (transpose_form m)
 any_children (any.Partition m) = partition_holds (partition_form m) (at_of m) (bounds_of m)
 any_children (any.Divide m) = divide_holds (divide_form m) (size_of m)
 any_children (any.Index m) = index_holds (index_form m) (index_field m)
+
+pub any_forms : (m : AnyMapping) → HasForms (any_rule m) (any_arranged m)
+any_forms (any.Actual m) = tt
+any_forms (any.Encode m) = m.sound
+any_forms (any.Segment m) = (m.long, λ c. refl)
+any_forms (any.Transpose m) = (m.some, λ c. refl)
+any_forms (any.Partition m) = (m.sound, omega arith, λ c. refl)
+any_forms (any.Divide m) = m.sound
+any_forms (any.Index m) = refl

@@ -1,13 +1,13 @@
 // What each layer does with the data of records.
 ghost use Rattle.std.specs.Prelude.{◌≡◌, IfOk};
 
-use crate::arrangement::{Arranged, Arrangement, Mask};
-use gx_types::AnyMapping;
+use crate::any::AnyMapping;
+use gx_access::{Arranged, Arrangement, Mask};
 use gx_values::NoMemory;
 use std::alloc::Global;
 
 impl Arranged for AnyMapping {
-    ghost use Rattle.gx_access.specs.Layers.{any_arranged, any_arranges, any_children};
+    ghost use Rattle.gx_types.specs.Arranged.{any_arranged, any_arranges, any_children, any_forms};
 
     ghost arranged = { any_arranged };
 
@@ -33,6 +33,8 @@ impl Arranged for AnyMapping {
     ghost arranges = { any_arranges };
 
     ghost data_children = { any_children };
+
+    ghost formed = { any_forms };
 }
 
 fn mask_of(alloc: Global, marks: &[bool]) -> Result<Mask, NoMemory>

@@ -1,5 +1,5 @@
 use Rattle.std.proofs.Common.{◌≡◌, take}
-use Rattle.gx_access.proofs.layers.mask_of.Given as goal
+use Rattle.gx_types.proofs.arranged.mask_of.Given as goal
 
 abbrev pub invariant-loop-mark : goal.invariant-loop-mark
 invariant-loop-mark l = l.copies.items ≡ take l.mark-index l.fn.marks
