@@ -15,6 +15,7 @@ pub mod StorableLemmas
 pub mod WhereLemmas
 mod DistinctLemmas
 mod KeyLemmas
+mod AccessLemmas
 mod OnePlaceLemmas
 mod BothLemmas
 mod ColumnLemmas

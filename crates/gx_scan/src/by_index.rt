@@ -22,8 +22,8 @@ use gx_commands::Cond;
 use gx_ports::{Leaves, Stop};
 use gx_rows::Row;
 use gx_schema::FileDef;
-use gx_stack::{Keys, Node};
-use gx_types::AnyMapping;
+use gx_stack::Keys;
+use gx_types::FileNode;
 use gx_values::{Name, Span, Values};
 use std::alloc::Global;
 
@@ -38,7 +38,7 @@ use std::alloc::Global;
 pub fn rows_where<B: Leaves>(
     alloc: Global,
     file: &FileDef,
-    node: &Node<AnyMapping>,
+    node: &FileNode,
     field: u16,
     span: &Span,
     conds: &[Cond],
@@ -56,10 +56,10 @@ pub fn rows_where<B: Leaves>(
     ensures { AddsWhere B.View file.now (tree_of node.now) field span.now conds.now leaves.old
         leaves.new rows.old.items rows.new.items result }
 {
-    let places = places_of(alloc, node, FEW_PLACES)?;
+    let places = places_of(alloc, node.node(), FEW_PLACES)?;
     let name = field_name(file, field);
     let mut keys = Keys::new(alloc);
-    node.keys_where(alloc, leaves, name, span, &mut keys)?;
+    node.node().keys_where(alloc, leaves, name, span, &mut keys)?;
     add_by_keys(
         alloc,
         file,
@@ -84,7 +84,7 @@ fn field_name(file: &FileDef, field: u16) -> &Name
 fn add_by_keys<B: Leaves>(
     alloc: Global,
     file: &FileDef,
-    node: &Node<AnyMapping>,
+    node: &FileNode,
     places: Option<&[Place]>,
     keys: &[Values],
     conds: &[Cond],
@@ -113,7 +113,7 @@ fn add_by_keys<B: Leaves>(
 fn add_by_key<B: Leaves>(
     alloc: Global,
     file: &FileDef,
-    node: &Node<AnyMapping>,
+    node: &FileNode,
     places: Option<&[Place]>,
     key: &Values,
     probe: &mut KeyProbe,
@@ -132,6 +132,7 @@ fn add_by_key<B: Leaves>(
         unreachable!()
     };
     if let Some(places) = places {
+        let node = node.node();
         return add_at_key(alloc, file, node, places, key, probe, conds, leaves, rows);
     }
     let Some(rec) = find_record(alloc, file, node, key, leaves)? else {

@@ -17,7 +17,7 @@ use gx_gather::Recs;
 use gx_ports::{Leaves, Stop};
 use gx_schema::FileDef;
 use gx_stack::Node;
-use gx_types::AnyMapping;
+use gx_types::{AnyMapping, FileNode};
 use gx_values::{Field, NoMemory, Rec, Span, Value, Values};
 use std::alloc::Global;
 
@@ -44,7 +44,7 @@ pub(crate) fn set_key(span: &mut Span, key: &Value)
 pub fn find_record<B: Leaves>(
     alloc: Global,
     file: &FileDef,
-    node: &Node<AnyMapping>,
+    node: &FileNode,
     key: &Value,
     leaves: &mut B,
 ) -> Result<Option<Rec>, Stop>
