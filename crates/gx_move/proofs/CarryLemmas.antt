@@ -50,6 +50,7 @@ short_front schema built limit p front rest short = record {
       ∙ append_assoc short.before (short.command ∷ short.later) rest;
   wants = short.wants;
   maps = short.maps;
+  many = short.many;
   stands = short.stands;
   short = short.short;
 }
@@ -71,6 +72,7 @@ short_rest schema built limit p front rest short =
           ∙ sym (append_assoc front short.before (short.command ∷ short.later));
       wants = subst (λ (q : Playing). MayWantRoom schema q short.command) same short.wants;
       maps = short.maps;
+      many = short.many;
       stands = subst (λ (q : Playing). AreInternal schema built short.maps (seen_state q)) same
           short.stands;
       short = subst (λ (q : Playing). IsCrowdedBy limit (entry_count short.maps
@@ -118,12 +120,12 @@ module _ {S : Type 0} (g : Ghosts S) where
   }
 
   pub carries_step : (c : Command) (old new : Engine S) (out now : List ℕ)
-      (r : Result (Unit {0}) StepStop) → stop_of old ≡ None → is_commit c ≡ false
+      (r : Result (Unit {0}) StepStop) → IsReady g old → stop_of old ≡ None → is_commit c ≡ false
       → inside_after (is_open old) c ≡ true
       → ((p : Playing) → IsAt g p old → OnOk r (CarriesOut g p c old new out now))
       → ((p : Playing) → IsAt g p old → r ≡ Err (Now stop.Full) → IsShortFor g old p c)
       → EndsStep g old new c out now r → CarriesOn g (c ∷ []) old new r
-  carries_step c old new out now r going quiet inside carried full ends = record {
+  carries_step c old new out now r ready going quiet inside carried full ends = record {
     carried = λ p at. stepped_at p c old new out now r at (carried p at) ends;
     full = λ p at is. record {
       before = [];
@@ -132,6 +134,7 @@ module _ {S : Type 0} (g : Ghosts S) where
       parts = refl;
       wants = (full p at is).0;
       maps = g.working (leaves_of old);
+      many = sym ready.owned.each;
       stands = at.stands.working_is;
       short = (full p at is).1;
     };

@@ -1,5 +1,5 @@
 -- The commands that give the stock of a valid state are of its schema.
-use Rattle.std.proofs.Common.{◌≡◌, ℕ, ◌+◌, ◌^◌, ◌<◌, List, [], ◌∷◌, ◌++◌, length, map, get_or, drop, is_some, IsTrue, refl, sym, ap, subst, ◌∙◌, arith, append_assoc, length-append}
+use Rattle.std.proofs.Common.{◌≡◌, ℕ, ◌+◌, ◌^◌, ◌<◌, ◌≤◌, Bool, true, false, List, [], ◌∷◌, ◌++◌, length, map, get_or, drop, is_some, IsTrue, refl, sym, ap, subst, ◌∙◌, arith, append_assoc, length-append}
 use Rattle.std.specs.List.{AllByRecursion}
 use Rattle.std.specs.FinMap as fin
 use Rattle.std.proofs.lemmas.List.{length-map}
@@ -16,7 +16,10 @@ use Rattle.gx_scan.specs.Files.{rec_of, file_records}
 use Rattle.gx_states.proofs.LinkLemmas.{key_fits}
 use Rattle.gx_move.specs.declared.stock.Stock.{Stock}
 use Rattle.gx_move.specs.Stocks.{pairs_in}
-use Rattle.gx_move.specs.Giving.{inserts_of, connects_of, each_from, AreOfSchema, IsStockFor, IsValidStock}
+use Rattle.gx_move.specs.Giving.{insert_of, inserts_of, connects_of, each_from, stride_of, is_turn, insert_in_turn, fills_by, fills_of, AreOfSchema, IsStockFor, IsValidStock}
+use Rattle.gx_commands.specs.declared.command.Command.{Command}
+use Rattle.gx_commands.specs.declared.command.Command.TheVariants as command
+use Rattle.std.specs.Prelude.{if◌then◌else◌}
 use Rattle.gx_move.proofs.GiftLemmas.{at_seam, length_more}
 
 -- ---- all of several lists
@@ -120,6 +123,45 @@ pub stock_inserts : (schema : Schema) (stock : Stock) → IsStockFor schema stoc
 stock_inserts schema stock is =
     all_front (IsOfSchema schema) (each_from inserts_of 0 stock.files)
     (each_from connects_of 0 stock.links) is.commands
+
+turns_due : (P : Command → Type 0) (test : ℕ → Bool) (f : Rec → Command) (n : ℕ) (rs : List Rec)
+    → AllByRecursion P (map f rs)
+    → AllByRecursion P (each_from (λ m r. if test m then f r ∷ [] else []) n rs)
+turns_due P test f n [] all = tt
+turns_due P test f n (r ∷ rs) all =
+    all_both P (if test n then f r ∷ [] else [])
+    (each_from (λ m x. if test m then f x ∷ [] else []) (n + 1) rs)
+    (either (test n)) (turns_due P test f (n + 1) rs all.1)
+  where
+    either : (b : Bool) → AllByRecursion P (if b then f r ∷ [] else [])
+    either true = (all.0, tt)
+    either false = tt
+
+fill_due : (schema : Schema) (stride file : ℕ) (rs : List Rec) → file < length schema.files
+    → AreOfSchema schema (inserts_of file rs) → AreOfSchema schema (fills_by stride file rs)
+fill_due schema stride file rs lt all =
+    all_both (IsOfSchema schema) (each_from (insert_in_turn stride true file) 0 rs)
+    (command.ReorganizeFile file ∷ each_from (insert_in_turn stride false file) 0 rs)
+    (turns_due (IsOfSchema schema) (is_turn stride true) (insert_of file) 0 rs all)
+    (lt, turns_due (IsOfSchema schema) (is_turn stride false) (insert_of file) 0 rs all)
+
+fills_due : (schema : Schema) (n : ℕ) (files : List (List Rec))
+    → n + length files ≤ length schema.files → AreOfSchema schema (each_from inserts_of n files)
+    → AreOfSchema schema (each_from fills_of n files)
+fills_due schema n [] le all = tt
+fills_due schema n (rs ∷ files) le all =
+    let rest = each_from inserts_of (n + 1) files in
+    all_both (IsOfSchema schema) (fills_of n rs) (each_from fills_of (n + 1) files)
+    (fill_due schema (stride_of (length rs)) n rs (omega (arith, le))
+    (all_front (IsOfSchema schema) (inserts_of n rs) rest all))
+    (fills_due schema (n + 1) files (omega (arith, le))
+    (all_rest (IsOfSchema schema) (inserts_of n rs) rest all))
+
+-- so are those by which its files are filled
+pub stock_fills : (schema : Schema) (stock : Stock) → IsStockFor schema stock
+    → AreOfSchema schema (each_from fills_of 0 stock.files)
+stock_fills schema stock is =
+    fills_due schema 0 stock.files (omega (arith, is.files)) (stock_inserts schema stock is)
 
 pub stock_connects : (schema : Schema) (stock : Stock) → IsStockFor schema stock
     → AreOfSchema schema (each_from connects_of 0 stock.links)

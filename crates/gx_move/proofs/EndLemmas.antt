@@ -24,7 +24,7 @@ use Rattle.gx_engine.specs.Steps.{schema_of, built_of, leaves_of, stop_of, IsAt,
 use Rattle.gx_engine.specs.Crashes.{HoldsState, HoldsFor, LeavesStates}
 use Rattle.gx_engine.proofs.CrashLemmas.{keeps_states}
 use Rattle.gx_move.specs.declared.stock.Stock.{Stock}
-use Rattle.gx_move.specs.Giving.{commands_of, IsGift, with_commit, KeepsLast, CarriesOn, EndsGiving, LeavesGift}
+use Rattle.gx_move.specs.Giving.{gives_of, IsGift, with_commit, KeepsLast, CarriesOn, EndsGiving, LeavesGift}
 use Rattle.gx_move.proofs.GiftLemmas.{open_at, gift_carried}
 use Rattle.gx_move.proofs.CarryLemmas.{cause_then, cause_of_step, sound_after, stepped_at}
 
@@ -85,7 +85,7 @@ module _ {S : Type 0} (g : Ghosts S) where
 
   -- after the commands of the stock the transaction has its state
   pub filled_at : (p : Playing) (s : State) (stock : Stock) (old mid : Engine S)
-      → CarriesOn g (command.Begin ∷ commands_of stock) old mid (Ok tt) → IsAt g p old
+      → CarriesOn g (command.Begin ∷ gives_of stock) old mid (Ok tt) → IsAt g p old
       → IsGift (schema_of old) p stock s → IsAt g (open_at p s) mid
   filled_at p s stock old mid x at gift =
       subst (λ (q : Playing). IsAt g q mid) (gift_carried (schema_of old) p stock s gift)

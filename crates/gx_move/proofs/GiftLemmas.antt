@@ -1,6 +1,6 @@
 -- The commands that give a stock make its state of an empty one.
-use Rattle.std.proofs.Common.{◌≡◌, ℕ, suc, ◌+◌, ◌<◌, ◌≤◌, List, [], ◌∷◌, ◌++◌, length, map, filter, replicate, get_or, set, Bool, true, false, cond, not, ◌&&◌, T, is_some, Option, Some, None, IsTrue, refl, sym, ap, subst, ◌∙◌, arith, append-nil, append_assoc, length-append}
-use Rattle.std.specs.Prelude.{if◌then◌else◌, nat_le}
+use Rattle.std.proofs.Common.{◌≡◌, ℕ, suc, ◌+◌, ◌%◌, ◌<◌, ◌≤◌, List, [], ◌∷◌, ◌++◌, length, map, filter, replicate, get_or, set, Bool, true, false, cond, not, ◌&&◌, T, is_some, Option, Some, None, IsTrue, refl, sym, ap, subst, ◌∙◌, arith, append-nil, append_assoc, length-append}
+use Rattle.std.specs.Prelude.{◌==◌, if◌then◌else◌, nat_le}
 use Rattle.std.specs.List.{AllByRecursion}
 use Rattle.std.specs.Cmp.{tied_itself}
 use Rattle.std.specs.FinMap as fin
@@ -22,8 +22,8 @@ use Rattle.gx_model.specs.Play.{Playing, after_command}
 use Rattle.gx_scan.specs.Files.{rec_of, file_records}
 use Rattle.gx_move.specs.declared.stock.Stock.{Stock}
 use Rattle.gx_move.specs.Stocks.{pairs_in}
-use Rattle.gx_move.specs.Giving.{insert_of, inserts_of, connect_of, connects_of, each_from, commands_of, after_commands, IsGift}
-use Rattle.gx_move.proofs.FrontLemmas.{front_sorted, next_new, map_again, entries_again}
+use Rattle.gx_move.specs.Giving.{insert_of, inserts_of, connect_of, connects_of, each_from, stride_of, fills_by, fills_of, gives_of, after_commands, IsGift}
+use Rattle.gx_move.proofs.FrontLemmas.{AreApart, picked, front_sorted, sorted_apart, apart_front, next_apart, next_new, apart_turns, map_again, map_in_turns, entries_again}
 
 -- ---- lists
 
@@ -72,18 +72,34 @@ free_pair a b c d ends owners free few =
 
 -- ---- records
 
+-- the inserts of a turn are those of the records that it picks
+turn_inserts : (test : ℕ → Bool) (file n : ℕ) (rows : List Row)
+    → each_from (λ m r. if test m then insert_of file r ∷ [] else []) n (map rec_of rows)
+    ≡ inserts_of file (map rec_of (picked test n rows))
+turn_inserts test file n [] = refl
+turn_inserts test file n (r ∷ rows) =
+    ap (λ (cs : List Command). (if test n then insert_of file (rec_of r) ∷ [] else []) ++ cs)
+    (turn_inserts test file (n + 1) rows)
+    ∙ either (test n)
+  where
+    rest = picked test (n + 1) rows
+    either : (b : Bool)
+        → (if b then insert_of file (rec_of r) ∷ [] else []) ++ inserts_of file (map rec_of rest)
+        ≡ inserts_of file (map rec_of (if b then r ∷ rest else rest))
+    either true = refl
+    either false = refl
+
 module _ (schema : Schema) where
   -- a record is inserted behind the first of a file
   insert_next : (done later : List File) (links : List Link) (front : List Row) (r : Row)
-      (rest : List Row) → T (fin.is_sorted value_cmp (front ++ r ∷ rest))
-      → next_state schema (files_with done (fin.from_entries front) later links)
+      (rest : List Row) → AreApart value_cmp (front ++ r ∷ rest) → next_state schema (files_with done (fin.from_entries front) later links)
       (insert_of (length done) (rec_of r))
       ≡ files_with done (fin.from_entries (front ++ r ∷ [])) later links
-  insert_next done later links front r rest sorted =
+  insert_next done later links front r rest apart =
       let f : File = fin.from_entries front in
       let s = files_with done f later links in
       let n = length done in
-      let none = next_new value_cmp value_cmp_total front r rest sorted in
+      let none = next_apart value_cmp value_cmp_total front r rest apart in
       let here : file_in s n ≡ f = at_seam done f later fin.empty in
       let free : has_record s n r.0 ≡ false =
       ap (λ (g : File). is_some (fin.get g r.0)) here
@@ -98,24 +114,50 @@ module _ (schema : Schema) where
       (sym (fin.from_entries_push value_cmp_total value_cmp_same front r.0 r.1 none))
 
   inserted_rows : (p : Playing) (done later : List File) (links : List Link)
-      (front rest : List Row) → T (fin.is_sorted value_cmp (front ++ rest))
+      (front rest : List Row) → AreApart value_cmp (front ++ rest)
       → after_commands schema
       (open_at p (files_with done (fin.from_entries front) later links))
       (inserts_of (length done) (map rec_of rest))
       ≡ open_at p (files_with done (fin.from_entries (front ++ rest)) later links)
-  inserted_rows p done later links front [] sorted =
+  inserted_rows p done later links front [] apart =
       ap (λ (es : List Row). open_at p (files_with done (fin.from_entries es) later links))
       (sym (append-nil front))
-  inserted_rows p done later links front (r ∷ rest) sorted =
+  inserted_rows p done later links front (r ∷ rest) apart =
       let on : front ++ r ∷ rest ≡ (front ++ r ∷ []) ++ rest =
       sym (append_assoc front (r ∷ []) rest) in
       ap (λ (s : State). after_commands schema (open_at p s)
       (inserts_of (length done) (map rec_of rest)))
-      (insert_next done later links front r rest sorted)
+      (insert_next done later links front r rest apart)
       ∙ inserted_rows p done later links (front ++ r ∷ []) rest
-      (subst (λ (es : List Row). T (fin.is_sorted value_cmp es)) on sorted)
+      (subst (λ (es : List Row). AreApart value_cmp es) on apart)
       ∙ ap (λ (es : List Row). open_at p (files_with done (fin.from_entries es) later links))
       (sym on)
+
+  -- a file is filled by the first of its records and then by the others
+  filled_file : (p : Playing) (done later : List File) (links : List Link) (stride : ℕ) (f : File)
+      → after_commands schema (open_at p (files_with done fin.empty later links))
+      (fills_by stride (length done) (file_records f))
+      ≡ open_at p (files_with done f later links)
+  filled_file p done later links stride f =
+      let es = fin.entries f in
+      let n = length done in
+      let test : ℕ → Bool = λ m. m % stride == 0 in
+      let firsts = picked test 0 es in
+      let others = picked (λ m. not (test m)) 0 es in
+      let apart = apart_turns value_cmp value_cmp_total test 0 es
+      (sorted_apart value_cmp es (fin.entries_sorted f)) in
+      (λ i. after_commands schema (open_at p (files_with done fin.empty later links))
+      (turn_inserts test n 0 es i ++ command.ReorganizeFile n
+      ∷ turn_inserts (λ m. not (test m)) n 0 es i))
+      ∙ after_both schema (open_at p (files_with done fin.empty later links))
+      (inserts_of n (map rec_of firsts))
+      (command.ReorganizeFile n ∷ inserts_of n (map rec_of others))
+      ∙ ap (λ (q : Playing). after_commands schema q
+      (command.ReorganizeFile n ∷ inserts_of n (map rec_of others)))
+      (inserted_rows p done later links [] firsts (apart_front value_cmp firsts others apart))
+      ∙ inserted_rows p done later links firsts others apart
+      ∙ ap (λ (g : File). open_at p (files_with done g later links))
+      (map_in_turns value_cmp value_cmp_total value_cmp_same test f)
 
   -- each file is filled, one after the other
   pub inserted_files : (p : Playing) (done todo : List File) (links : List Link) (n : ℕ)
@@ -123,7 +165,7 @@ module _ (schema : Schema) where
       → after_commands schema
       (open_at p
       (record { files = done ++ replicate (length todo) fin.empty; links = links }))
-      (each_from inserts_of n (map file_records todo))
+      (each_from fills_of n (map file_records todo))
       ≡ open_at p (record { files = done ++ todo; links = links })
   inserted_files p done [] links n is = refl
   inserted_files p done (f ∷ todo) links n is =
@@ -131,14 +173,12 @@ module _ (schema : Schema) where
       let on : (g : File) (fs : List File) → done ++ g ∷ fs ≡ (done ++ g ∷ []) ++ fs =
       λ g fs. sym (append_assoc done (g ∷ []) fs) in
       after_both schema (open_at p (files_with done fin.empty empty links))
-      (inserts_of n (file_records f)) (each_from inserts_of (n + 1) (map file_records todo))
+      (fills_of n (file_records f)) (each_from fills_of (n + 1) (map file_records todo))
       ∙ ap (λ (q : Playing). after_commands schema q
-      (each_from inserts_of (n + 1) (map file_records todo)))
+      (each_from fills_of (n + 1) (map file_records todo)))
       (ap (λ m. after_commands schema (open_at p (files_with done fin.empty empty links))
-      (inserts_of m (file_records f))) is
-      ∙ inserted_rows p done empty links [] (fin.entries f) (fin.entries_sorted f)
-      ∙ ap (λ (g : File). open_at p (files_with done g empty links))
-      (map_again value_cmp value_cmp_total value_cmp_same f)
+      (fills_of m (file_records f))) is
+      ∙ filled_file p done empty links (stride_of (length (file_records f))) f
       ∙ ap (λ (fs : List File). open_at p (record { files = fs; links = links })) (on f empty))
       ∙ inserted_files p (done ++ f ∷ []) todo links (n + 1)
       (ap (λ m. m + 1) is ∙ sym (length_more done f))
@@ -285,7 +325,7 @@ module _ (schema : Schema) where
 -- the commands of a valid state's stock make this state of an empty one
 pub gift_carried : (schema : Schema) (p : Playing) (stock : Stock) (s : State)
     → IsGift schema p stock s
-    → after_commands schema p (command.Begin ∷ commands_of stock) ≡ open_at p s
+    → after_commands schema p (command.Begin ∷ gives_of stock) ≡ open_at p s
 gift_carried schema p stock s gift =
     let is = gift.stock_is in
     let valid = gift.valid in
@@ -298,10 +338,10 @@ gift_carried schema p stock s gift =
       files = replicate (sym valid.files_many i) fin.empty;
       links = replicate (sym valid.links_many i) fin.empty;
     })) in
-    after_both schema (open_at p p.kept) (each_from inserts_of 0 stock.files)
+    after_both schema (open_at p p.kept) (each_from fills_of 0 stock.files)
     (each_from connects_of 0 stock.links)
     ∙ ap (λ (q : Playing). after_commands schema q (each_from connects_of 0 stock.links))
-    ((λ i. after_commands schema (begun i) (each_from inserts_of 0 (is.files i)))
+    ((λ i. after_commands schema (begun i) (each_from fills_of 0 (is.files i)))
     ∙ inserted_files schema p [] s.files (replicate (length s.links) fin.empty) 0 refl)
     ∙ ap (λ (ls : List (List (Value × Value))). after_commands schema
     (open_at p (record { files = s.files; links = replicate (length s.links) fin.empty }))

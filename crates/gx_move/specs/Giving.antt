@@ -1,5 +1,5 @@
 -- How an engine is given a stock: by which commands, what these leave and how they end.
-use Rattle.std.specs.Prelude.{◌≡◌, ℕ, ◌+◌, ◌≤◌, List, [], ◌∷◌, ◌++◌, length, map, Bool, true, false, Option, None, Result, Err, OnOk, OnErr}
+use Rattle.std.specs.Prelude.{◌≡◌, ℕ, ◌+◌, ◌/◌, ◌%◌, ◌≤◌, ◌==◌, max, List, [], ◌∷◌, ◌++◌, length, map, Bool, true, false, not, Option, None, Result, Err, OnOk, OnErr, if◌then◌else◌}
 use Rattle.std.specs.List.{AllByRecursion}
 use Rattle.gx_device.specs.Content.{Silent}
 use Rattle.gx_device.specs.Crash.{LeavesOnly}
@@ -49,10 +49,46 @@ abbrev pub each_from : {A : Type 0} → (ℕ → A → List Command) → ℕ →
 each_from commands n [] = []
 each_from commands n (x ∷ xs) = commands n x ++ each_from commands (n + 1) xs
 
--- The commands that give a stock: an insert of each record of each file, and then a connect of each
--- pair of each link, in the order of the stock.
+-- The commands of a stock: an insert of each record of each file, and a connect of each pair of each
+-- link, in the order of the stock.
 abbrev pub commands_of : Stock → List Command
 commands_of stock = each_from inserts_of 0 stock.files ++ each_from connects_of 0 stock.links
+
+-- ---- in which order
+
+-- From which record to which one of a file with so many is inserted first. At least 512 are where
+-- the file has them: eight for each of 64 buckets, which an indexed sequential file may have.
+abbrev pub stride_of : ℕ → ℕ
+stride_of count = max (count / 512) 1
+
+-- whether the record of this number is one of the first, or one of the others
+abbrev pub is_turn : ℕ → Bool → ℕ → Bool
+is_turn stride first n = if first then n % stride == 0 else not (n % stride == 0)
+
+-- the insert of the record of this number, where it is its turn
+abbrev pub insert_in_turn : ℕ → Bool → ℕ → ℕ → Rec → List Command
+insert_in_turn stride first file n r =
+    if is_turn stride first n then insert_of file r ∷ [] else []
+
+-- The commands that fill a file: the first records are inserted, its leaves are laid out anew, and
+-- the others are inserted. So an indexed sequential file has its buckets before most records come.
+abbrev pub fills_by : ℕ → ℕ → List Rec → List Command
+fills_by stride file records =
+    each_from (insert_in_turn stride true file) 0 records
+    ++ command.ReorganizeFile file ∷ each_from (insert_in_turn stride false file) 0 records
+
+abbrev pub fills_of : ℕ → List Rec → List Command
+fills_of file records = fills_by (stride_of (length records)) file records
+
+-- the commands that give a stock: each file is filled, and then each pair of each link is connected
+abbrev pub gives_of : Stock → List Command
+gives_of stock = each_from fills_of 0 stock.files ++ each_from connects_of 0 stock.links
+
+-- the same in a transaction of their own, which is committed
+abbrev pub transaction_of : Stock → List Command
+transaction_of stock = command.Begin ∷ gives_of stock ++ command.Commit ∷ []
+
+-- ---- what commands leave
 
 -- what comes after commands that are carried out one after the other
 abbrev pub after_commands : Schema → Playing → List Command → Playing
@@ -101,6 +137,7 @@ pub record IsShortAmong (schema : Schema) (built : Built) (limit : Option Limits
   pub parts : cs ≡ before ++ command ∷ later
   pub wants : MayWantRoom schema (after_commands schema p before) command
   pub maps : List LeafMap
+  pub many : length maps ≡ length built.owners
   pub stands : AreInternal schema built maps (seen_state (after_commands schema p before))
   pub short : IsCrowdedBy limit (entry_count maps
       + state_entries built

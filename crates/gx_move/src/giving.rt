@@ -9,7 +9,7 @@ ghost use Rattle.gx_model.specs.States.{State};
 ghost use Rattle.gx_model.specs.Play.{Playing};
 ghost use Rattle.gx_engine.specs.declared.engine.StepStop.TheVariants.{Now};
 ghost use Rattle.gx_engine.specs.Steps.{schema_of, built_of, leaves_of, stop_of, is_open, is_commit, is_fault_now, IsReady, IsAt, IsDue};
-ghost use Rattle.gx_move.specs.Giving.{insert_of, inserts_of, connect_of, connects_of, each_from, commands_of, AreOfSchema, IsStockFor, IsGift, with_commit, IsShortAmong, CarriesOn, EndsGiving, LeavesGift};
+ghost use Rattle.gx_move.specs.Giving.{insert_of, insert_in_turn, is_turn, stride_of, connect_of, connects_of, each_from, fills_of, gives_of, transaction_of, after_commands, AreOfSchema, IsStockFor, IsGift, with_commit, IsShortAmong, CarriesOn, EndsGiving, LeavesGift};
 
 use crate::stock::Stock;
 use crate::taking::or_stop;
@@ -24,7 +24,11 @@ use std::alloc::Global;
 /// Gives a stock to the engine of a database for whose schema it is, where no transaction is open
 /// and no stop is kept. It takes one transaction: each record is inserted, each pair is connected,
 /// and all of it is committed at the end. Where the database has no record and the stock is that of
-/// a valid state, that state is then the last committed one.
+/// a valid state, that state is then the last committed one. Elsewhere a record whose key is there,
+/// and a pair that can't be connected, is passed over, as its command would be refused.
+///
+/// Of each file some records come first. Then its leaves are laid out anew, so that an indexed
+/// sequential file has buckets for the others.
 ///
 /// `Now` gives this call up and is kept. Where it isn't `Now(Fault)`, the state of the last commit
 /// stays. `Now(Fault)`: the count of faults rose; with any other answer it stays. `Now(Full)`: at
@@ -44,9 +48,12 @@ pub fn give<B: Leaves + Drop>(
     ensures given { (p : Playing) (s : State) → IsAt B.View p engine.old →
         IsGift (schema_of engine.old) p stock.now s →
         OnOk result (IsAt B.View (with_commit p s) engine.new) }
+    ensures carried { (p : Playing) → IsAt B.View p engine.old → OnOk result
+        (IsAt B.View (after_commands (schema_of engine.old) p (transaction_of stock.now))
+        engine.new) }
     ensures full { (p : Playing) → IsAt B.View p engine.old → result ≡ Err (Now Full) →
         IsShortAmong (schema_of engine.old) (built_of engine.old)
-        (B.limit (leaves_of engine.old)) p (command.Begin ∷ commands_of stock.now) }
+        (B.limit (leaves_of engine.old)) p (transaction_of stock.now) }
     ensures images { (p : Playing) (s : State) → IsAt B.View p engine.old →
         IsGift (schema_of engine.old) p stock.now s → (start : Content) →
         B.calm (leaves_of engine.old) start →
@@ -69,15 +76,14 @@ fn fill<B: Leaves + Drop>(
     requires going { stop_of engine.old ≡ None }
     requires shut { is_open engine.old ≡ false }
     requires fits { IsStockFor (schema_of engine.old) stock.now }
-    ensures { CarriesOn B.View (command.Begin ∷ commands_of stock.now) engine.old engine.new
-        result }
+    ensures { CarriesOn B.View (command.Begin ∷ gives_of stock.now) engine.old engine.new result }
 {
     carry_out(alloc, engine, Command::Begin)?;
     give_files(alloc, engine, &stock.files.0)?;
     give_links(alloc, engine, &stock.links.0)
 }
 
-// Inserts the records of each file.
+// Fills each file with its records.
 fn give_files<B: Leaves + Drop>(
     alloc: Global,
     engine: &mut Engine<B>,
@@ -87,8 +93,8 @@ fn give_files<B: Leaves + Drop>(
     requires going { stop_of engine.old ≡ None }
     requires inside { is_open engine.old ≡ true }
     requires few { length files.now < 2 ^ 16 }
-    requires due { AreOfSchema (schema_of engine.old) (each_from inserts_of 0 files.now) }
-    ensures { CarriesOn B.View (each_from inserts_of 0 files.now) engine.old engine.new result }
+    requires due { AreOfSchema (schema_of engine.old) (each_from fills_of 0 files.now) }
+    ensures { CarriesOn B.View (each_from fills_of 0 files.now) engine.old engine.new result }
 {
     for file in 0..files.len() {
         let records = &files[file];
@@ -97,7 +103,7 @@ fn give_files<B: Leaves + Drop>(
     Ok(())
 }
 
-// Inserts the records of a file.
+// Inserts the first records of a file, lays its leaves out anew, and inserts the others.
 fn give_records<B: Leaves + Drop>(
     alloc: Global,
     engine: &mut Engine<B>,
@@ -107,13 +113,56 @@ fn give_records<B: Leaves + Drop>(
     requires ready { IsReady B.View engine.old }
     requires going { stop_of engine.old ≡ None }
     requires inside { is_open engine.old ≡ true }
-    requires due { AreOfSchema (schema_of engine.old) (inserts_of file records.now) }
-    ensures { CarriesOn B.View (inserts_of file records.now) engine.old engine.new result }
+    requires due { AreOfSchema (schema_of engine.old) (fills_of file records.now) }
+    ensures { CarriesOn B.View (fills_of file records.now) engine.old engine.new result }
+{
+    let stride = stride_of(records.len());
+    give_turn(alloc, engine, file, records, stride, true)?;
+    carry_out(alloc, engine, Command::ReorganizeFile(file))?;
+    give_turn(alloc, engine, file, records, stride, false)
+}
+
+// At least 512 records come first, where there are so many. An indexed sequential file that is laid
+// out anew has a bucket for each eight of its entries, and 64 at most.
+fn stride_of(count: usize) -> usize
+    ensures stride { result ≡ stride_of count }
+    ensures some { 0 < result }
+{
+    (count / 512).max(1)
+}
+
+// Inserts the first records of a file, or the others.
+fn give_turn<B: Leaves + Drop>(
+    alloc: Global,
+    engine: &mut Engine<B>,
+    file: u16,
+    records: &[Rec],
+    stride: usize,
+    first: bool,
+) -> Result<(), StepStop>
+    requires ready { IsReady B.View engine.old }
+    requires going { stop_of engine.old ≡ None }
+    requires inside { is_open engine.old ≡ true }
+    requires some { 0 < stride }
+    requires due { AreOfSchema (schema_of engine.old)
+        (each_from (insert_in_turn stride first file) 0 records.now) }
+    ensures { CarriesOn B.View (each_from (insert_in_turn stride first file) 0 records.now)
+        engine.old engine.new result }
 {
     for i in 0..records.len() {
-        insert(alloc, engine, file, &records[i])?;
+        if is_turn(stride, first, i) {
+            insert(alloc, engine, file, &records[i])?;
+        }
     }
     Ok(())
+}
+
+// Whether the record of this number is one of the first, or one of the others.
+fn is_turn(stride: usize, first: bool, i: usize) -> bool
+    requires some { 0 < stride }
+    ensures { result ≡ is_turn stride first i }
+{
+    (i % stride == 0) == first
 }
 
 // Connects the pairs of each link.

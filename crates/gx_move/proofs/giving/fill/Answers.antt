@@ -7,8 +7,8 @@ use Rattle.gx_commands.specs.Commands.{place_reason}
 use Rattle.gx_commands.specs.declared.command.Command.TheVariants as command
 use Rattle.gx_engine.specs.declared.engine.StepStop.{StepStop}
 use Rattle.gx_engine.specs.Steps.{schema_of}
-use Rattle.gx_move.specs.Giving.{inserts_of, connects_of, each_from, commands_of, AreOfSchema, CarriesOn}
-use Rattle.gx_move.proofs.DueLemmas.{stock_inserts, stock_connects, few_files, few_links}
+use Rattle.gx_move.specs.Giving.{fills_of, connects_of, each_from, gives_of, AreOfSchema, CarriesOn}
+use Rattle.gx_move.proofs.DueLemmas.{stock_fills, stock_connects, few_files, few_links}
 use Rattle.gx_move.proofs.CarryLemmas.{carries_then, carries_front, err_is}
 use Rattle.gx_move.proofs.giving.fill.Goals as goal
 
@@ -23,10 +23,10 @@ pub returns-in_err-carry_out : goal.returns-in_err-carry_out
 returns-in_err-carry_out g c =
     let why = c.in_err-carry_out.field-0.0 in
     subst (λ (r : Result (Unit {0}) StepStop).
-    CarriesOn g.B.View (command.Begin ∷ commands_of c.args.stock.now) c.args.engine.now
+    CarriesOn g.B.View (command.Begin ∷ gives_of c.args.stock.now) c.args.engine.now
     c.carry_out.new.engine r)
     (sym (err_is c.from_residual.result why c.from_residual.ensures.1))
-    (carries_front g.B.View (command.Begin ∷ []) (commands_of c.args.stock.now) c.args.engine.now
+    (carries_front g.B.View (command.Begin ∷ []) (gives_of c.args.stock.now) c.args.engine.now
     c.carry_out.new.engine why c.in_err-carry_out.ensures)
 
 pub give_files-requires-clause-few : goal.give_files-requires-clause-few
@@ -40,11 +40,11 @@ pub give_files-requires-clause-due : goal.give_files-requires-clause-due
 give_files-requires-clause-due g c =
     let same : c.deref.result.now ≡ c.args.stock.now.files = search rules in
     subst (λ (files : List (List Rec)). AreOfSchema (schema_of c.carry_out.new.engine)
-    (each_from inserts_of 0 files)) (sym same)
+    (each_from fills_of 0 files)) (sym same)
     (subst (λ (schema : Schema).
-    AreOfSchema schema (each_from inserts_of 0 c.args.stock.now.files))
+    AreOfSchema schema (each_from fills_of 0 c.args.stock.now.files))
     (sym c.in_ok-carry_out.ensures.keeps.schema)
-    (stock_inserts (schema_of c.args.engine.now) c.args.stock.now c.requires.fits))
+    (stock_fills (schema_of c.args.engine.now) c.args.stock.now c.requires.fits))
 
 pub returns-in_err-give_files : goal.returns-in_err-give_files
 returns-in_err-give_files g c =
@@ -52,15 +52,15 @@ returns-in_err-give_files g c =
     let stock = c.args.stock.now in
     let same : c.deref.result.now ≡ stock.files = search rules in
     subst (λ (r : Result (Unit {0}) StepStop).
-    CarriesOn g.B.View (command.Begin ∷ commands_of stock) c.args.engine.now
+    CarriesOn g.B.View (command.Begin ∷ gives_of stock) c.args.engine.now
     c.give_files.new.engine r)
     (sym (err_is c.from_residual-in_err-give_files.result why
     c.from_residual-in_err-give_files.ensures.1))
-    (carries_then g.B.View (command.Begin ∷ []) (commands_of stock) c.args.engine.now
+    (carries_then g.B.View (command.Begin ∷ []) (gives_of stock) c.args.engine.now
     c.carry_out.new.engine c.give_files.new.engine (Err why) c.in_ok-carry_out.ensures
-    (carries_front g.B.View (each_from inserts_of 0 stock.files)
+    (carries_front g.B.View (each_from fills_of 0 stock.files)
     (each_from connects_of 0 stock.links) c.carry_out.new.engine c.give_files.new.engine why
-    (subst (λ (files : List (List Rec)). CarriesOn g.B.View (each_from inserts_of 0 files)
+    (subst (λ (files : List (List Rec)). CarriesOn g.B.View (each_from fills_of 0 files)
     c.carry_out.new.engine c.give_files.new.engine (Err why)) same
     c.in_err-give_files.ensures)))
 
@@ -86,12 +86,12 @@ returns g c =
     let stock = c.args.stock.now in
     let files : c.deref.result.now ≡ stock.files = search rules in
     let links : c.deref-2.result.now ≡ stock.links = search rules in
-    carries_then g.B.View (command.Begin ∷ []) (commands_of stock) c.args.engine.now
+    carries_then g.B.View (command.Begin ∷ []) (gives_of stock) c.args.engine.now
     c.carry_out.new.engine c.give_links.new.engine c.give_links.result c.in_ok-carry_out.ensures
-    (carries_then g.B.View (each_from inserts_of 0 stock.files)
+    (carries_then g.B.View (each_from fills_of 0 stock.files)
     (each_from connects_of 0 stock.links) c.carry_out.new.engine c.give_files.new.engine
     c.give_links.new.engine c.give_links.result
-    (subst (λ (xs : List (List Rec)). CarriesOn g.B.View (each_from inserts_of 0 xs)
+    (subst (λ (xs : List (List Rec)). CarriesOn g.B.View (each_from fills_of 0 xs)
     c.carry_out.new.engine c.give_files.new.engine (Ok tt)) files c.in_ok-give_files.ensures)
     (subst (λ (xs : List (List (Value × Value))). CarriesOn g.B.View (each_from connects_of 0 xs)
     c.give_files.new.engine c.give_links.new.engine c.give_links.result) links
